@@ -1,0 +1,5 @@
+pub mod Hex
+pub mod Faults
+pub mod History
+pub mod Values
+pub mod HistoryLaws

@@ -1,0 +1,114 @@
+ghost use Rattle.std.specs.Prelude.{◌≡◌, ⊤, false, true, nat_le, IsErr};
+ghost use Rattle.std.specs.List.{list_all};
+ghost use Rattle.zbase.specs.Faults.{Counter, Counts};
+
+use std::alloc::{AllocError, AllocFailed, Global};
+use std::marker::Model;
+
+/// A call on a handed-in object failed: its count of faults rose in that call.
+#[derive(Clone, Copy, Debug, PartialEq, Eq)]
+pub struct Failed;
+
+/// Want of memory. It comes in place of any other answer but a fault, and leaves the object as it was.
+#[derive(Clone, Copy, Debug, PartialEq, Eq)]
+pub struct Memory;
+
+impl From<AllocError> for Memory {
+    fn from(_: AllocError) -> Memory {
+        Memory
+    }
+}
+
+impl<T: Drop> From<AllocFailed<T>> for Memory {
+    fn from(_: AllocFailed<T>) -> Memory {
+        Memory
+    }
+}
+
+/// Which calls of an object in memory are to fail, and how many have. Calls are numbered from 1 on.
+///
+/// Contracts see the count of faults, and whether no failing call is left.
+#[derive(Drop)]
+pub struct FaultPlan {
+    failing: Vec<u64>,
+    calls: u64,
+    count: u64,
+}
+
+impl Model for FaultPlan {
+    ghost Value = { Counter };
+
+    ghost view = { λ plan. record { count = plan.count; sound = list_all (λ n. nat_le n plan.calls) plan.failing.items } };
+}
+
+impl FaultPlan {
+    /// No call is to fail.
+    pub fn none(alloc: Global) -> FaultPlan
+        ensures count { result.count ≡ 0 }
+        ensures sound { result.sound ≡ true }
+    {
+        FaultPlan::new(Vec::new(alloc))
+    }
+
+    /// The calls with these numbers are to fail.
+    pub fn new(failing: Vec<u64>) -> FaultPlan
+        ensures count { result.count ≡ 0 }
+        ensures sound { result.sound ≡ list_all (λ n. nat_le n 0) failing.items }
+    {
+        FaultPlan {
+            failing,
+            calls: 0,
+            count: 0,
+        }
+    }
+
+    /// Counts a call, which fails where its number is in the list.
+    pub fn call(&mut self) -> Result<(), Failed>
+        ensures { Counts self.old self.new (IsErr result) }
+    {
+        let Some(number) = self.calls.checked_add(1) else {
+            return Ok(());
+        };
+        self.calls = number;
+        if self.failing.contains(&number) {
+            self.count = self.count.saturating_add(1);
+            return Err(Failed);
+        }
+        Ok(())
+    }
+}
+
+/// How often a real object of the outside has failed. It may always fail again.
+#[derive(Drop)]
+pub struct FaultCount {
+    count: u64,
+}
+
+impl Model for FaultCount {
+    ghost Value = { Counter };
+
+    ghost view = { λ faults. record { count = faults.count; sound = false } };
+}
+
+impl FaultCount {
+    /// None so far.
+    pub fn new() -> FaultCount
+        ensures { result.count ≡ 0 }
+    {
+        FaultCount { count: 0 }
+    }
+
+    /// Counts a fault.
+    pub fn fault(&mut self) -> Failed
+        ensures { Counts self.old self.new ⊤ }
+    {
+        self.count = self.count.saturating_add(1);
+        Failed
+    }
+}
+
+impl Default for FaultCount {
+    fn default() -> FaultCount {
+        FaultCount::new()
+    }
+}

@@ -1,0 +1,79 @@
+ghost use Rattle.std.specs.Prelude.{◌≡◌, ℕ, ◌<◌, ◌^◌, length, IfSome, IfNone};
+ghost use Rattle.zbase.specs.Hex.{hex_digit, hex16_text};
+
+fn digit_byte(digit: u64) -> u8
+    requires { digit < 16 }
+    ensures { result ≡ hex_digit digit }
+{
+    if digit < 10 {
+        b'0' + digit as u8
+    } else {
+        b'a' + (digit as u8 - 10)
+    }
+}
+
+fn digit_value(byte: u8) -> Option<u64>
+    ensures some { IfSome result (λ digit. (digit < 16) × (hex_digit digit ≡ byte)) }
+    ensures none { IfNone result ((digit : ℕ) → digit < 16 → hex_digit digit ≡ byte → ⊥) }
+{
+    match byte {
+        b'0'..=b'9' => Some((byte - b'0') as u64),
+        b'a'..=b'f' => Some((byte - b'a') as u64 + 10),
+        _ => None,
+    }
+}
+
+/// The 16 hexadecimal digits of a number, in lower case, as every printed id has them. Takes no memory.
+pub fn hex16(n: u64) -> [u8; 16]
+    ensures { result ≡ hex16_text n }
+{
+    let mut text = [0; 16];
+    let mut rest = n;
+    for done in 0..16 {
+        text[15 - done] = digit_byte(rest % 16);
+        rest /= 16;
+    }
+    text
+}
+
+/// The number whose 16 lower-case hexadecimal digits the text is: none exactly where it is no such text.
+/// Takes no memory.
+pub fn read_hex16(text: &[u8]) -> Option<u64>
+    ensures some { IfSome result (λ n. hex16_text n ≡ text.now) }
+    ensures none { IfNone result ((n : ℕ) → hex16_text n ≡ text.now → ⊥) }
+{
+    if text.len() != 16 {
+        return None;
+    }
+    let mut n: u64 = 0;
+    for byte in text {
+        n = n * 16 + digit_value(*byte)?;
+    }
+    Some(n)
+}
+
+#[cfg(test)]
+mod tests {
+    use super::*;
+
+    #[test]
+    fn ids_are_printed_and_read(rt: HostRuntime) {
+        for (n, text) in [
+            (0, "0000000000000000"),
+            (230_072_808_112_128_000, "0331620000000000"),
+            (u64::MAX, "ffffffffffffffff"),
+        ] {
+            assert_eq!(rt; hex16(n).as_slice(), text.as_bytes());
+            assert_eq!(rt; read_hex16(text.as_bytes()), Some(n));
+        }
+        for text in [
+            "",
+            "331620000000000",
+            "0331620000000000 ",
+            "033162000000000A",
+            "033162000000000g",
+        ] {
+            assert_eq!(rt; read_hex16(text.as_bytes()), None, "{text}");
+        }
+    }
+}
