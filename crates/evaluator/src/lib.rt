@@ -1,0 +1,23 @@
+//! The boundary between storage and application: what an evaluation asks for, what it is told, what it answers,
+//! and the laws that every evaluator keeps.
+//!
+//! The storage half knows no object, no template and no message; the application half knows no file, no disk
+//! and no worker. A request is evaluated again and again over the facts that are known so far, until it asks for
+//! nothing that isn't known.
+#![tactic(auto)]
+
+mod ask;
+mod cells;
+mod draft;
+mod fact;
+mod meaning;
+mod outcome;
+mod reply;
+
+pub use ask::Ask;
+pub use cells::CellRequest;
+pub use draft::{Draft, Entries, Entry, Hole, Holes, Name};
+pub use fact::{Fact, Facts, LogRow, LogRows, Part, Parts, look};
+pub use meaning::Evaluator;
+pub use outcome::Outcome;
+pub use reply::{Denial, Kind, Mark, Reply, Shown, ShownList};

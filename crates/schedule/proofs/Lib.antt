@@ -1,0 +1,4 @@
+pub mod Serial
+pub mod Good
+pub mod Proper
+pub mod Running

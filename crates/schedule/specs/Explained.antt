@@ -1,0 +1,39 @@
+-- Explained: which report a schedule may have, run over a history.
+use Rattle.std.specs.Prelude.{ℕ, ◌≡◌, List, [], ◌∷◌, ◌++◌, length, map, flat_map}
+use Rattle.zbase.specs.History.{Value, Transaction, History, IsPrefixOf}
+use Rattle.zbase.specs.Values.{last}
+use Rattle.schedule.specs.declared.item.Item2.{Item2}
+use Rattle.schedule.specs.declared.line.Line.{Line}
+use Rattle.schedule.specs.Armed.{IsArmed}
+use Rattle.schedule.specs.Courses.{Place, Course, items_of, lines_of}
+use Rattle.schedule.specs.Moments.{Terms, Moment, start, lost_lines}
+use Rattle.schedule.specs.Right.{AreRight}
+
+-- the history, as the report prints it
+abbrev pub record_line : ℕ × Value → Line
+record_line r = Line.RecordRow r.0 r.1
+
+abbrev pub transaction_lines : Transaction → List Line
+transaction_lines t = Line.Transaction t.tid t.user t.description t.extension (length t.records) ∷ map record_line t.records
+
+abbrev pub history_lines : History → List Line
+history_lines h = Line.History (length h.transactions) ∷ flat_map transaction_lines h.transactions
+
+abbrev pub report : {R : Type 0} → History → List (Place R) → Moment R → List Line
+report h0 trace end =
+    Line.Head ∷ Line.Opened (last h0) (length h0.transactions) ∷ (lines_of trace ++ lost_lines end ++ history_lines end.standing ++ Line.End ∷ [])
+
+-- The schedule's items, run over h0, may print this report. The licence says which fault lines may stand.
+pub record Explains {R : Type 0} (terms : Terms R) (licence : List (Place R) → Type 0) (h0 : History) (s : List Item2) (r : List Line) : Type 0 where
+  pub trace : List (Place R)
+  pub end : Moment R
+  pub items : items_of trace ≡ s
+  pub lines : r ≡ report h0 trace end
+  pub course : Course terms (start terms h0) trace end
+  pub first : IsPrefixOf h0 end.standing
+  pub right : AreRight terms trace end
+  pub faults : licence trace
+
+-- with the fault lines that the schedule's own items license
+abbrev pub Explained : {R : Type 0} → Terms R → History → List Item2 → List Line → Type 0
+Explained terms h0 s r = Explains terms IsArmed h0 s r

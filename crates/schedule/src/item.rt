@@ -1,0 +1,21 @@
+use zbase::{Bytes, Items, Tid};
+
+/// One line of a schedule.
+#[derive(Debug, Drop)]
+pub enum Item2 {
+    /// `request W LEN`: the worker is given a request of these bytes.
+    Request(u32, Bytes),
+    /// `step W`: one event of the worker.
+    Step(u32),
+    /// `clock HEX`: the stamp for later votes.
+    Clock(Tid),
+    /// `stop N SEED`: the machine stops at the N-th device call, and the seed picks what the disk has then.
+    Stop(u64, u64),
+    /// `fail N SEED`: the N-th device call fails, and the seed picks what it leaves.
+    Fail(u64, u64),
+    /// `end`: the run ends.
+    End,
+}
+
+/// The lines of a schedule, in order, without its first line and its `end`.
+pub type Schedule = Items<Item2>;

@@ -1,0 +1,21 @@
+ghost use Rattle.std.specs.Prelude.{◌≡◌, ℕ, List};
+ghost use Rattle.zbase.specs.History.{History, IsHistory};
+ghost use Rattle.evaluator.specs.Exec.{IsLawful};
+ghost use Rattle.schedule.specs.Moments.{Terms, Moment, start};
+ghost use Rattle.schedule.specs.Courses.{Place, Course, items_of};
+ghost use Rattle.schedule.specs.Armed.{IsArmed};
+ghost use Rattle.schedule.specs.Explained.{report, Explained};
+
+use evaluator::Evaluator;
+
+/// The run law: what a loop shows item by item makes the whole report explained.
+///
+/// Each course of moments from the opened history, over every lawful evaluator, is a run of the requests one by
+/// one in the order of their transactions: each commit has the reply and the objects of running its request on
+/// the transactions before it, each read those of a prefix, and each restart keeps what was acknowledged.
+pub fn runs_are_serial<E: Evaluator>()
+    ensures { (terms : Terms E.Request) (h0 : History) (trace : List (Place E.Request)) (end : Moment E.Request) →
+        IsLawful terms.eval → IsHistory h0 → Course terms (start terms h0) trace end → IsArmed trace →
+        Explained terms h0 (items_of trace) (report h0 trace end) }
+{
+}

@@ -1,0 +1,15 @@
+//! Schedules and reports: their lines, their texts, and which report explains which schedule.
+//!
+//! A schedule names requests, the order of their single steps, disk faults and machine stops. A report has what
+//! each step printed, each reply, and the whole history that came of it. *Explained* (`specs/Explained`) says
+//! which reports a schedule may have; the run law (`runs_are_serial`) says that whoever steps rightly, item by
+//! item, prints such a report.
+#![tactic(auto)]
+
+mod item;
+mod laws;
+mod line;
+
+pub use item::{Item2, Schedule};
+pub use laws::runs_are_serial;
+pub use line::Line;
