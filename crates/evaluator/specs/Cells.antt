@@ -11,7 +11,7 @@ use Rattle.evaluator.specs.declared.draft.Entry.{Entry}
 use Rattle.evaluator.specs.declared.reply.Reply.{Reply}
 use Rattle.evaluator.specs.declared.outcome.Outcome.{Outcome}
 use Rattle.zbase.specs.History.{Value}
-use Rattle.zbase.specs.Hex.{hex_digit}
+use Rattle.zbase.specs.Hex.{hex_bytes}
 use Rattle.evaluator.specs.Exec.{Eval}
 
 abbrev pub digit : ℕ → Option ℕ
@@ -48,12 +48,9 @@ takes_cell bs =
 abbrev pub line_reply : List ℕ → Reply
 line_reply text = record { status = 200; kind = Kind.Plain; head_only = false; body = text ++ 10 ∷ []; shown = []; denied = None }
 
-abbrev pub hex_byte : ℕ → List ℕ
-hex_byte b = hex_digit (b / 16) ∷ hex_digit (b % 16) ∷ []
-
 abbrev pub shown_value : Value → List ℕ
 shown_value None = codes "none"
-shown_value (Some bytes) = flat_map hex_byte bytes
+shown_value (Some bytes) = hex_bytes bytes
 
 abbrev pub with_plus : Value → List ℕ
 with_plus None = 43 ∷ []

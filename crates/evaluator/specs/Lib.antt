@@ -4,3 +4,4 @@ pub mod Change
 pub mod Settle
 pub mod Cells
 pub mod CellLaws
+pub mod Permissions

@@ -12,6 +12,7 @@ mod draft;
 mod fact;
 mod meaning;
 mod outcome;
+mod permission;
 mod reply;
 
 pub use ask::Ask;
@@ -20,4 +21,5 @@ pub use draft::{Draft, Entries, Entry, Hole, Holes, Name};
 pub use fact::{Fact, Facts, LogRow, LogRows, Part, Parts, look};
 pub use meaning::Evaluator;
 pub use outcome::Outcome;
+pub use permission::permission_name;
 pub use reply::{Denial, Kind, Mark, Reply, Shown, ShownList};

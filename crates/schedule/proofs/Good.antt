@@ -55,7 +55,6 @@ pub record Good {R : Type 0} (terms : Terms R) (m : Moment R) : Type 0 where
   pub workers : (w : ℕ) → Sound terms m.standing (doing m w)
   pub vote : SoundVote terms m.standing m.workers m.vote
 
-
 -- lists of workers
 pub set_all : {X : Type 0} (P : Option X → Type 0) (d : X) → P (Some d) → (xs : List X) (w : ℕ) → ((v : ℕ) → P (slice_get xs v)) → (v : ℕ) → P (slice_get (slice_set xs w d) v)
 set_all P d here [] w each v = each v
@@ -112,7 +111,7 @@ pub good_turned : {R : Type 0} (terms : Terms R) (m : Moment R) (w : ℕ) (d : D
 good_turned terms m w d good sound not = record {
   history = good.history;
   workers = set_all (Sound terms m.standing) d sound m.workers w good.workers;
-  vote = go m.vote refl
+  vote = go m.vote refl;
 }
   where
     go : (o : Option Vote) → m.vote ≡ o → SoundVote terms m.standing (slice_set m.workers w d) o
@@ -131,7 +130,7 @@ good_stood terms m v good e =
     record {
       history = longer;
       workers = λ w. sound_longer terms m.standing (added m.standing v.transaction) (prefix_added m.standing v.transaction) longer (doing m w) (good.workers w);
-      vote = tt
+      vote = tt;
     }
 
 pub good_emptied : {R : Type 0} (terms : Terms R) (m : Moment R) → Good terms m → Good terms (emptied m)

@@ -1,3 +1,4 @@
+pub mod RowSteps
 pub mod Serial
 pub mod Good
 pub mod Proper

@@ -24,7 +24,6 @@ use Rattle.schedule.specs.Right.{IsCommitted, RightReply, RightGrowth, IsRight, 
 use Rattle.schedule.specs.Explained.{report, Explains}
 use Rattle.zbase.specs.HistoryLaws.{prefix_refl, prefix_trans, prefix_added, added_history, upto_stays, upto_is_prefix, last_grows, before_next, transaction_next}
 use Rattle.schedule.proofs.Serial.{change_stands}
-
 use Rattle.schedule.proofs.Good.{Rooted, Sound, VoteIsRight, SoundVote, Good, set_all, set_other, all_free, rooted_longer, sound_longer, NotHolder, no_vote, the_vote, IsComputed, not_holder, good_turned, good_dropped, good_stood, good_emptied, good_clocked, good_start}
 
 -- what a step leaves, and what it printed, are right by every history that goes on from there
@@ -38,12 +37,15 @@ vote_commits : {R : Type 0} (terms : Terms R) (m : Moment R) (v : Vote) → Good
     → (q : R) × (request_of (doing m v.holder) ≡ Some q) × IsCommitted terms h q v.transaction.tid v.reply
 vote_commits terms m v good e h is whole =
     let right = the_vote terms m v good e in
-    let past : before h v.transaction.tid ≡ m.standing = before_next v.transaction whole is in
-    (right.attempt.request, ap request_of right.holder, record {
-      draft = right.draft;
-      change = ap (λ p. exec terms.eval p right.attempt.request) past ∙ right.change;
-      stands = transaction_next m.standing v.transaction whole is ∙ ap Some (right.settles ∙ ap (λ p. settle p right.draft v.transaction.tid) (sym past))
-    })
+    let past : before h v.transaction.tid ≡ m.standing = before_next v.transaction whole is in (
+      right.attempt.request,
+      ap request_of right.holder,
+      record {
+        draft = right.draft;
+        change = ap (λ p. exec terms.eval p right.attempt.request) past ∙ right.change;
+        stands = transaction_next m.standing v.transaction whole is ∙ ap Some (right.settles ∙ ap (λ p. settle p right.draft v.transaction.tid) (sym past));
+      },
+    )
 
 -- a step that leaves the history alone, and prints no reply to be judged
 proper_turned : {R : Type 0} (terms : Terms R) (m : Moment R) (q : Option R) (w : ℕ) (d : Doing R) (lines : List Line) → Good terms m → Sound terms m.standing (Some d) → NotHolder m w → ((h : History) → RightReply terms h q lines) → Proper terms m q (lines, turned m w d)
@@ -65,36 +67,39 @@ proper_votes terms m w a x d lawful good here none clear =
     let q = Some a.request in
     let done = λ (lines : List Line) (right : (h : History) → RightReply terms h q lines). proper_turned terms m q w Free lines good tt (no_vote m w none) right in
     proper_cond terms m q (last m.standing == max_u64) _ _ (done _ (λ h. tt))
-      (proper_cond terms m q (nat_lt 0 (made d) && nat_lt max_u64 (next m.standing + made d)) _ _ (done _ (λ h. tt))
-        (proper_cond terms m q (nat_lt terms.limit (need m d)) _ _ (done _ (λ h. tt))
-          (record {
-            good = record {
-              history = good.history;
-              workers = good.workers;
-              vote = record {
-                attempt = a; draft = d; holder = here;
-                change = change_stands terms.eval (upto m.standing a.snapshot) m.standing a.facts a.request x d lawful (upto_is_prefix a.snapshot m.standing good.history) good.history sound.0.facts sound.1 clear;
-                settles = refl; above = vote_above m
-              }
-            };
-            grows = prefix_refl m.standing;
-            right = λ h is whole. (tt, inl refl)
-          })))
+    (proper_cond terms m q (nat_lt 0 (made d) && nat_lt max_u64 (next m.standing + made d)) _ _ (done _ (λ h. tt))
+    (proper_cond terms m q (nat_lt terms.limit (need m d)) _ _ (done _ (λ h. tt))
+    (record {
+      good = record {
+        history = good.history;
+        workers = good.workers;
+        vote = record {
+          attempt = a;
+          draft = d;
+          holder = here;
+          change = change_stands terms.eval (upto m.standing a.snapshot) m.standing a.facts a.request x d lawful (upto_is_prefix a.snapshot m.standing good.history) good.history sound.0.facts sound.1 clear;
+          settles = refl;
+          above = vote_above m;
+        };
+      };
+      grows = prefix_refl m.standing;
+      right = λ h is whole. (tt, inl refl);
+    })))
 
 proper_conflicts : {R : Type 0} (terms : Terms R) (m : Moment R) (w : ℕ) (a : Attempt R) (c : Clash) → Good terms m → m.vote ≡ None → Proper terms m (Some a.request) (conflicts terms m w a c)
 proper_conflicts terms m w a c good none =
     proper_cond terms m (Some a.request) (nat_lt (length a.clashes) 3) _ _
-      (proper_turned terms m (Some a.request) w (Waiting a.request (a.clashes ++ c ∷ [])) _ good tt (no_vote m w none) (λ h. tt))
-      (proper_turned terms m (Some a.request) w Free _ good tt (no_vote m w none) (λ h. tt))
+    (proper_turned terms m (Some a.request) w (Waiting a.request (a.clashes ++ c ∷ [])) _ good tt (no_vote m w none) (λ h. tt))
+    (proper_turned terms m (Some a.request) w Free _ good tt (no_vote m w none) (λ h. tt))
 
 proper_commits : {R : Type 0} (terms : Terms R) (m : Moment R) (w : ℕ) (v : Vote) → Good terms m → m.vote ≡ Some v → v.holder ≡ w → Proper terms m (request_of (doing m w)) (commits terms m w v)
 proper_commits terms m w v good e same = record {
   good = good_turned terms (stood m v) w Free (good_stood terms m v good e) tt (no_vote (stood m v) w refl);
   grows = prefix_added m.standing v.transaction;
   right = λ h is whole.
-    let made = vote_commits terms m v good e h is whole in
-    let asked = subst (λ k. request_of (doing m k) ≡ Some made.0) same made.1 in
-    ((made.0, asked, v.reply, made.2, refl, refl), inr (made.0, asked, v.reply, v.transaction, made.2, refl))
+      let made = vote_commits terms m v good e h is whole in
+      let asked = subst (λ k. request_of (doing m k) ≡ Some made.0) same made.1 in
+      ((made.0, asked, v.reply, made.2, refl, refl), inr (made.0, asked, v.reply, v.transaction, made.2, refl));
 }
 
 proper_computed : {R : Type 0} (terms : Terms R) (m : Moment R) (w : ℕ) (a : Attempt R) (x : Reply) (d : Draft) → IsLawful terms.eval → Good terms m → doing m w ≡ Some (Computed a x d) → (o : Option Vote) → m.vote ≡ o → Proper terms m (Some a.request) (from_computed terms m w a x d o)
@@ -122,8 +127,8 @@ proper_asking : {R : Type 0} (terms : Terms R) (m : Moment R) (w : ℕ) (a : Att
 proper_asking terms m w a lawful good here (Outcome.Need ask) e =
     let root : Rooted m.standing a = subst (Sound terms m.standing) here (good.workers w) in
     proper_turned terms m (Some a.request) w _ _ good
-      (record { below = root.below; facts = true_append a.facts (fact (upto m.standing a.snapshot) ask) (upto m.standing a.snapshot) root.facts (fact_true (upto m.standing a.snapshot) ask) })
-      (not_holder terms m w (Some (Asking a)) good here (λ h. h)) (λ h. tt)
+    (record { below = root.below; facts = true_append a.facts (fact (upto m.standing a.snapshot) ask) (upto m.standing a.snapshot) root.facts (fact_true (upto m.standing a.snapshot) ask) })
+    (not_holder terms m w (Some (Asking a)) good here (λ h. h)) (λ h. tt)
 proper_asking terms m w a lawful good here (Outcome.Change x d) e =
     let root : Rooted m.standing a = subst (Sound terms m.standing) here (good.workers w) in
     proper_turned terms m (Some a.request) w _ _ good (root, e) (not_holder terms m w (Some (Asking a)) good here (λ h. h)) (λ h. tt)
@@ -135,7 +140,7 @@ proper_asking terms m w a lawful good here (Outcome.Answer x) e =
       good = good_turned terms m w Free good tt (not_holder terms m w (Some (Asking a)) good here (λ h. h));
       grows = prefix_refl m.standing;
       right = λ h is whole.
-        ((a.request, refl, x, ap (λ p. exec terms.eval p a.request) (upto_stays a.snapshot whole is root.below) ∙ answers, refl, refl), inl refl)
+          ((a.request, refl, x, ap (λ p. exec terms.eval p a.request) (upto_stays a.snapshot whole is root.below) ∙ answers, refl, refl), inl refl);
     }
 
 proper_told : {R : Type 0} (terms : Terms R) (m : Moment R) (w : ℕ) → IsLawful terms.eval → Good terms m → (o : Option (Doing R)) → doing m w ≡ o → Proper terms m (request_of o) (from_doing terms m w o)
@@ -172,10 +177,12 @@ settles terms m w good (Some v) e false = record { good = good_dropped terms m g
 settles terms m w good (Some v) e true =
     let own = held w m.vote v e in
     record {
-      good = good_stood terms m v good own.0; vote = refl; grows = prefix_added m.standing v.transaction;
+      good = good_stood terms m v good own.0;
+      vote = refl;
+      grows = prefix_added m.standing v.transaction;
       right = λ h is whole.
-        let made = vote_commits terms m v good own.0 h is whole in
-        inr (made.0, subst (λ k. request_of (doing m k) ≡ Some made.0) own.1 made.1, v.reply, v.transaction, made.2, refl)
+          let made = vote_commits terms m v good own.0 h is whole in
+          inr (made.0, subst (λ k. request_of (doing m k) ≡ Some made.0) own.1 made.1, v.reply, v.transaction, made.2, refl);
     }
 
 proper_fails : {R : Type 0} (terms : Terms R) (m : Moment R) (w : ℕ) → Good terms m → (o : Option Vote) → held_by w m.vote ≡ o → (trouble : Trouble) (r : Told R) → fails terms m w o trouble ≡ Some r → Proper terms m (request_of (doing m w)) r
@@ -194,7 +201,7 @@ proper_fails terms m w good (Some v) e (Is_unknown stands) r it =
     subst P same (record {
       good = good_turned terms (settled m (Some v) stands) w Free s.good tt (no_vote (settled m (Some v) stands) w s.vote);
       grows = s.grows;
-      right = λ h is whole. (tt, s.right h is whole)
+      right = λ h is whole. (tt, s.right h is whole);
     })
 proper_fails terms m w good None e (Is_stopped stands openings) r it =
     let P = Proper terms m (request_of (doing m w)) in
@@ -225,7 +232,7 @@ proper_quiet : {R : Type 0} (terms : Terms R) (m n new : Moment R) (q : Option R
 proper_quiet terms m n new q lines good same none is =
     let P : List Line → Moment _ → Type 0 = (λ ls k. Proper terms m q (ls, k)) in
     subst (λ ls. P ls new) (sym none) (subst (λ k. P [] k) (sym is)
-      (record { good = good; grows = subst (λ s. IsPrefixOf m.standing s) (sym same) (prefix_refl m.standing); right = λ h is' whole. (tt, inl same) }))
+    (record { good = good; grows = subst (λ s. IsPrefixOf m.standing s) (sym same) (prefix_refl m.standing); right = λ h is' whole. (tt, inl same) }))
 
 pub proper_happens : {R : Type 0} (terms : Terms R) (old : Moment R) (item : Item2) (lines : List Line) (new : Moment R) → IsLawful terms.eval → Good terms old → Happens terms old item lines new → Proper terms old (request_of (doing old (worker_of item))) (lines, new)
 proper_happens terms old (Item2.Request w bytes) lines new lawful good h =

@@ -24,7 +24,6 @@ use Rattle.schedule.specs.Right.{IsCommitted, RightReply, RightGrowth, IsRight, 
 use Rattle.schedule.specs.Explained.{report, Explains}
 use Rattle.zbase.specs.HistoryLaws.{prefix_refl, prefix_trans, prefix_added, added_history, upto_stays, upto_is_prefix, last_grows, before_next, transaction_next}
 use Rattle.schedule.proofs.Serial.{change_stands}
-
 use Rattle.schedule.proofs.Good.{Rooted, Sound, VoteIsRight, SoundVote, Good, set_all, set_other, all_free, rooted_longer, sound_longer, NotHolder, no_vote, the_vote, IsComputed, not_holder, good_turned, good_dropped, good_stood, good_emptied, good_clocked, good_start}
 use Rattle.schedule.proofs.Proper.{Proper, proper_happens}
 
@@ -38,7 +37,7 @@ pub course_is_right : {R : Type 0} (terms : Terms R) (old : Moment R) (ps : List
 course_is_right terms old [] new lawful good c = record {
   good = subst (Good terms) c good;
   grows = subst (λ k. IsPrefixOf old.standing k.standing) c (prefix_refl old.standing);
-  right = λ h is whole. tt
+  right = λ h is whole. tt;
 }
 course_is_right {R} terms old (p ∷ ps) new lawful good c =
     let step = proper_happens terms p.before p.item p.lines p.after lawful (subst (Good terms) c.0 good) c.1 in
@@ -47,9 +46,9 @@ course_is_right {R} terms old (p ∷ ps) new lawful good c =
       good = rest.good;
       grows = subst (λ (k : Moment R). IsPrefixOf k.standing new.standing) (sym c.0) (prefix_trans step.grows rest.grows);
       right = λ h is whole.
-        let mid = prefix_trans rest.grows whole in
-        let here = step.right h is mid in
-        (record { reply = here.0; growth = here.1; grows = step.grows; stands = mid }, rest.right h is whole)
+          let mid = prefix_trans rest.grows whole in
+          let here = step.right h is mid in
+          (record { reply = here.0; growth = here.1; grows = step.grows; stands = mid }, rest.right h is whole);
     }
 
 are_right : {R : Type 0} (terms : Terms R) (ps : List (Place R)) (end : Moment R) → AllByRecursion (IsRight terms end.standing) ps → AreRight terms ps end
@@ -61,8 +60,12 @@ pub explained : {R : Type 0} (terms : Terms R) (licence : List (Place R) → Typ
 explained terms licence h0 ps end lawful is c faults =
     let run = course_is_right terms (start terms h0) ps end lawful (good_start terms h0 is) c in
     record {
-      trace = ps; end = end; items = refl; lines = refl; course = c;
+      trace = ps;
+      end = end;
+      items = refl;
+      lines = refl;
+      course = c;
       first = run.grows;
       right = are_right terms ps end (run.right end.standing run.good.history (prefix_refl end.standing));
-      faults = faults
+      faults = faults;
     }

@@ -33,6 +33,7 @@ parts_same p h t ps is good e = go (transaction p t) refl
     same x found =
         let within = found_within t 0 p.transactions x (prefix_history is good) found in
         ap (λ past. map (part_of past) (last_records x.records)) (before_stays x.tid is good (subst (λ n. n ≤ last p) (sym within.0) within.1))
+
     go : (o : Option Transaction) → transaction p t ≡ o → Fact.Transaction t (Some ps) ≡ fact h (Ask.Transaction t)
     go None found = (let bad : Fact.Transaction t (Some ps) ≡ Fact.Transaction t None = rw found at e in cc)
     go (Some x) found =
@@ -57,6 +58,7 @@ facts_stay p h (f ∷ fs) is good true_of none = go (is_lasting f) refl (facts_s
   where
     parts : (clash_of h f ≡ None) × (first_clash h fs ≡ None)
     parts = first_none (clash_of h f) (first_clash h fs) none
+
     go : (b : Bool) → is_lasting f ≡ b → TrueOf (filter is_lasting fs) h → TrueOf (filter is_lasting (f ∷ fs)) h
     go true lasts rest = rw lasts (fact_stays p h f is good true_of.0 lasts parts.0, rest)
     go false fades rest = rw fades rest

@@ -1,3 +1,7 @@
+pub mod Rows
+pub mod Fields
+pub mod Items
+pub mod Lines
 pub mod Moments
 pub mod Causes
 pub mod Stepping

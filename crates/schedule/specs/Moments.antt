@@ -46,8 +46,8 @@ pub record Vote : Type 0 where
 
 pub record Moment (R : Type 0) : Type 0 where
   pub standing : History
-  pub end : ℕ                   -- the file's end, were it written by the sizes of the drafts
-  pub clock : ℕ                 -- the last clock stamp
+  pub end : ℕ  -- the file's end, were it written by the sizes of the drafts
+  pub clock : ℕ  -- the last clock stamp
   pub vote : Option Vote
   pub workers : List (Doing R)  -- sixteen
 
@@ -80,10 +80,10 @@ abbrev pub clocked : {R : Type 0} → Moment R → ℕ → Moment R
 clocked m t = record { standing = m.standing; end = m.end; clock = t; vote = m.vote; workers = m.workers }
 
 abbrev pub lost_line : {R : Type 0} → ℕ × Doing R → Option Line
-lost_line (w , Free) = None
-lost_line (w , Waiting q cs) = Some (Line.Lost w)
-lost_line (w , Asking a) = Some (Line.Lost w)
-lost_line (w , Computed a x d) = Some (Line.Lost w)
+lost_line (w, Free) = None
+lost_line (w, Waiting q cs) = Some (Line.Lost w)
+lost_line (w, Asking a) = Some (Line.Lost w)
+lost_line (w, Computed a x d) = Some (Line.Lost w)
 
 -- a line for each worker that has a request, rising
 abbrev pub lost_lines : {R : Type 0} → Moment R → List Line

@@ -17,5 +17,4 @@ pub fn runs_are_serial<E: Evaluator>()
     ensures { (terms : Terms E.Request) (h0 : History) (trace : List (Place E.Request)) (end : Moment E.Request) →
         IsLawful terms.eval → IsHistory h0 → Course terms (start terms h0) trace end → IsArmed trace →
         Explained terms h0 (items_of trace) (report h0 trace end) }
-{
-}
+{}

@@ -9,7 +9,12 @@
 mod item;
 mod laws;
 mod line;
+mod reader;
+mod row;
+mod writer;
 
 pub use item::{Item2, Schedule};
 pub use laws::runs_are_serial;
 pub use line::Line;
+pub use reader::{ScheduleRefusal, read_schedule};
+pub use writer::write_line;

@@ -1,4 +1,5 @@
 pub mod Hex
+pub mod HexLaws
 pub mod Faults
 pub mod History
 pub mod Values

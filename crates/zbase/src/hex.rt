@@ -1,5 +1,5 @@
 ghost use Rattle.std.specs.Prelude.{◌≡◌, ℕ, ◌<◌, ◌^◌, length, IfSome, IfNone};
-ghost use Rattle.zbase.specs.Hex.{hex_digit, hex16_text};
+ghost use Rattle.zbase.specs.Hex.{hex_digit, hex_byte, hex16_text};
 
 fn digit_byte(digit: u64) -> u8
     requires { digit < 16 }
@@ -34,6 +34,16 @@ pub fn hex16(n: u64) -> [u8; 16]
         rest /= 16;
     }
     text
+}
+
+/// The two hexadecimal digits of a byte, in lower case. Takes no memory.
+pub fn hex_digits(byte: u8) -> [u8; 2]
+    ensures { result ≡ hex_byte byte }
+{
+    [
+        digit_byte((byte / 16) as u64),
+        digit_byte((byte % 16) as u64),
+    ]
 }
 
 /// The number whose 16 lower-case hexadecimal digits the text is: none exactly where it is no such text.

@@ -53,6 +53,11 @@ impl<T: Drop> Items<T> {
         items
     }
 
+    /// The allocator that the list keeps.
+    pub fn alloc(&self) -> Global {
+        *self.items.allocator()
+    }
+
     /// The number of items.
     pub fn len(&self) -> usize
         ensures { result ≡ length self.now }
@@ -107,7 +112,7 @@ impl Items<u8> {
     pub fn copy(&self) -> Result<Bytes, Memory>
         ensures { IfOk result (λ list. list ≡ self.now) }
     {
-        Items::from_slice(*self.items.allocator(), self.items.as_slice())
+        Items::from_slice(self.alloc(), self.items.as_slice())
     }
 
     /// Whether both lists have the same bytes.

@@ -1,0 +1,14 @@
+-- A row of text: a word and its fields, with one space before each field, and LF.
+use Rattle.std.specs.Prelude.{ℕ, List, [], ◌∷◌, ◌++◌}
+
+-- the fields that are left
+abbrev pub rest_of_row : List (List ℕ) → List ℕ
+rest_of_row [] = 10 ∷ []
+rest_of_row (field ∷ fields) = 32 ∷ field ++ rest_of_row fields
+
+abbrev pub row : List ℕ → List (List ℕ) → List ℕ
+row word fields = word ++ rest_of_row fields
+
+-- bytes behind their row, and LF
+abbrev pub block : List ℕ → List ℕ → List ℕ
+block head bytes = head ++ bytes ++ 10 ∷ []

@@ -1,0 +1,201 @@
+ghost use Rattle.std.specs.Prelude.{◌≡◌, ◌++◌, ◌∷◌, [], length, flat_map, codes, decimal, OnOk, OnErr};
+ghost use Rattle.schedule.specs.Fields.{field_text};
+ghost use Rattle.schedule.specs.Lines.{ask_fields, clash_fields, line_text, mark_fields, text_field, value_field};
+ghost use Rattle.schedule.specs.Rows.{block, row};
+
+use crate::Line;
+use crate::row::{Field, put_block, put_row};
+use evaluator::{Ask, permission_name};
+use zbase::{Bytes, Clash, Memory, Tid, Value};
+
+fn text_of(bytes: &Bytes) -> Field<'_>
+    ensures { field_text result ≡ text_field bytes.now }
+{
+    match bytes.as_slice() {
+        [] => Field::Word(b"-"),
+        some => Field::Digits(some),
+    }
+}
+
+fn value_of(value: &Value) -> Field<'_>
+    ensures { field_text result ≡ value_field value.now }
+{
+    match value {
+        None => Field::Word(b"none"),
+        Some(bytes) => Field::Digits(bytes.as_slice()),
+    }
+}
+
+fn number(n: u32) -> Field<'static>
+    ensures { result ≡ Field.Number n }
+{
+    Field::Number(n as u64)
+}
+
+fn put_fetch(worker: u32, ask: &Ask, out: &mut Bytes) -> Result<(), Memory>
+    ensures { OnOk result (out.new ≡ out.old ++ row (codes "fetch") (decimal worker ∷ ask_fields ask.now)) }
+{
+    match ask {
+        Ask::Object(oid) => put_row(
+            out,
+            b"fetch",
+            &[number(worker), Field::Word(b"object"), Field::Id(oid.0)],
+        ),
+        Ask::Transaction(tid) => put_row(
+            out,
+            b"fetch",
+            &[
+                number(worker),
+                Field::Word(b"transaction"),
+                Field::Id(tid.0),
+            ],
+        ),
+        Ask::Log => put_row(out, b"fetch", &[number(worker), Field::Word(b"log")]),
+    }
+}
+
+fn put_given_up(worker: u32, clashes: &[Clash; 4], out: &mut Bytes) -> Result<(), Memory>
+    ensures { OnOk result (out.new ≡ out.old ++ row (codes "givenup") (decimal worker ∷ flat_map clash_fields clashes.now)) }
+{
+    let [first, second, third, fourth] = *clashes;
+    put_row(
+        out,
+        b"givenup",
+        &[
+            number(worker),
+            Field::Id(first.oid),
+            Field::Id(first.seen),
+            Field::Id(first.found),
+            Field::Id(second.oid),
+            Field::Id(second.seen),
+            Field::Id(second.found),
+            Field::Id(third.oid),
+            Field::Id(third.seen),
+            Field::Id(third.found),
+            Field::Id(fourth.oid),
+            Field::Id(fourth.seen),
+            Field::Id(fourth.found),
+        ],
+    )
+}
+
+// A reply's row with its bytes; the mark's transaction stands behind its word.
+fn put_reply(
+    worker: u32,
+    word: &[u8],
+    tid: Option<Tid>,
+    bytes: &Bytes,
+    out: &mut Bytes,
+) -> Result<(), Memory>
+    ensures { OnOk result (out.new ≡ out.old ++ block (row (codes "reply") (decimal worker ∷ mark_fields word.now tid ++ decimal (length bytes.now) ∷ [])) bytes.now) }
+{
+    let bytes = bytes.as_slice();
+    let length = Field::Number(bytes.len() as u64);
+    match tid {
+        Some(tid) => put_row(
+            out,
+            b"reply",
+            &[number(worker), Field::Word(word), Field::Id(tid.0), length],
+        )?,
+        None => put_row(out, b"reply", &[number(worker), Field::Word(word), length])?,
+    }
+    put_block(out, bytes)
+}
+
+#[tactic(auto, unfolding(crate::specs::Lines::line_text))]
+fn put_line(line: &Line, out: &mut Bytes) -> Result<(), Memory>
+    ensures { OnOk result (out.new ≡ out.old ++ line_text line.now) }
+{
+    match line {
+        Line::Head => put_row(out, b"zope", &[Field::Word(b"report"), Field::Word(b"1")]),
+        Line::Opened(tid, n) => put_row(out, b"open", &[Field::Id(tid.0), Field::Number(*n)]),
+        Line::Begin(w, tid) => put_row(out, b"begin", &[number(*w), Field::Id(tid.0)]),
+        Line::Fetch(w, ask) => put_fetch(*w, ask, out),
+        Line::Computed(w) => put_row(out, b"computed", &[number(*w)]),
+        Line::Busy(w, holder) => put_row(out, b"busy", &[number(*w), number(*holder)]),
+        Line::Vote(w, tid) => put_row(out, b"vote", &[number(*w), Field::Id(tid.0)]),
+        Line::Conflict(w, clash) => put_row(
+            out,
+            b"conflict",
+            &[
+                number(*w),
+                Field::Id(clash.oid),
+                Field::Id(clash.seen),
+                Field::Id(clash.found),
+            ],
+        ),
+        Line::GivenUp(w, clashes) => put_given_up(*w, clashes, out),
+        Line::Idle(w) => put_row(out, b"idle", &[number(*w)]),
+        Line::SpentTids(w) => put_row(out, b"spent", &[number(*w), Field::Word(b"tids")]),
+        Line::SpentOids(w, greatest, new) => put_row(
+            out,
+            b"spent",
+            &[
+                number(*w),
+                Field::Word(b"oids"),
+                Field::Id(greatest.0),
+                number(*new),
+            ],
+        ),
+        Line::SpentFull(w, need, limit) => put_row(
+            out,
+            b"spent",
+            &[
+                number(*w),
+                Field::Word(b"full"),
+                Field::Number(*need),
+                Field::Number(*limit),
+            ],
+        ),
+        Line::DiskFault(w) => put_row(out, b"diskfault", &[number(*w)]),
+        Line::Memory(w) => put_row(out, b"memory", &[number(*w)]),
+        Line::Unknown(w, tid) => put_row(out, b"unknown", &[number(*w), Field::Id(tid.0)]),
+        Line::ReplyRead(w, tid, bytes) => put_reply(*w, b"read", Some(*tid), bytes, out),
+        Line::ReplyCommit(w, tid, bytes) => put_reply(*w, b"commit", Some(*tid), bytes, out),
+        Line::ReplyNone(w, bytes) => put_reply(*w, b"none", None, bytes, out),
+        Line::Shown(w, oid, role) => put_row(
+            out,
+            b"shown",
+            &[number(*w), Field::Id(oid.0), Field::Word(role.as_bytes())],
+        ),
+        Line::Denied(w, oid, permission) => put_row(
+            out,
+            b"denied",
+            &[
+                number(*w),
+                Field::Id(oid.0),
+                Field::Word(permission_name(*permission).as_bytes()),
+            ],
+        ),
+        Line::Stop => put_row(out, b"stop", &[]),
+        Line::Lost(w) => put_row(out, b"lost", &[number(*w)]),
+        Line::OpenFault => put_row(out, b"openfault", &[]),
+        Line::Restart(tid, n) => put_row(out, b"restart", &[Field::Id(tid.0), Field::Number(*n)]),
+        Line::History(n) => put_row(out, b"history", &[Field::Number(*n)]),
+        Line::Transaction(tid, user, description, extension, n) => put_row(
+            out,
+            b"transaction",
+            &[
+                Field::Id(tid.0),
+                text_of(user),
+                text_of(description),
+                text_of(extension),
+                Field::Number(*n),
+            ],
+        ),
+        Line::RecordRow(oid, value) => {
+            put_row(out, b"record", &[Field::Id(oid.0), value_of(value)])
+        }
+        Line::End => put_row(out, b"end", &[]),
+    }
+}
+
+/// Writes one line of a report at the end. For want of memory the bytes stay as they were.
+pub fn write_line(line: &Line, out: &mut Bytes) -> Result<(), Memory>
+    ensures ok { OnOk result (out.new ≡ out.old ++ line_text line.now) }
+    ensures err { OnErr result (out.new ≡ out.old) }
+{
+    let mut text = Bytes::new(out.alloc());
+    put_line(line, &mut text)?;
+    out.append(text.as_slice())
+}
