@@ -3,3 +3,8 @@ pub mod Serial
 pub mod Good
 pub mod Proper
 pub mod Running
+pub mod Oracle
+pub mod OracleCourses
+pub mod Plain
+pub mod WorkedReports
+pub mod WrongReports

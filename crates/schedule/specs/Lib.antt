@@ -10,3 +10,4 @@ pub mod Right
 pub mod Armed
 pub mod Explained
 pub mod Follows
+pub mod Worked

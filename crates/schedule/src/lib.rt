@@ -11,10 +11,15 @@ mod laws;
 mod line;
 mod reader;
 mod row;
+mod worked;
 mod writer;
 
 pub use item::{Item2, Schedule};
 pub use laws::runs_are_serial;
 pub use line::Line;
 pub use reader::{ScheduleRefusal, read_schedule};
+pub use worked::{
+    conflict_is_explained, cut_off_finish_is_explained, early_commit_is_refuted,
+    lossy_restart_is_refuted, missed_conflict_is_refuted, second_vote_is_refuted,
+};
 pub use writer::write_line;
