@@ -8,3 +8,4 @@ pub mod OracleCourses
 pub mod Plain
 pub mod WorkedReports
 pub mod WrongReports
+pub mod OneSchedule

@@ -1,6 +1,8 @@
 ghost use Rattle.std.specs.Prelude.{◌≡◌, ℕ, List};
 ghost use Rattle.zbase.specs.History.{History, IsHistory};
 ghost use Rattle.evaluator.specs.Exec.{IsLawful};
+ghost use Rattle.schedule.specs.declared.item.Item2.{Item2};
+ghost use Rattle.schedule.specs.Items.{IsSchedule};
 ghost use Rattle.schedule.specs.Moments.{Terms, Moment, start};
 ghost use Rattle.schedule.specs.Courses.{Place, Course, items_of};
 ghost use Rattle.schedule.specs.Armed.{IsArmed};
@@ -18,3 +20,9 @@ pub fn runs_are_serial<E: Evaluator>()
         IsLawful terms.eval → IsHistory h0 → Course terms (start terms h0) trace end → IsArmed trace →
         Explained terms h0 (items_of trace) (report h0 trace end) }
 {}
+
+/// A text spells one schedule.
+pub fn one_schedule()
+    ensures { (text : List ℕ) (a b : List Item2) → IsSchedule text a → IsSchedule text b → a ≡ b }
+{
+}
