@@ -1,4 +1,4 @@
--- Cells is lawful.
+-- The evaluator of cells keeps the laws of an evaluator.
 use Rattle.std.proofs.Common.{◌≡◌, ℕ, ◌==◌, Bool, true, false, cond, List, [], ◌∷◌, Option, Some, None, refl, sym, ap, ◌∙◌, subst, filter, eqb-true}
 use Rattle.evaluator.specs.declared.cells.CellRequest.{CellRequest}
 use Rattle.evaluator.specs.declared.ask.Ask.{Ask}
@@ -7,45 +7,10 @@ use Rattle.evaluator.specs.declared.outcome.Outcome.{Outcome}
 use Rattle.evaluator.specs.declared.reply.Reply.{Reply}
 use Rattle.evaluator.specs.declared.draft.Draft.{Draft}
 use Rattle.zbase.specs.History.{History, Value}
-use Rattle.evaluator.specs.Facts.{fact, ask_of, same_ask, look, TrueOf}
+use Rattle.evaluator.specs.Facts.{fact, look, TrueOf}
+use Rattle.evaluator.specs.FactLaws.{look_asked, look_true, look_lasting}
 use Rattle.evaluator.specs.Exec.{is_lasting, exec, IsDecided, IsLawful}
 use Rattle.evaluator.specs.Cells.{eval_cell, with_value, with_parts, with_log}
-
-same_asks : (a b : Ask) → same_ask a b ≡ true → a ≡ b
-same_asks (Ask.Object o) (Ask.Object p) e = ap Ask.Object (eqb-true o p e)
-same_asks (Ask.Transaction t) (Ask.Transaction u) e = ap Ask.Transaction (eqb-true t u e)
-same_asks Ask.Log Ask.Log e = refl
-same_asks (Ask.Object o) (Ask.Transaction t) e = cc
-same_asks (Ask.Object o) Ask.Log e = cc
-same_asks (Ask.Transaction t) (Ask.Object o) e = cc
-same_asks (Ask.Transaction t) Ask.Log e = cc
-same_asks Ask.Log (Ask.Object o) e = cc
-same_asks Ask.Log (Ask.Transaction t) e = cc
-
--- what is known answers that ask
-pub look_asked : (facts : List Fact) (ask : Ask) (f : Fact) → look facts ask ≡ Some f → ask_of f ≡ ask
-look_asked [] ask f e = cc
-look_asked (g ∷ gs) ask f e = go (same_ask (ask_of g) ask) refl e (look_asked gs ask f)
-  where
-    go : (b : Bool) → same_ask (ask_of g) ask ≡ b → cond b (Some g) (look gs ask) ≡ Some f → (look gs ask ≡ Some f → ask_of f ≡ ask) → ask_of f ≡ ask
-    go true same e' deeper = (let one : g ≡ f = cc in subst (λ k. ask_of k ≡ ask) one (same_asks (ask_of g) ask same))
-    go false other e' deeper = deeper e'
-
--- and is what the history gives
-pub look_true : (facts : List Fact) (h : History) (ask : Ask) (f : Fact) → TrueOf facts h → look facts ask ≡ Some f → f ≡ fact h ask
-look_true [] h ask f all e = cc
-look_true (g ∷ gs) h ask f all e = go (same_ask (ask_of g) ask) refl e (look_true gs h ask f all.1)
-  where
-    go : (b : Bool) → same_ask (ask_of g) ask ≡ b → cond b (Some g) (look gs ask) ≡ Some f → (look gs ask ≡ Some f → f ≡ fact h ask) → f ≡ fact h ask
-    go true same e' deeper = (let one : g ≡ f = cc in sym one ∙ all.0 ∙ ap (fact h) (same_asks (ask_of g) ask same))
-    go false other e' deeper = deeper e'
-
-pub look_lasting : (facts : List Fact) (o : ℕ) → look (filter is_lasting facts) (Ask.Object o) ≡ look facts (Ask.Object o)
-look_lasting [] o = refl
-look_lasting (Fact.Object p v s ∷ fs) o = ap (cond (p == o) (Some (Fact.Object p v s))) (look_lasting fs o)
-look_lasting (Fact.Transaction t None ∷ fs) o = look_lasting fs o
-look_lasting (Fact.Transaction t (Some ps) ∷ fs) o = look_lasting fs o
-look_lasting (Fact.Log rs ∷ fs) o = look_lasting fs o
 
 whole_value : (go : Value → Outcome) (a : ℕ) (facts : List Fact) (h : History) → TrueOf facts h → (o : Option Fact) → look facts (Ask.Object a) ≡ o → IsDecided (with_value go (Ask.Object a) o) → with_value go (Ask.Object a) (Some (fact h (Ask.Object a))) ≡ with_value go (Ask.Object a) o
 whole_value go a facts h all None e decided = absurd decided

@@ -11,3 +11,4 @@ pub mod Armed
 pub mod Explained
 pub mod Follows
 pub mod Worked
+pub mod CourseLaws
