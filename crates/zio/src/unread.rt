@@ -1,0 +1,42 @@
+ghost use Rattle.std.specs.Prelude.{◌≡◌, ◌++◌, ◌<◌, ◌≤◌, List, ℕ, [], drop, length, take};
+
+use std::marker::Model;
+use zbase::Bytes;
+
+/// Bytes of which a front has been read. Contracts see those that are left.
+#[derive(Drop)]
+pub struct Unread {
+    bytes: Bytes,
+    taken: usize,
+}
+
+impl Model for Unread {
+    ghost Value = { List ℕ };
+
+    ghost view = { λ unread. drop unread.taken unread.bytes };
+
+    ghost invariant = { λ unread. unread.taken ≤ length unread.bytes };
+}
+
+impl Unread {
+    /// None of these bytes has been read.
+    pub fn new(bytes: Bytes) -> Unread
+        ensures { result ≡ bytes }
+    {
+        Unread { bytes, taken: 0 }
+    }
+
+    /// Moves as many bytes as there are, or as the buffer has room for, to the front of the buffer.
+    pub fn read(&mut self, buf: &mut [u8]) -> usize
+        ensures bound { result ≤ length buf.new }
+        ensures moved { self.old ≡ take result buf.new ++ self.new }
+        ensures end { result ≡ 0 → 0 < length buf.new → self.new ≡ [] }
+    {
+        let bytes = self.bytes.as_slice();
+        let start = self.taken;
+        let count = buf.len().min(bytes.len() - start);
+        buf[..count].copy_from_slice(&bytes[start..start + count]);
+        self.taken = start + count;
+        count
+    }
+}

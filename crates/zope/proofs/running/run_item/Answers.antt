@@ -1,0 +1,16 @@
+use Rattle.std.proofs.Common.{◌≡◌, ◌∙◌, [], sym, ap, subst, refl}
+use Rattle.schedule.specs.declared.item.Item2.{Item2}
+use Rattle.schedule.specs.Courses.{Happens}
+use Rattle.schedule.specs.CourseLaws.{IsCalm}
+use Rattle.zope.specs.Printed.{terms_of}
+use Rattle.zope.specs.Tasks.{moment_of}
+use Rattle.zope.proofs.PrintSteps.{prints_none}
+use Rattle.zope.proofs.running.run_item.Goals as goal
+
+pub returns-in-Ok-true-clause-ok : goal.returns-in-Ok-true-clause-ok
+returns-in-Ok-true-clause-ok g c =
+    let terms = terms_of g.E.Evaluator.takes g.E.Evaluator.meaning in
+    let bytes = c.in-Request.bytes in
+    let item : c.args.item.now ≡ Item2.Request 0 bytes = c.in-Request.is ∙ ap (λ w. Item2.Request w bytes) c.if-worker-ne-FIRST_WORKER.false in
+    let given = c.in-Ok-true.ensures c.in-Ok-true.field-0-test terms refl in
+    ([], subst (λ i. Happens terms (moment_of c.args.task.now) i [] (moment_of c.give.new.task)) (sym item) given, subst (λ i. IsCalm i []) (sym item) refl, prints_none _)

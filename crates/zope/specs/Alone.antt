@@ -1,0 +1,51 @@
+-- The first worker over the empty history, while the fifteen others have no request.
+use Rattle.std.specs.Prelude.{ℕ, ◌≡◌, List, [], ◌∷◌, replicate, Option, None}
+use Rattle.zbase.specs.History.{empty_history}
+use Rattle.evaluator.specs.declared.ask.Ask.{Ask}
+use Rattle.evaluator.specs.declared.fact.Fact.{Fact}
+use Rattle.evaluator.specs.declared.outcome.Outcome.{Outcome}
+use Rattle.evaluator.specs.declared.reply.Mark.{Mark}
+use Rattle.evaluator.specs.declared.reply.Reply.{Reply}
+use Rattle.evaluator.specs.Exec.{Eval}
+use Rattle.schedule.specs.declared.line.Line.{Line}
+use Rattle.schedule.specs.Causes.{memory_reply}
+use Rattle.schedule.specs.Moments.{Attempt, Doing, Free, Moment}
+use Rattle.zope.specs.declared.step_line.StepLine.{StepLine}
+use Rattle.zope.specs.Replies.{IsStatus}
+
+-- an evaluation of this stage changes nothing, shows no object and denies none
+abbrev pub IsPlain : Outcome → Type 0
+IsPlain (Outcome.Need ask) = Unit {0}
+IsPlain (Outcome.Answer x) = (x.shown ≡ []) × (x.denied ≡ None)
+IsPlain (Outcome.Change x d) = ⊥
+
+abbrev pub OnlyAnswers : {R : Type 0} → Eval R → Type 0
+OnlyAnswers {R} eval = (known : Ask → Option Fact) (q : R) → IsPlain (eval known q)
+
+-- the fifteen others
+unfoldable pub others : {R : Type 0} → List (Doing R)
+others = replicate 15 Free
+
+-- the length of the file of the empty history, in bytes
+abbrev pub empty_length : ℕ
+empty_length = 4
+
+abbrev pub alone : {R : Type 0} → Doing R → Moment R
+alone d = record { standing = empty_history; end = empty_length; clock = 0; vote = None; workers = d ∷ others }
+
+-- an attempt at the snapshot of the empty history
+abbrev pub attempt : {R : Type 0} → R → List Fact → Attempt R
+attempt q facts = record { request = q; clashes = []; snapshot = 0; facts = facts }
+
+-- the lines of a step of the first worker
+abbrev pub step_lines : (Reply → Mark → List ℕ) → StepLine → List Line
+step_lines answer StepLine.Idle = Line.Idle 0 ∷ []
+step_lines answer (StepLine.Begun t) = Line.Begin 0 t ∷ []
+step_lines answer (StepLine.Fetched ask) = Line.Fetch 0 ask ∷ []
+step_lines answer (StepLine.Read x t) = Line.ReplyRead 0 t (answer x (Mark.Read t)) ∷ []
+step_lines answer StepLine.Memory = Line.Memory 0 ∷ Line.ReplyNone 0 (answer memory_reply Mark.Empty) ∷ []
+
+-- a reply of the step has a status
+abbrev pub IsAnswered : StepLine → Type 0
+IsAnswered (StepLine.Read x t) = IsStatus x.status
+IsAnswered _ = Unit {0}

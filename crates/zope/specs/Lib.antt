@@ -1,0 +1,10 @@
+pub mod Words
+pub mod Shelved
+pub mod Replies
+pub mod Site
+pub mod SiteLaws
+pub mod Alone
+pub mod Tasks
+pub mod Printed
+pub mod Replayed
+pub mod Causes

@@ -1,0 +1,91 @@
+use crate::empty_store::{NO_TRANSACTION, empty_fact};
+use crate::step_line::StepLine;
+use crate::task::Task;
+use evaluator::{Evaluator, Facts, Outcome};
+use std::alloc::Global;
+use std::marker::Model;
+
+/// An attempt under way: its request, what the evaluator keeps for it, and the facts so far.
+pub struct Active<E: Evaluator> {
+    request: E::Request,
+    state: E::State,
+    facts: Facts,
+}
+
+impl<E: Evaluator> Model for Active<E> {
+    ghost use Rattle.evaluator.specs.Exec.{IsTrail};
+    ghost use Rattle.evaluator.specs.Facts.{look};
+    ghost use Rattle.schedule.specs.Moments.{Attempt};
+    ghost use Rattle.zope.specs.Alone.{attempt};
+
+    ghost Value = { Attempt E.Request };
+
+    ghost view = { λ a. attempt a.request a.facts };
+
+    ghost invariant = { λ a. (E.fits a.state a.facts a.request) × IsTrail (λ known. E.meaning (look known) a.request) a.facts };
+}
+
+impl<E: Evaluator> Drop for Active<E> {
+    fn drop(self) {
+        let Active {
+            request: _,
+            state: _,
+            facts: _,
+        } = self;
+    }
+}
+
+impl<E: Evaluator> Active<E> {
+    ghost use Rattle.std.specs.Prelude.{◌≡◌, []};
+    ghost use Rattle.zope.specs.Alone.{attempt};
+
+    /// Begins an attempt. Takes no memory.
+    pub fn begin(alloc: Global, evaluator: &E, request: E::Request) -> Active<E>
+        ensures { result ≡ attempt request [] }
+    {
+        Active {
+            request,
+            state: evaluator.fresh(),
+            facts: Facts::new(alloc),
+        }
+    }
+}
+
+impl<E: Evaluator> Active<E> {
+    ghost use Rattle.std.specs.Prelude.{◌≡◌};
+    ghost use Rattle.schedule.specs.Moments.{Asking, Terms};
+    ghost use Rattle.schedule.specs.Stepping.{Steps};
+    ghost use Rattle.zope.specs.Alone.{IsAnswered, OnlyAnswers, alone, step_lines};
+    ghost use Rattle.zope.specs.Tasks.{doing_of};
+
+    /// Evaluates once. Where a fact is wanted, it is fetched.
+    pub fn turn(self, alloc: Global, evaluator: &mut E) -> (Task<E>, StepLine)
+        requires { OnlyAnswers E.meaning }
+        ensures answered { IsAnswered result.1 }
+        ensures steps { (terms : Terms E.Request) → terms.eval ≡ E.meaning →
+            Steps terms (alone (Asking self)) 0 (step_lines terms.answer result.1) (alone (doing_of result.0)) }
+    {
+        let Active {
+            request,
+            mut state,
+            mut facts,
+        } = self;
+        match evaluator.eval(&mut state, &facts, &request) {
+            Err(_) => (Task::Free, StepLine::Memory),
+            Ok(Outcome::Answer(reply)) => (Task::Free, StepLine::Read(reply, NO_TRANSACTION)),
+            Ok(Outcome::Change(_, _)) => unreachable!(),
+            Ok(Outcome::Need(ask)) => {
+                let learned = facts.push(empty_fact(alloc, &ask));
+                let active = Active {
+                    request,
+                    state,
+                    facts,
+                };
+                match learned {
+                    Ok(()) => (Task::Asking(active), StepLine::Fetched(ask)),
+                    Err(_) => (Task::Free, StepLine::Memory),
+                }
+            }
+        }
+    }
+}

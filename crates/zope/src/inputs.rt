@@ -1,0 +1,68 @@
+ghost use Rattle.std.specs.Prelude.{◌≡◌, ◌≤◌, ◌<◌, List, ℕ, map, IfOk, IfSome, IsErr, IsErrOf, MatchOption, string_bytes};
+ghost use Rattle.zbase.specs.Faults.{Counts};
+ghost use Rattle.zdisk.specs.Disk.{content};
+ghost use Rattle.zope.specs.Shelved.{HasFile};
+ghost use Rattle.zope.specs.Words.{IsReplay, IsReplayOf};
+
+use crate::refusal::{FileRefusal, InputRefusal};
+use std::alloc::Global;
+use zdisk::Disk;
+use zio::{Shelf, ShelfRefusal, Source};
+
+/// The most bytes that a schedule may have.
+const MAX_INPUT: usize = 67_108_864;
+
+/// The most bytes that a replayed file may have.
+const MAX_FILE: u64 = 268_435_456;
+
+/// The file that a replay is asked for: none exactly where the words aren't `replay` and one more word.
+pub fn file_name(words: &[String]) -> Option<&str>
+    ensures { MatchOption result (IsReplay (map string_bytes words.now) → ⊥) (λ name. IsReplayOf (map string_bytes words.now) name.now) }
+{
+    match words {
+        [command, name] if command.as_str() == "replay" => Some(name.as_str()),
+        _ => None,
+    }
+}
+
+/// All of the input.
+pub fn read_input<S: Source>(alloc: Global, input: &mut S) -> Result<Vec<u8>, InputRefusal>
+    ensures all { IfOk result (λ text. IfSome (S.left input.old) (λ bytes. text.items ≡ bytes)) }
+    ensures counts { Counts (S.counter input.old) (S.counter input.new) (IsErrOf result InputRefusal.Failed) }
+{
+    let mut text = Vec::new(alloc);
+    let mut buf = [0; 4096];
+    'reading: while text.len() <= MAX_INPUT {
+        match input.read(&mut buf) {
+            Ok(0) => return Ok(text),
+            Ok(count) => text.extend_from_slice(&buf[..count])?,
+            Err(_) => return Err(InputRefusal::Failed),
+        }
+    }
+    Err(InputRefusal::TooLarge)
+}
+
+// All bytes of a disk.
+fn read_disk<D: Disk>(alloc: Global, disk: &mut D) -> Result<Vec<u8>, FileRefusal>
+    ensures { IfOk result (λ bytes. IfSome (D.told disk.old) (λ told. content told ≡ bytes.items)) }
+{
+    let len = disk.len().map_err(|_| FileRefusal::Disk)?;
+    if len > MAX_FILE {
+        return Err(FileRefusal::TooLarge(len));
+    }
+    let mut bytes = vec![in alloc; 0u8; len as usize]?;
+    disk.read_at(0, &mut bytes).map_err(|_| FileRefusal::Disk)?;
+    Ok(bytes)
+}
+
+/// All bytes of the file of that name.
+pub fn read_file<F: Shelf>(alloc: Global, files: &mut F, name: &str) -> Result<Vec<u8>, FileRefusal>
+    ensures found { IfOk result (λ bytes. HasFile (F.files files.old) name.now bytes.items) }
+{
+    match files.open(name) {
+        Ok(mut disk) => read_disk(alloc, &mut disk),
+        Err(ShelfRefusal::Missing) => Err(FileRefusal::Missing),
+        Err(ShelfRefusal::Failed) => Err(FileRefusal::Disk),
+        Err(ShelfRefusal::Memory) => Err(FileRefusal::Memory),
+    }
+}

@@ -1,0 +1,65 @@
+//! The top call, and the program.
+#![tactic(auto)]
+
+mod active;
+mod command;
+mod empty_store;
+mod http_out;
+mod inputs;
+mod message;
+mod printing;
+mod refusal;
+mod running;
+mod site;
+mod step_line;
+mod stepping;
+mod task;
+mod top;
+
+use std::env;
+use std::io::ErrorKind;
+use std::process::ExitCode;
+pub use top::{Status, run};
+use zbase::FaultPlan;
+use zio::{Folder, MemoryClock, MemoryHub, ReaderSource, WriterSink};
+
+// The words of the command line. Words that aren't UTF-8 are none of the program's.
+fn words_of(
+    rt: &impl AllocGlobal,
+    args: std::io::Result<env::Args>,
+) -> std::io::Result<Vec<String>> {
+    let mut words = Vec::new(rt.alloc());
+    match args {
+        Ok(args) => {
+            for word in args.skip(1) {
+                words.push(word)?;
+            }
+        }
+        Err(error) => {
+            if error.kind() != ErrorKind::InvalidData {
+                return Err(error);
+            }
+        }
+    }
+    Ok(words)
+}
+
+fn main(rt: HostRuntime) -> std::io::Result<ExitCode> {
+    let alloc = rt.alloc();
+    let words = words_of(&rt, env::args(&rt))?;
+    let mut files = Folder::new(&rt);
+    let mut input = ReaderSource::new(rt.stdin());
+    let mut out = WriterSink::new(rt.stdout());
+    let mut hub = MemoryHub::new(alloc, Vec::new(alloc), FaultPlan::none(alloc));
+    let mut clock = MemoryClock::new(Vec::new(alloc), FaultPlan::none(alloc));
+    let status = run(
+        alloc,
+        words.as_slice(),
+        &mut files,
+        &mut input,
+        &mut out,
+        &mut hub,
+        &mut clock,
+    );
+    Ok(ExitCode::from(status.0))
+}

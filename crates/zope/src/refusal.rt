@@ -1,0 +1,153 @@
+ghost use Rattle.std.specs.Prelude.{◌≡◌, ◌↔◌};
+ghost use Rattle.zio.specs.declared.refusal.OutsideRefusal.TheVariants.{Failed as OutsideFailed};
+ghost use Rattle.zope.specs.Causes.{ComesFrom};
+ghost use Rattle.zope.specs.declared.refusal.FileRefusal.TheVariants.{Memory as FileMemory};
+ghost use Rattle.zope.specs.declared.refusal.InputRefusal.TheVariants.{Failed, Memory as InputMemory};
+ghost use Rattle.zope.specs.declared.refusal.RunRefusal.TheVariants.{Output as RunOutput};
+
+use schedule::ScheduleRefusal;
+use std::alloc::{AllocError, AllocFailed};
+use zio::OutsideRefusal;
+
+/// Why a command did not end well.
+#[derive(Clone, Copy, Debug, PartialEq, Eq)]
+pub enum Refusal {
+    /// The file has a form that isn't read yet.
+    NotYet,
+    /// The words are none of the program's.
+    Usage,
+    /// The file doesn't begin as one.
+    Damaged,
+    /// The line of the schedule with this number is bad, or can't be run.
+    BadLine(u64),
+    /// The shelf or a disk failed.
+    Disk,
+    /// The source failed.
+    Input,
+    /// The sink failed.
+    Output,
+    /// Want of memory.
+    Memory,
+    /// The shelf has no such file.
+    Missing,
+    /// The file of this size, or the schedule beyond this limit, is too large; in bytes.
+    TooLarge(u64),
+}
+
+/// Why the input was not read.
+#[derive(Clone, Copy, Debug, PartialEq, Eq)]
+pub enum InputRefusal {
+    /// It has more bytes than a schedule may have.
+    TooLarge,
+    /// The source failed.
+    Failed,
+    /// Want of memory.
+    Memory,
+}
+
+/// Why a file was not read.
+#[derive(Clone, Copy, Debug, PartialEq, Eq)]
+pub enum FileRefusal {
+    /// The shelf has no such file.
+    Missing,
+    /// It has so many bytes.
+    TooLarge(u64),
+    /// The shelf or the disk failed.
+    Disk,
+    /// Want of memory.
+    Memory,
+}
+
+/// Why a run was broken off.
+#[derive(Clone, Copy, Debug, PartialEq, Eq)]
+pub enum RunRefusal {
+    /// The line with this number can't be run: its request is no message, or its worker has one already.
+    BadLine(u64),
+    /// The sink failed.
+    Output,
+    /// Want of memory outside a step.
+    Memory,
+}
+
+impl From<AllocError> for InputRefusal {
+    ghost from_gives = { λ _ e. e ≡ InputMemory };
+
+    fn from(_: AllocError) -> InputRefusal {
+        InputRefusal::Memory
+    }
+}
+
+impl From<AllocError> for FileRefusal {
+    ghost from_gives = { λ _ e. e ≡ FileMemory };
+
+    fn from(_: AllocError) -> FileRefusal {
+        FileRefusal::Memory
+    }
+}
+
+impl<T: Drop> From<AllocFailed<T>> for FileRefusal {
+    ghost from_gives = { λ _ e. e ≡ FileMemory };
+
+    fn from(_: AllocFailed<T>) -> FileRefusal {
+        FileRefusal::Memory
+    }
+}
+
+impl From<OutsideRefusal> for RunRefusal {
+    ghost from_gives = { λ refusal e. (e ≡ RunOutput) ↔ (refusal ≡ OutsideFailed) };
+
+    fn from(refusal: OutsideRefusal) -> RunRefusal {
+        match refusal {
+            OutsideRefusal::Failed => RunRefusal::Output,
+            OutsideRefusal::Memory => RunRefusal::Memory,
+        }
+    }
+}
+
+impl From<InputRefusal> for Refusal {
+    ghost from_gives = { λ refusal e. ComesFrom e (refusal ≡ Failed) ⊥ };
+
+    fn from(refusal: InputRefusal) -> Refusal {
+        match refusal {
+            InputRefusal::TooLarge => Refusal::TooLarge(67_108_864),
+            InputRefusal::Failed => Refusal::Input,
+            InputRefusal::Memory => Refusal::Memory,
+        }
+    }
+}
+
+impl From<ScheduleRefusal> for Refusal {
+    ghost from_gives = { λ _ e. ComesFrom e ⊥ ⊥ };
+
+    fn from(refusal: ScheduleRefusal) -> Refusal {
+        match refusal {
+            ScheduleRefusal::BadLine(line) => Refusal::BadLine(line),
+            ScheduleRefusal::Memory => Refusal::Memory,
+        }
+    }
+}
+
+impl From<FileRefusal> for Refusal {
+    ghost from_gives = { λ _ e. ComesFrom e ⊥ ⊥ };
+
+    fn from(refusal: FileRefusal) -> Refusal {
+        match refusal {
+            FileRefusal::Missing => Refusal::Missing,
+            FileRefusal::TooLarge(size) => Refusal::TooLarge(size),
+            FileRefusal::Disk => Refusal::Disk,
+            FileRefusal::Memory => Refusal::Memory,
+        }
+    }
+}
+
+impl From<RunRefusal> for Refusal {
+    ghost from_gives = { λ refusal e. ComesFrom e ⊥ (refusal ≡ RunOutput) };
+
+    fn from(refusal: RunRefusal) -> Refusal {
+        match refusal {
+            RunRefusal::BadLine(line) => Refusal::BadLine(line),
+            RunRefusal::Output => Refusal::Output,
+            RunRefusal::Memory => Refusal::Memory,
+        }
+    }
+}
