@@ -51,22 +51,26 @@ cells_lawful = record { whole = whole; lasting = lasting; unknown = unknown }
     whole facts h (CellRequest.New a) all = whole_value _ a facts h all (look facts (Ask.Object a)) refl
     whole facts h CellRequest.Log all = whole_log facts h all (look facts Ask.Log) refl
     whole facts h (CellRequest.Part t) all = whole_parts t facts h all (look facts (Ask.Transaction t)) refl
+
     log_answers : (x : Reply) (d : Draft) (o : Option Fact) → with_log Ask.Log o ≡ Outcome.Change x d → ⊥
     log_answers x d None e = cc
     log_answers x d (Some (Fact.Log rs)) e = cc
     log_answers x d (Some (Fact.Object o v s)) e = cc
     log_answers x d (Some (Fact.Transaction t ps)) e = cc
+
     parts_answer : (u : ℕ) (x : Reply) (d : Draft) (o : Option Fact) → with_parts (Ask.Transaction u) o ≡ Outcome.Change x d → ⊥
     parts_answer u x d None e = cc
     parts_answer u x d (Some (Fact.Log rs)) e = cc
     parts_answer u x d (Some (Fact.Object o v s)) e = cc
     parts_answer u x d (Some (Fact.Transaction t ps)) e = cc
+
     lasting : (facts : List Fact) (q : CellRequest) (x : Reply) (d : Draft) → eval_cell (look facts) q ≡ Outcome.Change x d → eval_cell (look (filter is_lasting facts)) q ≡ Outcome.Change x d
     lasting facts (CellRequest.Read a) x d e = ap (with_value _ (Ask.Object a)) (look_lasting facts a) ∙ e
     lasting facts (CellRequest.Copy a b) x d e = ap (with_value _ (Ask.Object a)) (look_lasting facts a) ∙ e
     lasting facts (CellRequest.New a) x d e = ap (with_value _ (Ask.Object a)) (look_lasting facts a) ∙ e
     lasting facts CellRequest.Log x d e = absurd (log_answers x d (look facts Ask.Log) e)
     lasting facts (CellRequest.Part t) x d e = absurd (parts_answer t x d (look facts (Ask.Transaction t)) e)
+
     unknown : (facts : List Fact) (q : CellRequest) (ask : Ask) → eval_cell (look facts) q ≡ Outcome.Need ask → look facts ask ≡ None
     unknown facts (CellRequest.Read a) ask e = need_value _ (λ v k h. cc) a facts ask (look facts (Ask.Object a)) refl e
     unknown facts (CellRequest.Copy a b) ask e = need_value _ (λ v k h. cc) a facts ask (look facts (Ask.Object a)) refl e

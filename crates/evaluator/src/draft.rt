@@ -31,7 +31,10 @@ pub enum Entry {
         holes: Holes,
     },
     /// Its value becomes the one that it had in that transaction, none for 0.
-    Restore { oid: Oid, to: Tid },
+    Restore {
+        oid: Oid,
+        to: Tid,
+    },
 }
 
 /// What a change does, an entry for each object.

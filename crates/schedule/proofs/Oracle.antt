@@ -24,7 +24,7 @@ happens_by terms m Item2.End trouble = None
 
 abbrev pub ran_on : {R : Type 0} → Moment R → Item2 → List Line → Moment R → Option (List (Place R) × Moment R) → Option (List (Place R) × Moment R)
 ran_on m item lines n None = None
-ran_on m item lines n (Some (ps , end)) = Some (record { before = m; item = item; lines = lines; after = n } ∷ ps, end)
+ran_on m item lines n (Some (ps, end)) = Some (record { before = m; item = item; lines = lines; after = n } ∷ ps, end)
 
 abbrev pub ran : {R : Type 0} → Terms R → Moment R → List (Item2 × Option Trouble) → Option (List (Place R) × Moment R)
 ran terms m [] = Some ([], m)

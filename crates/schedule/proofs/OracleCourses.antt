@@ -39,7 +39,7 @@ some_same e = cc
 course_on : {R : Type 0} (terms : Terms R) (m : Moment R) (item : Item2) (lines : List Line) (n : Moment R) (o : Option (List (Place R) × Moment R)) (ps : List (Place R)) (end : Moment R)
     → Happens terms m item lines n → ((qs : List (Place R)) (f : Moment R) → o ≡ Some (qs, f) → Course terms n qs f) → ran_on m item lines n o ≡ Some (ps, end) → Course terms m ps end
 course_on terms m item lines n None ps end step rest e = cc
-course_on terms m item lines n (Some (qs , f)) ps end step rest e =
+course_on terms m item lines n (Some (qs, f)) ps end step rest e =
     let same = some_same e in
     let tail : record { before = m; item = item; lines = lines; after = n } ∷ qs ≡ ps = ap (λ (s : List (Place _) × Moment _). s.0) same in
     let last : f ≡ end = ap (λ (s : List (Place _) × Moment _). s.1) same in

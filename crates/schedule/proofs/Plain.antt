@@ -28,6 +28,7 @@ trouble_first terms m w trouble r e = outer (has_request (doing m w)) e
   where
     so : (s : Told _) → begins_troubled s.0 ≡ true → Some s ≡ Some r → begins_troubled r.0 ≡ true
     so s first same = (let one : s ≡ r = cc in subst (λ (k : Told _). begins_troubled k.0 ≡ true) one first)
+
     inner : (o : Option Vote) (t : Trouble) → fails terms m w o t ≡ Some r → begins_troubled r.0 ≡ true
     inner None Wants_memory same = so _ refl same
     inner None Disk_fails same = so _ refl same
@@ -37,6 +38,7 @@ trouble_first terms m w trouble r e = outer (has_request (doing m w)) e
     inner (Some v) Wants_memory same = cc
     inner (Some v) Disk_fails same = cc
     inner None (Is_unknown stands) same = cc
+
     outer : (b : Bool) → cond b (fails terms m w (held_by w m.vote) trouble) None ≡ Some r → begins_troubled r.0 ≡ true
     outer true same = inner (held_by w m.vote) trouble same
     outer false same = cc
@@ -55,17 +57,21 @@ next_told {R} terms m end w (p ∷ ps) items tail more line c same e plain = go 
   where
     first : p.item ≡ Item2.Step w
     first = cc
+
     rest : items_of ps ≡ items
     rest = cc
+
     regrouped : p.lines ++ (lines_of ps ++ tail) ≡ line ∷ more
     regrouped = sym (append_assoc p.lines (lines_of ps) tail) ∙ e
+
     go : Steps terms p.before w p.lines p.after → (qs : List (Place R)) × Course terms (told terms m w).1 qs end × (items_of qs ≡ items) × ((told terms m w).0 ++ (lines_of qs ++ tail) ≡ line ∷ more)
     go (inl table) =
-        let here : told terms m w ≡ (p.lines, p.after) = ap (λ k. told terms k w) c.0 ∙ table in
-        (ps,
-         subst (λ k. Course terms k ps end) (sym (ap (λ (r : Told R). r.1) here)) c.2,
-         rest,
-         ap (λ (r : Told R). r.0 ++ (lines_of ps ++ tail)) here ∙ regrouped)
+        let here : told terms m w ≡ (p.lines, p.after) = ap (λ k. told terms k w) c.0 ∙ table in (
+          ps,
+          subst (λ k. Course terms k ps end) (sym (ap (λ (r : Told R). r.1) here)) c.2,
+          rest,
+          ap (λ (r : Told R). r.0 ++ (lines_of ps ++ tail)) here ∙ regrouped,
+        )
     go (inr trouble) =
         let bad : is_trouble line ≡ true = clash p.lines (lines_of ps ++ tail) more line (trouble_first terms p.before w trouble.0 (p.lines, p.after) trouble.1) regrouped in
         cc
@@ -79,6 +85,7 @@ stopped_by {R} terms m w trouble r ys more e lines = outer (has_request (doing m
   where
     so : (s : Told R) → Some s ≡ Some r → s.0 ++ ys ≡ Line.Stop ∷ more
     so s same = (let one : s ≡ r = cc in subst (λ (k : Told R). k.0 ++ ys ≡ Line.Stop ∷ more) (sym one) lines)
+
     inner : (o : Option Vote) → held_by w m.vote ≡ o → (t : Trouble) → fails terms m w o t ≡ Some r → WasStopped m w more
     inner None held Wants_memory same = (let bad = so _ same in cc)
     inner None held Disk_fails same = (let bad = so _ same in cc)
@@ -88,6 +95,7 @@ stopped_by {R} terms m w trouble r ys more e lines = outer (has_request (doing m
     inner (Some v) held Wants_memory same = cc
     inner (Some v) held Disk_fails same = cc
     inner None held (Is_unknown stands) same = cc
+
     outer : (b : Bool) → cond b (fails terms m w (held_by w m.vote) trouble) None ≡ Some r → WasStopped m w more
     outer true same = inner (held_by w m.vote) refl trouble same
     outer false same = cc
@@ -103,8 +111,10 @@ next_stopped {R} terms m end w (p ∷ ps) items tail more c same e plain = go (s
   where
     first : p.item ≡ Item2.Step w
     first = cc
+
     regrouped : p.lines ++ (lines_of ps ++ tail) ≡ Line.Stop ∷ more
     regrouped = sym (append_assoc p.lines (lines_of ps) tail) ∙ e
+
     go : Steps terms m w p.lines p.after → WasStopped m w more
     go (inl table) = absurd (plain_not_stop p.lines (lines_of ps ++ tail) more (subst (λ (r : Told R). begins_plain r.0 ≡ true) table plain) regrouped)
     go (inr trouble) = stopped_by terms m w trouble.0 (p.lines, p.after) (lines_of ps ++ tail) more trouble.1 regrouped

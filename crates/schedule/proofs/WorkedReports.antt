@@ -25,8 +25,8 @@ conflict_ends = refl
 pub conflict_is_explained : Explained cells two_cells conflict_schedule conflict_report
 conflict_is_explained =
     explained cells IsArmed two_cells (trace_of conflict_run) (end_of (start cells two_cells) conflict_run) cells_lawful (omega arith, tt)
-      (ran_course cells (start cells two_cells) (map plain conflict_schedule) (trace_of conflict_run) (end_of (start cells two_cells) conflict_run) conflict_ends)
-      refl
+    (ran_course cells (start cells two_cells) (map plain conflict_schedule) (trace_of conflict_run) (end_of (start cells two_cells) conflict_run) conflict_ends)
+    refl
 
 -- the same, with the stop in the last step
 abbrev stop_oracle : ℕ → Bool → List (Item2 × Option Trouble)
@@ -40,11 +40,11 @@ stop_run seed stands = ran cells (start cells one_cell) (stop_oracle seed stands
 pub dropped_is_explained : Explained cells one_cell (stop_schedule 0) dropped_report
 dropped_is_explained =
     explained cells IsArmed one_cell (trace_of (stop_run 0 false)) (end_of (start cells one_cell) (stop_run 0 false)) cells_lawful (omega arith, tt)
-      (ran_course cells (start cells one_cell) (stop_oracle 0 false) (trace_of (stop_run 0 false)) (end_of (start cells one_cell) (stop_run 0 false)) refl)
-      refl
+    (ran_course cells (start cells one_cell) (stop_oracle 0 false) (trace_of (stop_run 0 false)) (end_of (start cells one_cell) (stop_run 0 false)) refl)
+    refl
 
 pub kept_is_explained : Explained cells one_cell (stop_schedule 1) kept_report
 kept_is_explained =
     explained cells IsArmed one_cell (trace_of (stop_run 1 true)) (end_of (start cells one_cell) (stop_run 1 true)) cells_lawful (omega arith, tt)
-      (ran_course cells (start cells one_cell) (stop_oracle 1 true) (trace_of (stop_run 1 true)) (end_of (start cells one_cell) (stop_run 1 true)) refl)
-      refl
+    (ran_course cells (start cells one_cell) (stop_oracle 1 true) (trace_of (stop_run 1 true)) (end_of (start cells one_cell) (stop_run 1 true)) refl)
+    refl

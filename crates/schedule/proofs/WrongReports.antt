@@ -147,5 +147,5 @@ acknowledged_lost more x =
     stopped (at_stopped refl a7)
   where
     stopped : WasStopped m7 0 (Line.Lost 0 ∷ Line.Restart first_tid 1 ∷ more) → ⊥
-    stopped (true , openings , rest , e) = two_not_one 2 1 refl refl (restart_of 0 (first_tid + 1) 2 first_tid 1 openings rest more e)
-    stopped (false , openings , rest , e) = two_not_one 2 1 refl refl (restart_of 0 (first_tid + 1) 2 first_tid 1 openings rest more e)
+    stopped (true, openings, rest, e) = two_not_one 2 1 refl refl (restart_of 0 (first_tid + 1) 2 first_tid 1 openings rest more e)
+    stopped (false, openings, rest, e) = two_not_one 2 1 refl refl (restart_of 0 (first_tid + 1) 2 first_tid 1 openings rest more e)

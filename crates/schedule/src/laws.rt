@@ -24,5 +24,4 @@ pub fn runs_are_serial<E: Evaluator>()
 /// A text spells one schedule.
 pub fn one_schedule()
     ensures { (text : List ℕ) (a b : List Item2) → IsSchedule text a → IsSchedule text b → a ≡ b }
-{
-}
+{}

@@ -11,6 +11,8 @@ mod laws;
 mod line;
 mod reader;
 mod row;
+#[cfg(test)]
+mod tests;
 mod worked;
 mod writer;
 

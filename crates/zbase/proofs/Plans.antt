@@ -1,8 +1,8 @@
 -- One call more of a plan of faults.
-use Rattle.std.proofs.Common.{◌≡◌, ℕ, ◌+◌, ◌<◌, ◌≤◌, ◌==◌, ◌&&◌, ◌||◌, Bool, true, false, List, [], ◌∷◌, min, refl, arith, nat_le}
+use Rattle.std.proofs.Common.{◌≡◌, ℕ, ◌+◌, ◌<◌, ◌==◌, ◌&&◌, ◌||◌, Bool, true, false, List, [], ◌∷◌, min, refl, arith, nat_le}
 use Rattle.std.specs.List.{list_all, list_any}
 use Rattle.std.proofs.lemmas.Bool.Decides.{nat_tests}
-use Rattle.zbase.specs.Faults.{Counter, IsFaultless, Counts, last_count}
+use Rattle.zbase.specs.Faults.{Counter, Counts, last_count}
 
 -- the count that contracts see
 abbrev pub planned : List ℕ → ℕ → ℕ → Counter

@@ -1,5 +1,5 @@
 -- A number of 64 bits has one text of 16 digits, and no other number has it.
-use Rattle.std.proofs.Common.{◌≡◌, ℕ, zero, suc, ◌+◌, ◌*◌, ◌/◌, ◌%◌, ◌<◌, ◌^◌, List, [], ◌∷◌, ◌++◌, length, take, drop, get_or, refl, sym, ap, ◌∙◌, arith, add-one}
+use Rattle.std.proofs.Common.{◌≡◌, ℕ, zero, suc, ◌*◌, ◌/◌, ◌%◌, ◌<◌, ◌^◌, List, [], ◌∷◌, ◌++◌, length, take, drop, get_or, refl, sym, ap, ◌∙◌, arith, add-one}
 use Rattle.std.proofs.lemmas.Bool.Decides.{nat_tests}
 use Rattle.std.proofs.lemmas.List.{length-append, take_at, drop_at}
 use Rattle.std.proofs.lemmas.Grind.{pow_more}
@@ -7,9 +7,10 @@ use Rattle.zbase.specs.Hex.{hex_digit, hex_digits, hex16_text}
 
 -- fronts of one length
 pub fronts_same : (xs ys r s : List ℕ) → length xs ≡ length ys → xs ++ r ≡ ys ++ s → (xs ≡ ys) × (r ≡ s)
-fronts_same xs ys r s len e =
-    (sym (take_at xs r (length xs) refl) ∙ ap (take (length xs)) e ∙ take_at ys s (length xs) (sym len),
-    sym (drop_at xs r (length xs) refl) ∙ ap (drop (length xs)) e ∙ drop_at ys s (length xs) (sym len))
+fronts_same xs ys r s len e = (
+  sym (take_at xs r (length xs) refl) ∙ ap (take (length xs)) e ∙ take_at ys s (length xs) (sym len),
+  sym (drop_at xs r (length xs) refl) ∙ ap (drop (length xs)) e ∙ drop_at ys s (length xs) (sym len),
+)
 
 pub length-hex_digits : (k n : ℕ) → length (hex_digits k n) ≡ k
 unfolding hex_digits

@@ -86,4 +86,11 @@ mod tests {
             assert_eq!(rt; read_hex16(text.as_bytes()), None, "{text}");
         }
     }
+
+    #[test]
+    fn bytes_are_printed(rt: HostRuntime) {
+        for (byte, text) in [(0, "00"), (9, "09"), (160, "a0"), (255, "ff")] {
+            assert_eq!(rt; hex_digits(byte).as_slice(), text.as_bytes());
+        }
+    }
 }

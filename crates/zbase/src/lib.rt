@@ -12,7 +12,7 @@ mod list;
 mod text;
 
 pub use faults::{Failed, FaultCount, FaultPlan, Memory};
-pub use hex::{hex16, hex_digits, read_hex16};
+pub use hex::{hex_digits, hex16, read_hex16};
 pub use ids::{Clash, Oid, Row, Tid};
 pub use list::{Bytes, Items, Oids, Rows, Value};
 pub use text::{Text, Texts};

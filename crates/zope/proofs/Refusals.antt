@@ -8,5 +8,5 @@ pub handed_on : {T U A B : Type 0} {old new : Counter} (a fault : A) (r : Result
 handed_on a fault (Ok x) named P same is counts = absurd is
 handed_on a fault (Err b) named P same is counts =
     counts_as counts
-      (λ e. let below : a ≡ fault = cc in ap (λ (k : _). Err k) ((same b is).1 below))
-      (λ e. let above : b ≡ named = cc in ap (λ (k : _). Err k) ((same b is).0 above))
+    (λ e. let below : a ≡ fault = cc in ap (λ (k : _). Err k) ((same b is).1 below))
+    (λ e. let above : b ≡ named = cc in ap (λ (k : _). Err k) ((same b is).0 above))

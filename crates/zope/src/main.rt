@@ -14,6 +14,8 @@ mod site;
 mod step_line;
 mod stepping;
 mod task;
+#[cfg(test)]
+mod tests;
 mod top;
 
 use std::env;

@@ -1,0 +1,208 @@
+use crate::{Item2, Line, ScheduleRefusal, read_schedule, write_line};
+use evaluator::Ask;
+use std::alloc::Global;
+use std::test::Fail;
+use zbase::{Bytes, Clash, Memory, Oid, Text, Tid};
+
+const FIRST: Tid = Tid(0x0331_6200_0000_0000);
+
+fn bytes(alloc: Global, bytes: &[u8]) -> Result<Bytes, Memory> {
+    Bytes::from_slice(alloc, bytes)
+}
+
+fn clash(oid: u64) -> Clash {
+    Clash {
+        oid,
+        seen: 1,
+        found: 16,
+    }
+}
+
+/// The text of a line, behind a front that stays.
+fn is_text(alloc: Global, line: &Line, text: &[u8]) -> Result<bool, Memory> {
+    let mut out = bytes(alloc, b"front")?;
+    write_line(line, &mut out)?;
+    Ok(out.as_slice().strip_prefix(b"front") == Some(text))
+}
+
+#[test]
+fn lines_of_steps_are_written(rt: HostRuntime) -> Result<(), Fail> {
+    let alloc = rt.alloc();
+    for (line, text) in [
+        (Line::Head, "zope report 1\n"),
+        (Line::Opened(FIRST, 12), "open 0331620000000000 12\n"),
+        (Line::Begin(0, FIRST), "begin 0 0331620000000000\n"),
+        (
+            Line::Fetch(1, Ask::Object(Oid(10))),
+            "fetch 1 object 000000000000000a\n",
+        ),
+        (
+            Line::Fetch(1, Ask::Transaction(FIRST)),
+            "fetch 1 transaction 0331620000000000\n",
+        ),
+        (Line::Fetch(1, Ask::Log), "fetch 1 log\n"),
+        (Line::Computed(2), "computed 2\n"),
+        (Line::Busy(2, 31), "busy 2 31\n"),
+        (Line::Vote(3, FIRST), "vote 3 0331620000000000\n"),
+        (Line::Idle(63), "idle 63\n"),
+        (Line::SpentTids(0), "spent 0 tids\n"),
+        (
+            Line::SpentOids(0, Oid(255), 2),
+            "spent 0 oids 00000000000000ff 2\n",
+        ),
+        (Line::SpentFull(0, 1000, 999), "spent 0 full 1000 999\n"),
+        (Line::DiskFault(4), "diskfault 4\n"),
+        (Line::Memory(4), "memory 4\n"),
+        (Line::Unknown(4, FIRST), "unknown 4 0331620000000000\n"),
+        (Line::Stop, "stop\n"),
+        (Line::Lost(5), "lost 5\n"),
+        (Line::OpenFault, "openfault\n"),
+        (Line::Restart(FIRST, 3), "restart 0331620000000000 3\n"),
+        (Line::History(0), "history 0\n"),
+        (
+            Line::RecordRow(Oid(1), None),
+            "record 0000000000000001 none\n",
+        ),
+        (Line::End, "end\n"),
+    ] {
+        assert!(rt; is_text(alloc, &line, text.as_bytes())?, "{text}");
+    }
+    Ok(())
+}
+
+#[test]
+fn lines_of_conflicts_are_written(rt: HostRuntime) -> Result<(), Fail> {
+    let alloc = rt.alloc();
+    let one = Line::Conflict(1, clash(2));
+    let four = Line::GivenUp(1, [clash(2), clash(3), clash(4), clash(5)]);
+    assert!(rt;
+        is_text(
+            alloc,
+            &one,
+            b"conflict 1 0000000000000002 0000000000000001 0000000000000010\n"
+        )?
+    );
+    assert!(rt;
+        is_text(
+            alloc,
+            &four,
+            b"givenup 1 0000000000000002 0000000000000001 0000000000000010 0000000000000003 0000000000000001 0000000000000010 0000000000000004 0000000000000001 0000000000000010 0000000000000005 0000000000000001 0000000000000010\n",
+        )?
+    );
+    Ok(())
+}
+
+#[test]
+fn replies_are_written(rt: HostRuntime) -> Result<(), Fail> {
+    let alloc = rt.alloc();
+    let body = b"a\r\n\xff";
+    let read = Line::ReplyRead(0, FIRST, bytes(alloc, body)?);
+    assert!(rt;
+        is_text(
+            alloc,
+            &read,
+            b"reply 0 read 0331620000000000 4\na\r\n\xff\n",
+        )?
+    );
+    let commit = Line::ReplyCommit(0, FIRST, bytes(alloc, body)?);
+    assert!(rt;
+        is_text(
+            alloc,
+            &commit,
+            b"reply 0 commit 0331620000000000 4\na\r\n\xff\n",
+        )?
+    );
+    let none = Line::ReplyNone(0, Bytes::new(alloc));
+    assert!(rt; is_text(alloc, &none, b"reply 0 none 0\n\n")?);
+    Ok(())
+}
+
+#[test]
+fn lines_behind_a_reply_are_written(rt: HostRuntime) -> Result<(), Fail> {
+    let alloc = rt.alloc();
+    let shown = Line::Shown(0, Oid(1), Text::from_str(alloc, "Anonymous")?);
+    assert!(rt; is_text(alloc, &shown, b"shown 0 0000000000000001 Anonymous\n")?);
+    let denied = Line::Denied(0, Oid(1), 1);
+    assert!(rt; is_text(alloc, &denied, b"denied 0 0000000000000001 View\n")?);
+    Ok(())
+}
+
+#[test]
+fn transactions_are_written(rt: HostRuntime) -> Result<(), Fail> {
+    let alloc = rt.alloc();
+    let user = bytes(alloc, b"jo")?;
+    let extension = bytes(alloc, b"\x80")?;
+    let transaction = Line::Transaction(FIRST, user, Bytes::new(alloc), extension, 2);
+    assert!(rt;
+        is_text(
+            alloc,
+            &transaction,
+            b"transaction 0331620000000000 6a6f - 80 2\n"
+        )?
+    );
+    let record = Line::RecordRow(Oid(1), Some(bytes(alloc, b"\x00Z")?));
+    assert!(rt; is_text(alloc, &record, b"record 0000000000000001 005a\n")?);
+    Ok(())
+}
+
+#[test]
+fn a_schedule_is_read(rt: HostRuntime) -> Result<(), Fail> {
+    let text = b"zope schedule 1\nrequest 0 5\nend\nx\nstep 0\nrequest 0 0\n\nend\n";
+    let items = read_schedule(rt.alloc(), text)?;
+    let [
+        Item2::Request(0, message),
+        Item2::Step(0),
+        Item2::Request(0, empty),
+    ] = items.as_slice()
+    else {
+        return Err(Fail::from("other items"));
+    };
+    assert_eq!(rt; message.as_slice(), b"end\nx".as_slice());
+    assert!(rt; empty.is_empty());
+    let none = read_schedule(rt.alloc(), b"zope schedule 1\nend\n")?;
+    assert!(rt; none.is_empty());
+    Ok(())
+}
+
+#[test]
+fn a_bad_line_has_its_number(rt: HostRuntime) {
+    for (text, line) in [
+        ("", 1),
+        ("zope schedule 1", 1),
+        ("zope schedule 2\nend\n", 1),
+        ("zope schedule 1\r\nend\n", 1),
+        ("zope schedule 1\n", 2),
+        ("zope schedule 1\nend", 2),
+        ("zope schedule 1\nEND\n", 2),
+        ("zope schedule 1\nstep 0\n", 3),
+        ("zope schedule 1\nend\nstep 0\n", 3),
+        ("zope schedule 1\nend\n\n", 3),
+        ("zope schedule 1\nstep 1\nend\n", 2),
+        ("zope schedule 1\nstep 00\nend\n", 2),
+        ("zope schedule 1\nstep +0\nend\n", 2),
+        ("zope schedule 1\nstep  0\nend\n", 2),
+        ("zope schedule 1\nstep 0 \nend\n", 2),
+        ("zope schedule 1\nstep\nend\n", 2),
+        ("zope schedule 1\nstep 0\nclock 0331620000000000\nend\n", 3),
+        ("zope schedule 1\nstop 1 0\nend\n", 2),
+        ("zope schedule 1\nfail 1 0\nend\n", 2),
+        ("zope schedule 1\nrequest 0\nend\n", 2),
+        ("zope schedule 1\nrequest 0 01\nx\nend\n", 2),
+        ("zope schedule 1\nrequest 0 2\nx\nend\n", 2),
+        (
+            "zope schedule 1\nrequest 0 99999999999999999999\nx\nend\n",
+            2,
+        ),
+        ("zope schedule 1\nrequest 0 9\nx\n", 2),
+        (
+            "zope schedule 1\nrequest 0 1\nx\nstep 0\nrequest 0 1\nxy\nend\n",
+            4,
+        ),
+    ] {
+        let Err(refusal) = read_schedule(rt.alloc(), text.as_bytes()) else {
+            assert!(rt; false, "{text}");
+            continue;
+        };
+        assert_eq!(rt; refusal, ScheduleRefusal::BadLine(line), "{text}");
+    }
+}

@@ -1,0 +1,401 @@
+ghost use Rattle.std.specs.Prelude.{◌≡◌, IfOk};
+ghost use Rattle.zope.specs.Site.{message_of, page};
+ghost use Rattle.zope.specs.SiteLaws.{site_asks_once, site_changes_nothing, site_is_lawful, site_replies};
+
+use crate::http_out::reply_bytes;
+use crate::message::Message;
+use crate::running::replay;
+use crate::site::Site;
+use crate::{Status, run};
+use evaluator::{Evaluator, Facts, Kind, Mark, Outcome, Reply, ShownList};
+use schedule::read_schedule;
+use std::alloc::Global;
+use std::test::Fail;
+use zbase::{Bytes, FaultPlan, Memory, Text, Tid};
+use zio::{MemoryClock, MemoryFile, MemoryHub, MemoryShelf, MemorySink, MemorySource};
+
+const GET: &str = "request 0 18\nGET / HTTP/1.0\r\n\r\n\n";
+
+const FOUND_NONE: &str =
+    "reply 0 read 0000000000000000 157\nHTTP/1.1 404 Not Found\r\nContent-Type: text/plain; charset=utf-8\r\nContent-Length: 13\r\nX-Transaction: read 0000000000000000\r\nConnection: close\r\n\r\nnot found: /\n\n";
+
+/// The numbers of the calls that are to fail, 0 for none: calls are numbered from 1 on.
+#[derive(Clone, Copy)]
+struct Failing {
+    opening: u64,
+    disk: u64,
+    input: u64,
+    output: u64,
+}
+
+const NONE: Failing = Failing {
+    opening: 0,
+    disk: 0,
+    input: 0,
+    output: 0,
+};
+
+/// What a program is started with. The one file of its shelf is `empty.fs`.
+#[derive(Clone, Copy)]
+struct Start<'a> {
+    words: &'a [&'a str],
+    file: &'a str,
+    input: &'a str,
+    failing: Failing,
+}
+
+/// The words of a replay of the file that is there.
+const WORDS: &[&str] = &["replay", "empty.fs"];
+
+fn plan(alloc: Global, number: u64) -> Result<FaultPlan, Memory> {
+    Ok(FaultPlan::new(Vec::from_slice(alloc, &[number])?))
+}
+
+fn shelf_of(alloc: Global, start: &Start<'_>) -> Result<MemoryShelf, Memory> {
+    let mut files = Vec::new(alloc);
+    files.push(MemoryFile {
+        name: Text::from_str(alloc, "empty.fs")?,
+        bytes: Bytes::from_slice(alloc, start.file.as_bytes())?,
+        failing: Vec::from_slice(alloc, &[start.failing.disk])?,
+    })?;
+    Ok(MemoryShelf::new(alloc, files, plan(alloc, start.failing.opening)?))
+}
+
+/// The status and the output of a run.
+fn ran(alloc: Global, start: &Start<'_>) -> Result<(Status, MemorySink), Memory> {
+    let mut words = Vec::new(alloc);
+    for word in start.words {
+        words.push(String::from_str(alloc, word)?)?;
+    }
+    let mut shelf = shelf_of(alloc, start)?;
+    let input = Bytes::from_slice(alloc, start.input.as_bytes())?;
+    let mut source = MemorySource::new(input, plan(alloc, start.failing.input)?);
+    let mut sink = MemorySink::new(alloc, plan(alloc, start.failing.output)?);
+    let mut hub = MemoryHub::new(alloc, Vec::new(alloc), FaultPlan::none(alloc));
+    let mut clock = MemoryClock::new(Vec::new(alloc), FaultPlan::none(alloc));
+    let status = run(
+        alloc,
+        words.as_slice(),
+        &mut shelf,
+        &mut source,
+        &mut sink,
+        &mut hub,
+        &mut clock,
+    );
+    Ok((status, sink))
+}
+
+/// Whether a replay of these lines over the empty file ends with this status and this output.
+fn ends(alloc: Global, lines: &str, status: u8, output: &str) -> Result<bool, Memory> {
+    let input = format!(in alloc; "zope schedule 1\n{lines}")?;
+    let start = Start {
+        words: WORDS,
+        file: "FS21",
+        input: input.as_str(),
+        failing: NONE,
+    };
+    let (ended, sink) = ran(alloc, &start)?;
+    Ok(ended == Status(status) && sink.bytes() == output.as_bytes())
+}
+
+#[test]
+fn a_request_is_replayed(rt: HostRuntime) -> Result<(), Fail> {
+    let alloc = rt.alloc();
+    let lines = format!(in alloc; "{GET}step 0\nstep 0\nstep 0\nend\n")?;
+    let report = format!(in alloc;
+        "zope report 1\nopen 0000000000000000 0\nbegin 0 0000000000000000\nfetch 0 object 0000000000000000\n{FOUND_NONE}history 0\nend\n"
+    )?;
+    assert!(rt; ends(alloc, lines.as_str(), 0, report.as_str())?);
+    Ok(())
+}
+
+#[test]
+fn requests_are_replayed_in_turn(rt: HostRuntime) -> Result<(), Fail> {
+    let alloc = rt.alloc();
+    let once = format!(in alloc; "{GET}step 0\nstep 0\nstep 0\n")?;
+    let lines = format!(in alloc; "step 0\n{once}{once}step 0\n{once}end\n")?;
+    let page = format!(in alloc;
+        "begin 0 0000000000000000\nfetch 0 object 0000000000000000\n{FOUND_NONE}"
+    )?;
+    let report = format!(in alloc;
+        "zope report 1\nopen 0000000000000000 0\nidle 0\n{page}{page}idle 0\n{page}history 0\nend\n"
+    )?;
+    assert!(rt; ends(alloc, lines.as_str(), 0, report.as_str())?);
+    Ok(())
+}
+
+#[test]
+fn an_end_cuts_a_request_off(rt: HostRuntime) -> Result<(), Fail> {
+    let alloc = rt.alloc();
+    for (steps, printed) in [
+        ("", ""),
+        ("step 0\n", "begin 0 0000000000000000\n"),
+        (
+            "step 0\nstep 0\n",
+            "begin 0 0000000000000000\nfetch 0 object 0000000000000000\n",
+        ),
+    ] {
+        let lines = format!(in alloc; "{GET}{steps}end\n")?;
+        let report = format!(in alloc;
+            "zope report 1\nopen 0000000000000000 0\n{printed}lost 0\nhistory 0\nend\n"
+        )?;
+        assert!(rt; ends(alloc, lines.as_str(), 0, report.as_str())?, "{steps}");
+    }
+    let report = "zope report 1\nopen 0000000000000000 0\nhistory 0\nend\n";
+    assert!(rt; ends(alloc, "end\n", 0, report)?);
+    Ok(())
+}
+
+#[test]
+fn a_line_that_is_no_schedule_prints_no_report(rt: HostRuntime) -> Result<(), Fail> {
+    let alloc = rt.alloc();
+    for (lines, why) in [
+        ("", "bad line 2\n"),
+        ("step 1\nend\n", "bad line 2\n"),
+        ("step 0\nclock 0331620000000000\nend\n", "bad line 3\n"),
+        ("end\nstep 0\n", "bad line 3\n"),
+    ] {
+        assert!(rt; ends(alloc, lines, 4, why)?, "{lines}");
+    }
+    Ok(())
+}
+
+#[test]
+fn a_line_that_cannot_run_keeps_what_was_printed(rt: HostRuntime) -> Result<(), Fail> {
+    let alloc = rt.alloc();
+    for (lines, printed, line) in [
+        ("request 0 3\nGET\nend\n", "", 2),
+        ("request 0 19\nGET / HTTP/1.0\r\n\r\n\n\nend\n", "", 2),
+        ("step 0\nrequest 0 0\n\nend\n", "idle 0\n", 3),
+    ] {
+        let report = format!(in alloc;
+            "zope report 1\nopen 0000000000000000 0\n{printed}bad line {line}\n"
+        )?;
+        assert!(rt; ends(alloc, lines, 4, report.as_str())?, "{lines}");
+    }
+    let lines = format!(in alloc; "{GET}step 0\n{GET}end\n")?;
+    let report = "zope report 1\nopen 0000000000000000 0\nbegin 0 0000000000000000\nbad line 4\n";
+    assert!(rt; ends(alloc, lines.as_str(), 4, report)?);
+    Ok(())
+}
+
+const SCHEDULE: &str = "zope schedule 1\nstep 0\nend\n";
+
+const REPORT: &str = "zope report 1\nopen 0000000000000000 0\nidle 0\nhistory 0\nend\n";
+
+/// Whether a start ends with this status and this output.
+fn comes_to(alloc: Global, start: &Start<'_>, status: u8, output: &str) -> Result<bool, Memory> {
+    let (ended, sink) = ran(alloc, start)?;
+    Ok(ended == Status(status) && sink.bytes() == output.as_bytes())
+}
+
+#[test]
+fn other_words_are_usage(rt: HostRuntime) -> Result<(), Fail> {
+    for words in [
+        [].as_slice(),
+        ["replay"].as_slice(),
+        ["replay", "empty.fs", "empty.fs"].as_slice(),
+        ["Replay", "empty.fs"].as_slice(),
+        ["serve", "empty.fs"].as_slice(),
+    ] {
+        let start = Start {
+            words,
+            file: "FS21",
+            input: SCHEDULE,
+            failing: NONE,
+        };
+        assert!(rt; comes_to(rt.alloc(), &start, 2, "usage\n")?);
+    }
+    Ok(())
+}
+
+#[test]
+fn other_files_are_refused(rt: HostRuntime) -> Result<(), Fail> {
+    for (word, file, status, output) in [
+        ("empty.fs", "FS21", 0, REPORT),
+        ("other.fs", "FS21", 8, "missing other.fs\n"),
+        ("empty.fs", "", 3, "damaged 9 at 0\n"),
+        ("empty.fs", "FS2", 3, "damaged 9 at 0\n"),
+        ("empty.fs", "FS30", 3, "damaged 9 at 0\n"),
+        ("empty.fs", "FS21 ", 1, "not yet\n"),
+    ] {
+        let start = Start {
+            words: &["replay", word],
+            file,
+            input: SCHEDULE,
+            failing: NONE,
+        };
+        assert!(rt;
+            comes_to(rt.alloc(), &start, status, output)?,
+            "{word} {file}"
+        );
+    }
+    Ok(())
+}
+
+#[test]
+fn a_bad_schedule_comes_before_a_missing_file(rt: HostRuntime) -> Result<(), Fail> {
+    let start = Start {
+        words: &["replay", "other.fs"],
+        file: "FS21",
+        input: "zope schedule 2\n",
+        failing: NONE,
+    };
+    assert!(rt; comes_to(rt.alloc(), &start, 4, "bad line 1\n")?);
+    Ok(())
+}
+
+#[test]
+fn a_fault_of_the_outside_has_its_status(rt: HostRuntime) -> Result<(), Fail> {
+    for (failing, status, output) in [
+        (Failing { opening: 1, ..NONE }, 5, "disk fault\n"),
+        (Failing { disk: 1, ..NONE }, 5, "disk fault\n"),
+        (Failing { disk: 2, ..NONE }, 5, "disk fault\n"),
+        (Failing { disk: 3, ..NONE }, 0, REPORT),
+        (Failing { input: 1, ..NONE }, 6, "input fault\n"),
+        (Failing { input: 2, ..NONE }, 6, "input fault\n"),
+        (Failing { output: 1, ..NONE }, 6, ""),
+        (Failing { output: 2, ..NONE }, 6, "zope report 1\n"),
+        (
+            Failing { output: 5, ..NONE },
+            6,
+            "zope report 1\nopen 0000000000000000 0\nidle 0\nhistory 0\n",
+        ),
+        (Failing { output: 6, ..NONE }, 0, REPORT),
+    ] {
+        let start = Start {
+            words: WORDS,
+            file: "FS21",
+            input: SCHEDULE,
+            failing,
+        };
+        assert!(rt;
+            comes_to(rt.alloc(), &start, status, output)?,
+            "{status} {output}"
+        );
+    }
+    Ok(())
+}
+
+#[test]
+fn a_sink_that_fails_at_the_last_line_is_status_six(rt: HostRuntime) -> Result<(), Fail> {
+    let start = Start {
+        words: &["replay"],
+        file: "FS21",
+        input: SCHEDULE,
+        failing: Failing { output: 1, ..NONE },
+    };
+    assert!(rt; comes_to(rt.alloc(), &start, 6, "")?);
+    Ok(())
+}
+
+/// The site, but for memory: each of its evaluations finds none.
+#[derive(Drop)]
+struct Starved {
+    site: Site,
+}
+
+impl Evaluator for Starved {
+    type Request = Message;
+
+    type State = ();
+
+    ghost takes = { message_of };
+
+    ghost meaning = { page };
+
+    ghost fits = { λ _ _ _. Unit {0} };
+
+    fn take(&self, bytes: &[u8]) -> Result<Option<Message>, Memory> {
+        self.site.take(bytes)
+    }
+
+    fn fresh(&self) {}
+
+    fn eval(
+        &mut self,
+        _state: &mut (),
+        _known: &Facts,
+        _request: &Message,
+    ) -> Result<Outcome, Memory> {
+        Err(Memory)
+    }
+
+    ghost lawful = { site_is_lawful };
+
+    ghost few_asks = { site_asks_once };
+
+    ghost changes = { site_changes_nothing };
+
+    ghost replies = { site_replies };
+}
+
+#[test]
+fn want_of_memory_in_a_step_ends_the_request_alone(rt: HostRuntime) -> Result<(), Fail> {
+    let alloc = rt.alloc();
+    let input = format!(in alloc;
+        "zope schedule 1\n{GET}step 0\nstep 0\nstep 0\n{GET}step 0\nend\n"
+    )?;
+    let items = read_schedule(alloc, input.as_bytes())?;
+    let starved = Starved {
+        site: Site::new(alloc),
+    };
+    let mut sink = MemorySink::new(alloc, FaultPlan::none(alloc));
+    assert_eq!(rt; replay(alloc, items.as_slice(), starved, &mut sink), Ok(()));
+    let report =
+        "zope report 1\nopen 0000000000000000 0\nbegin 0 0000000000000000\nmemory 0\nreply 0 none 151\nHTTP/1.1 503 Service Unavailable\r\nContent-Type: text/plain; charset=utf-8\r\nContent-Length: 14\r\nX-Transaction: none\r\nConnection: close\r\n\r\nout of memory\n\nidle 0\nbegin 0 0000000000000000\nlost 0\nhistory 0\nend\n";
+    assert_eq!(rt; sink.bytes(), report.as_bytes());
+    Ok(())
+}
+
+fn reply(alloc: Global, status: u16, kind: Kind, head_only: bool) -> Result<Reply, Memory>
+    ensures { IfOk result (λ reply. reply.status ≡ status) }
+{
+    Ok(Reply {
+        status,
+        kind,
+        head_only,
+        body: Text::from_str(alloc, "body")?,
+        shown: ShownList::new(alloc),
+        denied: None,
+    })
+}
+
+#[test]
+fn replies_are_printed(rt: HostRuntime) -> Result<(), Fail> {
+    let alloc = rt.alloc();
+    let page = reply(alloc, 200, Kind::Html, false)?;
+    assert_eq!(rt;
+        reply_bytes(alloc, &page, Mark::Commit(Tid(16)))?.as_slice(),
+        b"HTTP/1.1 200 OK\r\nContent-Type: text/html; charset=utf-8\r\nContent-Length: 4\r\nX-Transaction: commit 0000000000000010\r\nConnection: close\r\n\r\nbody".as_slice()
+    );
+    let head = reply(alloc, 401, Kind::Plain, true)?;
+    assert_eq!(rt;
+        reply_bytes(alloc, &head, Mark::Empty)?.as_slice(),
+        b"HTTP/1.1 401 Unauthorized\r\nWWW-Authenticate: basic realm=\"Zope\"\r\nContent-Type: text/plain; charset=utf-8\r\nContent-Length: 4\r\nX-Transaction: none\r\nConnection: close\r\n\r\n".as_slice()
+    );
+    Ok(())
+}
+
+#[test]
+fn statuses_have_their_phrases(rt: HostRuntime) -> Result<(), Fail> {
+    for (status, line) in [
+        (200, "HTTP/1.1 200 OK\r\n"),
+        (400, "HTTP/1.1 400 Bad Request\r\n"),
+        (401, "HTTP/1.1 401 Unauthorized\r\n"),
+        (404, "HTTP/1.1 404 Not Found\r\n"),
+        (411, "HTTP/1.1 411 Length Required\r\n"),
+        (413, "HTTP/1.1 413 Payload Too Large\r\n"),
+        (414, "HTTP/1.1 414 URI Too Long\r\n"),
+        (415, "HTTP/1.1 415 Unsupported Media Type\r\n"),
+        (431, "HTTP/1.1 431 Request Header Fields Too Large\r\n"),
+        (500, "HTTP/1.1 500 Internal Server Error\r\n"),
+        (501, "HTTP/1.1 501 Not Implemented\r\n"),
+        (503, "HTTP/1.1 503 Service Unavailable\r\n"),
+    ] {
+        let reply = reply(rt.alloc(), status, Kind::Plain, false)?;
+        let bytes = reply_bytes(rt.alloc(), &reply, Mark::Empty)?;
+        assert!(rt; bytes.as_slice().starts_with(line.as_bytes()), "{line}");
+    }
+    Ok(())
+}
