@@ -1,5 +1,5 @@
 -- The evaluator of cells keeps the laws of an evaluator.
-use Rattle.std.proofs.Common.{◌≡◌, ℕ, ◌==◌, Bool, true, false, cond, List, [], ◌∷◌, Option, Some, None, refl, sym, ap, ◌∙◌, subst, filter, eqb-true}
+use Rattle.std.proofs.Common.{◌≡◌, ℕ, List, Option, Some, None, refl, sym, ap, ◌∙◌, subst, filter}
 use Rattle.evaluator.specs.declared.cells.CellRequest.{CellRequest}
 use Rattle.evaluator.specs.declared.ask.Ask.{Ask}
 use Rattle.evaluator.specs.declared.fact.Fact.{Fact}

@@ -1,5 +1,5 @@
 -- The rules of a change and of a reply.
-use Rattle.std.specs.Prelude.{ℕ, ◌≡◌, ◌+◌, ◌<◌, ◌≤◌, ◌⊎◌, ◌≢◌, ◌==◌, ◌&&◌, Bool, true, false, List, [], ◌∷◌, length, map, count_by, AllPairs, Contains, Option, Some, IfSome}
+use Rattle.std.specs.Prelude.{ℕ, ◌≡◌, ◌+◌, ◌<◌, ◌≤◌, ◌⊎◌, ◌≢◌, ◌==◌, Bool, true, false, List, [], ◌∷◌, length, map, count_by, AllPairs, Contains, Option, Some, IfSome}
 use Rattle.std.specs.List.{AllByRecursion, list_any}
 use Rattle.evaluator.specs.declared.ask.Ask.{Ask}
 use Rattle.evaluator.specs.declared.draft.Draft.{Draft}
@@ -8,9 +8,7 @@ use Rattle.evaluator.specs.declared.draft.Hole.{Hole}
 use Rattle.evaluator.specs.declared.draft.Name.{Name}
 use Rattle.evaluator.specs.declared.fact.Fact.{Fact}
 use Rattle.evaluator.specs.declared.fact.Part.{Part}
-use Rattle.evaluator.specs.declared.reply.Denial.{Denial}
 use Rattle.evaluator.specs.declared.reply.Reply.{Reply}
-use Rattle.evaluator.specs.declared.reply.Shown.{Shown}
 
 -- the object that an entry is about
 abbrev pub named : Entry → Name

@@ -1,29 +1,14 @@
 -- What holds at every moment of a run, and stays true as requests, votes and stops come.
-use Rattle.std.proofs.Common.{◌≡◌, ◌≢◌, ℕ, zero, suc, ◌+◌, ◌<◌, ◌≤◌, ◌==◌, ◌&&◌, Bool, true, false, cond, List, [], ◌∷◌, ◌++◌, Option, Some, None, refl, sym, ap, ◌∙◌, subst, arith, inl, inr, length, replicate, slice_get, slice_set, nat_lt, le_trans, eqb-true}
-use Rattle.std.proofs.lemmas.Bool.Decides.{nat_tests}
-use Rattle.std.specs.List.{AllByRecursion}
-use Rattle.evaluator.specs.declared.ask.Ask.{Ask}
-use Rattle.evaluator.specs.declared.fact.Fact.{Fact}
+use Rattle.std.proofs.Common.{◌≡◌, ◌≢◌, ℕ, zero, suc, ◌<◌, ◌≤◌, List, [], ◌∷◌, Option, Some, None, refl, sym, ap, ◌∙◌, subst, replicate, slice_get, slice_set, le_trans}
 use Rattle.evaluator.specs.declared.outcome.Outcome.{Outcome}
-use Rattle.evaluator.specs.declared.reply.Reply.{Reply}
 use Rattle.evaluator.specs.declared.draft.Draft.{Draft}
 use Rattle.zbase.specs.History.{History, IsHistory, added, IsPrefixOf}
-use Rattle.zbase.specs.Values.{last, next, upto, before}
-use Rattle.evaluator.specs.Facts.{fact, ask_of, look, TrueOf}
-use Rattle.evaluator.specs.Exec.{exec, IsDecided, IsLawful}
+use Rattle.zbase.specs.Values.{last, upto}
+use Rattle.evaluator.specs.Facts.{look, TrueOf}
+use Rattle.evaluator.specs.Exec.{exec}
 use Rattle.evaluator.specs.Settle.{settle}
-use Rattle.evaluator.specs.Change.{made}
-use Rattle.zbase.specs.declared.ids.Clash.{Clash}
-use Rattle.schedule.specs.declared.item.Item2.{Item2}
-use Rattle.schedule.specs.declared.line.Line.{Line}
-use Rattle.schedule.specs.Moments.{Terms, Attempt, Doing, Free, Waiting, Asking, Computed, Vote, Moment, start, doing, turned, dropped, stood, emptied, clocked, lost_lines}
-use Rattle.schedule.specs.Causes.{fault_reply, memory_reply, unknown_reply}
-use Rattle.schedule.specs.Stepping.{Told, max_u64, ended, first_clash, vote_tid, need, votes, conflicts, validated, commits, from_computed, from_asking, from_doing, Trouble, Wants_memory, Disk_fails, Is_unknown, Is_stopped, has_request, held_by, settled, restarted, fails, troubled, Steps}
-use Rattle.schedule.specs.Courses.{Happens, Place, Course, items_of, request_of, worker_of}
-use Rattle.schedule.specs.Right.{IsCommitted, RightReply, RightGrowth, IsRight, AreRight}
-use Rattle.schedule.specs.Explained.{report, Explains}
-use Rattle.zbase.specs.HistoryLaws.{prefix_refl, prefix_trans, prefix_added, added_history, upto_stays, upto_is_prefix, last_grows, before_next, transaction_next}
-use Rattle.schedule.proofs.Serial.{change_stands}
+use Rattle.schedule.specs.Moments.{Terms, Attempt, Doing, Free, Waiting, Asking, Computed, Vote, Moment, start, doing, turned, dropped, stood, emptied, clocked}
+use Rattle.zbase.specs.HistoryLaws.{prefix_added, added_history, upto_stays, last_grows}
 
 -- an attempt rests on a part of the history, and its facts are true there
 pub record Rooted {R : Type 0} (h : History) (a : Attempt R) : Type 0 where

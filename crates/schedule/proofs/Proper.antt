@@ -1,7 +1,6 @@
 -- Each arm of the table, and each trouble, leaves a good moment, and what it printed is right.
-use Rattle.std.proofs.Common.{◌≡◌, ◌≢◌, ℕ, zero, suc, ◌+◌, ◌<◌, ◌≤◌, ◌==◌, ◌&&◌, Bool, true, false, cond, List, [], ◌∷◌, ◌++◌, Option, Some, None, refl, sym, ap, ◌∙◌, subst, arith, inl, inr, length, replicate, slice_get, slice_set, nat_lt, le_trans, eqb-true}
+use Rattle.std.proofs.Common.{◌≡◌, ℕ, ◌+◌, ◌<◌, ◌==◌, ◌&&◌, Bool, true, false, cond, List, [], ◌∷◌, ◌++◌, Option, Some, None, refl, sym, ap, ◌∙◌, subst, arith, inl, inr, length, nat_lt, eqb-true}
 use Rattle.std.proofs.lemmas.Bool.Decides.{nat_tests}
-use Rattle.std.specs.List.{AllByRecursion}
 use Rattle.evaluator.specs.declared.ask.Ask.{Ask}
 use Rattle.evaluator.specs.declared.fact.Fact.{Fact}
 use Rattle.evaluator.specs.declared.outcome.Outcome.{Outcome}
@@ -16,15 +15,14 @@ use Rattle.evaluator.specs.Change.{made}
 use Rattle.zbase.specs.declared.ids.Clash.{Clash}
 use Rattle.schedule.specs.declared.item.Item2.{Item2}
 use Rattle.schedule.specs.declared.line.Line.{Line}
-use Rattle.schedule.specs.Moments.{Terms, Attempt, Doing, Free, Waiting, Asking, Computed, Vote, Moment, start, doing, turned, dropped, stood, emptied, clocked, lost_lines}
+use Rattle.schedule.specs.Moments.{Terms, Attempt, Doing, Free, Waiting, Asking, Computed, Vote, Moment, doing, turned, stood, clocked, lost_lines}
 use Rattle.schedule.specs.Causes.{fault_reply, memory_reply, unknown_reply}
 use Rattle.schedule.specs.Stepping.{Told, max_u64, ended, first_clash, vote_tid, need, votes, conflicts, validated, commits, from_computed, from_asking, from_doing, Trouble, Wants_memory, Disk_fails, Is_unknown, Is_stopped, has_request, held_by, settled, restarted, fails, troubled, Steps}
-use Rattle.schedule.specs.Courses.{Happens, Place, Course, items_of, request_of, worker_of}
-use Rattle.schedule.specs.Right.{IsCommitted, RightReply, RightGrowth, IsRight, AreRight}
-use Rattle.schedule.specs.Explained.{report, Explains}
-use Rattle.zbase.specs.HistoryLaws.{prefix_refl, prefix_trans, prefix_added, added_history, upto_stays, upto_is_prefix, last_grows, before_next, transaction_next}
+use Rattle.schedule.specs.Courses.{Happens, request_of, worker_of}
+use Rattle.schedule.specs.Right.{IsCommitted, RightReply, RightGrowth}
+use Rattle.zbase.specs.HistoryLaws.{prefix_refl, prefix_added, upto_stays, upto_is_prefix, before_next, transaction_next}
 use Rattle.schedule.proofs.Serial.{change_stands}
-use Rattle.schedule.proofs.Good.{Rooted, Sound, VoteIsRight, SoundVote, Good, set_all, set_other, all_free, rooted_longer, sound_longer, NotHolder, no_vote, the_vote, IsComputed, not_holder, good_turned, good_dropped, good_stood, good_emptied, good_clocked, good_start}
+use Rattle.schedule.proofs.Good.{Rooted, Sound, Good, NotHolder, no_vote, the_vote, not_holder, good_turned, good_dropped, good_stood, good_emptied, good_clocked}
 
 -- what a step leaves, and what it printed, are right by every history that goes on from there
 pub record Proper {R : Type 0} (terms : Terms R) (old : Moment R) (q : Option R) (r : Told R) : Type 0 where

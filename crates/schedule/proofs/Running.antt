@@ -1,31 +1,15 @@
 -- Every course of moments is right by the history in which it ends, and by each longer one.
-use Rattle.std.proofs.Common.{◌≡◌, ◌≢◌, ℕ, zero, suc, ◌+◌, ◌<◌, ◌≤◌, ◌==◌, ◌&&◌, Bool, true, false, cond, List, [], ◌∷◌, ◌++◌, Option, Some, None, refl, sym, ap, ◌∙◌, subst, arith, inl, inr, length, replicate, slice_get, slice_set, nat_lt, le_trans, eqb-true}
-use Rattle.std.proofs.lemmas.Bool.Decides.{nat_tests}
+use Rattle.std.proofs.Common.{List, [], ◌∷◌, refl, sym, subst}
 use Rattle.std.specs.List.{AllByRecursion}
-use Rattle.evaluator.specs.declared.ask.Ask.{Ask}
-use Rattle.evaluator.specs.declared.fact.Fact.{Fact}
-use Rattle.evaluator.specs.declared.outcome.Outcome.{Outcome}
-use Rattle.evaluator.specs.declared.reply.Reply.{Reply}
-use Rattle.evaluator.specs.declared.draft.Draft.{Draft}
-use Rattle.zbase.specs.History.{History, IsHistory, added, IsPrefixOf}
-use Rattle.zbase.specs.Values.{last, next, upto, before}
-use Rattle.evaluator.specs.Facts.{fact, ask_of, look, TrueOf}
-use Rattle.evaluator.specs.Exec.{exec, IsDecided, IsLawful}
-use Rattle.evaluator.specs.Settle.{settle}
-use Rattle.evaluator.specs.Change.{made}
-use Rattle.zbase.specs.declared.ids.Clash.{Clash}
-use Rattle.schedule.specs.declared.item.Item2.{Item2}
-use Rattle.schedule.specs.declared.line.Line.{Line}
-use Rattle.schedule.specs.Moments.{Terms, Attempt, Doing, Free, Waiting, Asking, Computed, Vote, Moment, start, doing, turned, dropped, stood, emptied, clocked, lost_lines}
-use Rattle.schedule.specs.Causes.{fault_reply, memory_reply, unknown_reply}
-use Rattle.schedule.specs.Stepping.{Told, max_u64, ended, first_clash, vote_tid, need, votes, conflicts, validated, commits, from_computed, from_asking, from_doing, Trouble, Wants_memory, Disk_fails, Is_unknown, Is_stopped, has_request, held_by, settled, restarted, fails, troubled, Steps}
-use Rattle.schedule.specs.Courses.{Happens, Place, Course, items_of, request_of, worker_of}
-use Rattle.schedule.specs.Right.{IsCommitted, RightReply, RightGrowth, IsRight, AreRight}
+use Rattle.zbase.specs.History.{History, IsHistory, IsPrefixOf}
+use Rattle.evaluator.specs.Exec.{IsLawful}
+use Rattle.schedule.specs.Moments.{Terms, Moment, start}
+use Rattle.schedule.specs.Courses.{Place, Course, items_of}
+use Rattle.schedule.specs.Right.{IsRight, AreRight}
 use Rattle.schedule.specs.Explained.{report, Explains}
-use Rattle.zbase.specs.HistoryLaws.{prefix_refl, prefix_trans, prefix_added, added_history, upto_stays, upto_is_prefix, last_grows, before_next, transaction_next}
-use Rattle.schedule.proofs.Serial.{change_stands}
-use Rattle.schedule.proofs.Good.{Rooted, Sound, VoteIsRight, SoundVote, Good, set_all, set_other, all_free, rooted_longer, sound_longer, NotHolder, no_vote, the_vote, IsComputed, not_holder, good_turned, good_dropped, good_stood, good_emptied, good_clocked, good_start}
-use Rattle.schedule.proofs.Proper.{Proper, proper_happens}
+use Rattle.zbase.specs.HistoryLaws.{prefix_refl, prefix_trans}
+use Rattle.schedule.proofs.Good.{Good, good_start}
+use Rattle.schedule.proofs.Proper.{proper_happens}
 
 -- The run law: a course is right by the history in which it ends and by every one that goes on from there.
 pub record Runs {R : Type 0} (terms : Terms R) (old : Moment R) (ps : List (Place R)) (new : Moment R) : Type 0 where

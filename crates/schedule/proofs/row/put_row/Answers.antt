@@ -1,7 +1,7 @@
 use Rattle.std.proofs.Common.{◌++◌, ◌∙◌, ap, append_assoc, map}
 use Rattle.schedule.specs.Fields.{field_text}
 use Rattle.schedule.specs.Rows.{rest_of_row}
-use Rattle.schedule.proofs.RowSteps.{row_step, row_ends}
+use Rattle.schedule.proofs.RowSteps.{row_step}
 use Rattle.schedule.proofs.row.put_row.Goals as goal
 
 pub loop-field-init : goal.loop-field-init
