@@ -1,5 +1,5 @@
 -- The first worker alone: where a run starts, what it loses, and each arm of its steps.
-use Rattle.std.proofs.Common.{◌≡◌, ℕ, ◌++◌, List, [], ◌∷◌, Option, None, Some, refl, sym, ap, ◌∙◌, inl, inr}
+use Rattle.std.proofs.Common.{◌≡◌, ℕ, ◌++◌, List, [], ◌∷◌, Option, None, refl, ap, ◌∙◌, inl, inr}
 use Rattle.std.specs.List.{enumerate_from, filter_map}
 use Rattle.zbase.specs.History.{empty_history}
 use Rattle.evaluator.specs.declared.ask.Ask.{Ask}
@@ -8,9 +8,8 @@ use Rattle.evaluator.specs.declared.outcome.Outcome.{Outcome}
 use Rattle.evaluator.specs.declared.reply.Reply.{Reply}
 use Rattle.evaluator.specs.Exec.{Eval}
 use Rattle.evaluator.specs.Facts.{fact, look}
-use Rattle.schedule.specs.declared.line.Line.{Line}
-use Rattle.schedule.specs.Moments.{Terms, Attempt, Doing, Free, Asking, Moment, start, lost_line}
-use Rattle.schedule.specs.Stepping.{Told, told, from_asking, Wants_memory, Steps}
+use Rattle.schedule.specs.Moments.{Terms, Attempt, Free, Asking, start, lost_line}
+use Rattle.schedule.specs.Stepping.{from_asking, Wants_memory, Steps}
 use Rattle.zope.specs.declared.step_line.StepLine.{StepLine}
 use Rattle.zope.specs.Alone.{others, alone, attempt, step_lines}
 use Rattle.zope.specs.Printed.{terms_of}

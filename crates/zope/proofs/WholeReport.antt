@@ -1,12 +1,12 @@
 -- What the loop kept, with the lines before and behind it, is a report that the schedule may have.
-use Rattle.std.proofs.Common.{◌≡◌, ℕ, List, [], ◌∷◌, ◌++◌, Option, Some, refl, sym, ap, ◌∙◌, subst, append_assoc, IsSome}
+use Rattle.std.proofs.Common.{◌≡◌, ℕ, List, [], ◌∷◌, ◌++◌, Option, refl, sym, ap, ◌∙◌, subst, append_assoc, IsSome}
 use Rattle.zbase.specs.History.{History, IsHistory, empty_history}
 use Rattle.evaluator.specs.Exec.{Eval, IsLawful}
 use Rattle.schedule.specs.declared.item.Item2.{Item2}
 use Rattle.schedule.specs.declared.line.Line.{Line}
 use Rattle.schedule.specs.Armed.{Queue, IsArmed}
 use Rattle.schedule.specs.CourseLaws.{RanCalm}
-use Rattle.schedule.specs.Courses.{Place, Course, items_of, lines_of}
+use Rattle.schedule.specs.Courses.{Place, Course, items_of}
 use Rattle.schedule.specs.Explained.{history_lines, report, Explained}
 use Rattle.schedule.specs.Moments.{Terms, Doing, Free, Moment, start, lost_lines}
 use Rattle.zope.specs.Alone.{alone}

@@ -1,7 +1,7 @@
 -- A reply as bytes: the head of HTTP/1.1 and the body.
 --
 -- RFC 9112, "Message Format"; RFC 9110, "Status Codes".
-use Rattle.std.specs.Prelude.{ℕ, ◌≡◌, ◌==◌, Bool, true, false, List, [], ◌∷◌, ◌++◌, length, if◌then◌else◌, codes, decimal}
+use Rattle.std.specs.Prelude.{ℕ, ◌≡◌, ◌==◌, true, List, [], ◌∷◌, ◌++◌, length, if◌then◌else◌, codes, decimal}
 use Rattle.std.specs.List.{list_any}
 use Rattle.zbase.specs.Hex.{hex16_text}
 use Rattle.evaluator.specs.declared.reply.Kind.{Kind}

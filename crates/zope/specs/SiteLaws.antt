@@ -1,5 +1,5 @@
 -- The site of the first path keeps the laws of an evaluator.
-use Rattle.std.proofs.Common.{◌≡◌, ℕ, ◌≤◌, List, [], ◌∷◌, ◌++◌, Option, None, Some, refl, sym, ap, ◌∙◌, subst, filter, length, arith, lit≤, codes}
+use Rattle.std.proofs.Common.{◌≡◌, ℕ, ◌≤◌, List, [], ◌∷◌, Option, None, Some, refl, sym, ap, ◌∙◌, subst, filter, length, arith, lit≤, codes}
 use Rattle.zbase.specs.History.{History}
 use Rattle.evaluator.specs.declared.ask.Ask.{Ask}
 use Rattle.evaluator.specs.declared.draft.Draft.{Draft}

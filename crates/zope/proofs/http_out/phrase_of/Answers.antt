@@ -1,4 +1,4 @@
-use Rattle.std.proofs.Common.{◌≡◌, ◌∙◌, [], ap, unwrap_or}
+use Rattle.std.proofs.Common.{◌∙◌, [], ap, unwrap_or}
 use Rattle.http.specs.StatusCode.{reason_phrase}
 use Rattle.zope.proofs.Phrases.{is_phrase, unwrap_or-through}
 use Rattle.zope.proofs.http_out.phrase_of.Goals as goal

@@ -1,4 +1,4 @@
-use Rattle.std.proofs.Common.{◌∷◌, ◌++◌, List}
+use Rattle.std.proofs.Common.{◌∷◌, ◌++◌}
 use Rattle.std.proofs.lemmas.List.{take_all}
 use Rattle.zbase.specs.Faults.{counts_as, counts_then}
 use Rattle.schedule.specs.declared.line.Line.{Line}

@@ -1,6 +1,5 @@
 use Rattle.std.proofs.Common.{List, ◌∷◌, take}
 use Rattle.zbase.specs.Faults.{Counts}
-use Rattle.zbase.specs.History.{empty_history}
 use Rattle.schedule.specs.declared.line.Line.{Line}
 use Rattle.schedule.specs.CourseLaws.{RanCalm}
 use Rattle.schedule.specs.Moments.{Free}
