@@ -1,0 +1,5 @@
+pub mod NumbersAt
+pub mod HeadFields
+pub mod Growing
+pub mod Ends
+pub mod Unique

@@ -1,0 +1,7 @@
+pub mod Numbers
+pub mod Spelling
+pub mod Fits
+pub mod SpellingLaws
+pub mod File
+pub mod FileLaws
+pub mod Opening

@@ -1,0 +1,18 @@
+//! Records of a storage file as bytes, and what a file is.
+//!
+//! `specs/Spelling` says how a transaction is spelled, whatever its fields say; `specs/File` which spellings make
+//! a file one behind another, and the history that it says; `specs/Opening` where a file ends: at its end, before
+//! a torn rest, or before damage.
+#![tactic(auto)]
+
+mod body;
+mod damage;
+mod heads;
+mod laws;
+mod reading;
+
+pub use body::{Body, TxnTexts};
+pub use damage::Damage;
+pub use heads::{DataHead, RecordRefusal, TxnHead};
+pub use laws::{file_is_history, one_more, one_opening, one_spelling};
+pub use reading::{read_data_head, read_txn_head};
