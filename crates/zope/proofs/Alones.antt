@@ -1,7 +1,9 @@
 -- The first worker alone: where a run starts, what it loses, and each arm of its steps.
 use Rattle.std.proofs.Common.{◌≡◌, ℕ, ◌++◌, List, [], ◌∷◌, Option, None, refl, ap, ◌∙◌, inl, inr}
 use Rattle.std.specs.List.{enumerate_from, filter_map}
-use Rattle.zbase.specs.History.{empty_history}
+use Rattle.zbase.specs.History.{IsHistory}
+use Rattle.zbase.specs.Values.{last, upto}
+use Rattle.zbase.specs.HistoryLaws.{prefix_refl, upto_prefix}
 use Rattle.evaluator.specs.declared.ask.Ask.{Ask}
 use Rattle.evaluator.specs.declared.fact.Fact.{Fact}
 use Rattle.evaluator.specs.declared.outcome.Outcome.{Outcome}
@@ -13,10 +15,11 @@ use Rattle.schedule.specs.Stepping.{from_asking, Wants_memory, Steps}
 use Rattle.zope.specs.declared.step_line.StepLine.{StepLine}
 use Rattle.zope.specs.Alone.{others, alone, attempt, step_lines}
 use Rattle.zope.specs.Printed.{terms_of}
+use Rattle.zope.specs.Stores.{Opened}
 
-pub alone_starts : {R : Type 0} (takes : List ℕ → Option R) (eval : Eval R) → start (terms_of takes eval) empty_history ≡ alone Free
+pub alone_starts : {R : Type 0} (takes : List ℕ → Option R) (eval : Eval R) (s : Opened) → start (terms_of takes eval s.end) s.history ≡ alone s Free
 unfolding others
-alone_starts takes eval = refl
+alone_starts takes eval s = refl
 
 -- the fifteen others have no request
 pub others_lose : (R : Type 0) → filter_map (lost_line {R = R}) (enumerate_from 1 others) ≡ []
@@ -24,15 +27,18 @@ unfolding others
 others_lose R = refl
 
 -- an answer
-pub reads : {R : Type 0} (terms : Terms R) (q : R) (facts : List Fact) (x : Reply) → terms.eval (look facts) q ≡ Outcome.Answer x → x.shown ≡ [] → x.denied ≡ None
-    → Steps terms (alone (Asking (attempt q facts))) 0 (step_lines terms.answer (StepLine.Read x 0)) (alone Free)
-reads terms q facts x e none all = inl (ap (from_asking terms (alone (Asking (attempt q facts))) 0 (attempt q facts)) e ∙ rw (none, all) refl)
+pub reads : {R : Type 0} (terms : Terms R) (s : Opened) (t : ℕ) (q : R) (facts : List Fact) (x : Reply) → terms.eval (look facts) q ≡ Outcome.Answer x → x.shown ≡ [] → x.denied ≡ None
+    → Steps terms (alone s (Asking (attempt q t facts))) 0 (step_lines terms.answer (StepLine.Read x t)) (alone s Free)
+reads terms s t q facts x e none all = inl (ap (from_asking terms (alone s (Asking (attempt q t facts))) 0 (attempt q t facts)) e ∙ rw (none, all) refl)
 
 -- a fact that is wanted
-pub fetches : {R : Type 0} (terms : Terms R) (q : R) (facts : List Fact) (ask : Ask) → terms.eval (look facts) q ≡ Outcome.Need ask
-    → Steps terms (alone (Asking (attempt q facts))) 0 (step_lines terms.answer (StepLine.Fetched ask)) (alone (Asking (attempt q (facts ++ fact empty_history ask ∷ []))))
-fetches terms q facts ask e = inl (ap (from_asking terms (alone (Asking (attempt q facts))) 0 (attempt q facts)) e)
+pub fetches : {R : Type 0} (terms : Terms R) (s : Opened) (t : ℕ) (q : R) (facts : List Fact) (ask : Ask) → IsHistory s.history → t ≡ last s.history → terms.eval (look facts) q ≡ Outcome.Need ask
+    → Steps terms (alone s (Asking (attempt q t facts))) 0 (step_lines terms.answer (StepLine.Fetched ask)) (alone s (Asking (attempt q t (facts ++ fact s.history ask ∷ []))))
+fetches terms s t q facts ask history at e =
+    let whole : upto s.history t ≡ s.history = ap (upto s.history) at ∙ upto_prefix (prefix_refl s.history) history in
+    inl (ap (from_asking terms (alone s (Asking (attempt q t facts))) 0 (attempt q t facts)) e
+    ∙ ap (λ h. (step_lines terms.answer (StepLine.Fetched ask), alone s (Asking (attempt q t (facts ++ fact h ask ∷ []))))) whole)
 
 -- want of memory
-pub forgets : {R : Type 0} (terms : Terms R) (a : Attempt R) → Steps terms (alone (Asking a)) 0 (step_lines terms.answer StepLine.Memory) (alone Free)
-forgets terms a = inr (Wants_memory, refl)
+pub forgets : {R : Type 0} (terms : Terms R) (s : Opened) (a : Attempt R) → Steps terms (alone s (Asking a)) 0 (step_lines terms.answer StepLine.Memory) (alone s Free)
+forgets terms s a = inr (Wants_memory, refl)

@@ -5,3 +5,4 @@ pub mod Alones
 pub mod PrintSteps
 pub mod WholeReport
 pub mod Refusals
+pub mod Newest

@@ -1,6 +1,5 @@
--- The first worker over the empty history, while the fifteen others have no request.
+-- The first worker over the opened file, while the fifteen others have no request.
 use Rattle.std.specs.Prelude.{ℕ, ◌≡◌, List, [], ◌∷◌, replicate, Option, None}
-use Rattle.zbase.specs.History.{empty_history}
 use Rattle.evaluator.specs.declared.ask.Ask.{Ask}
 use Rattle.evaluator.specs.declared.fact.Fact.{Fact}
 use Rattle.evaluator.specs.declared.outcome.Outcome.{Outcome}
@@ -9,13 +8,20 @@ use Rattle.evaluator.specs.declared.reply.Reply.{Reply}
 use Rattle.evaluator.specs.Exec.{Eval}
 use Rattle.schedule.specs.declared.line.Line.{Line}
 use Rattle.schedule.specs.Causes.{memory_reply}
-use Rattle.schedule.specs.Moments.{Attempt, Doing, Free, Moment}
+use Rattle.schedule.specs.Moments.{Attempt, Doing, Free, Waiting, Asking, Computed, Moment}
 use Rattle.zope.specs.declared.step_line.StepLine.{StepLine}
 use Rattle.zope.specs.Replies.{IsStatus}
+use Rattle.zope.specs.Stores.{Opened}
 
--- an evaluation of this stage changes nothing, shows no object and denies none
+-- an ask for an object
+abbrev pub IsOfObject : Ask → Type 0
+IsOfObject (Ask.Object o) = Unit {0}
+IsOfObject (Ask.Transaction t) = ⊥
+IsOfObject Ask.Log = ⊥
+
+-- an evaluation of this stage asks for objects, changes nothing, shows no object and denies none
 abbrev pub IsPlain : Outcome → Type 0
-IsPlain (Outcome.Need ask) = Unit {0}
+IsPlain (Outcome.Need ask) = IsOfObject ask
 IsPlain (Outcome.Answer x) = (x.shown ≡ []) × (x.denied ≡ None)
 IsPlain (Outcome.Change x d) = ⊥
 
@@ -26,16 +32,19 @@ OnlyAnswers {R} eval = (known : Ask → Option Fact) (q : R) → IsPlain (eval k
 unfoldable pub others : {R : Type 0} → List (Doing R)
 others = replicate 15 Free
 
--- the length of the file of the empty history, in bytes
-abbrev pub empty_length : ℕ
-empty_length = 4
+abbrev pub alone : {R : Type 0} → Opened → Doing R → Moment R
+alone s d = record { standing = s.history; end = s.end; clock = 0; vote = None; workers = d ∷ others }
 
-abbrev pub alone : {R : Type 0} → Doing R → Moment R
-alone d = record { standing = empty_history; end = empty_length; clock = 0; vote = None; workers = d ∷ others }
+-- a first attempt at a snapshot
+abbrev pub attempt : {R : Type 0} → R → ℕ → List Fact → Attempt R
+attempt q t facts = record { request = q; clashes = []; snapshot = t; facts = facts }
 
--- an attempt at the snapshot of the empty history
-abbrev pub attempt : {R : Type 0} → R → List Fact → Attempt R
-attempt q facts = record { request = q; clashes = []; snapshot = 0; facts = facts }
+-- an attempt under way has this snapshot
+abbrev pub IsAt : {R : Type 0} → ℕ → Doing R → Type 0
+IsAt t (Asking a) = a.snapshot ≡ t
+IsAt t Free = Unit {0}
+IsAt t (Waiting q cs) = Unit {0}
+IsAt t (Computed a x d) = Unit {0}
 
 -- the lines of a step of the first worker
 abbrev pub step_lines : (Reply → Mark → List ℕ) → StepLine → List Line

@@ -4,6 +4,7 @@ pub mod Replies
 pub mod Site
 pub mod SiteLaws
 pub mod Alone
+pub mod Stores
 pub mod Tasks
 pub mod Printed
 pub mod Replayed

@@ -5,7 +5,7 @@ use Rattle.zio.specs.Shelves.{Entry}
 use Rattle.schedule.specs.declared.item.Item2.{Item2}
 use Rattle.schedule.specs.Items.{IsSchedule}
 use Rattle.zope.specs.Printed.{terms_of, PrintsReport}
-use Rattle.zope.specs.Shelved.{HasFile, magic}
+use Rattle.zope.specs.Shelved.{HasFile, empty_length, magic}
 use Rattle.zope.specs.Site.{message_of, page}
 use Rattle.zope.specs.Words.{IsReplayOf}
 
@@ -19,4 +19,4 @@ pub record Replayed (words : List (List ℕ)) (files : Option (List Entry)) (inp
   pub items : List Item2
   pub spells : IfSome input (λ text. IsSchedule text items)
   -- the sink grew by a report that this schedule may have over the empty history
-  pub printed : PrintsReport (terms_of message_of page) empty_history items old new
+  pub printed : PrintsReport (terms_of message_of page empty_length) empty_history items old new

@@ -9,3 +9,7 @@ HasFile files name bytes = IfSome files (λ all. file_at all name ≡ Some bytes
 -- the four bytes with which a file begins; the file of the empty history has no others
 abbrev pub magic : List ℕ
 magic = codes "FS21"
+
+-- the length of the file of the empty history
+abbrev pub empty_length : ℕ
+empty_length = 4

@@ -8,6 +8,7 @@ use crate::inputs::{file_name, read_file, read_input};
 use crate::refusal::Refusal;
 use crate::running::replay;
 use crate::site::Site;
+use crate::store::Store;
 use schedule::read_schedule;
 use std::alloc::Global;
 use zio::{Shelf, Sink, Source};
@@ -49,6 +50,7 @@ pub fn replay_command<F: Shelf, S: Source, K: Sink>(
     let schedule = read_schedule(alloc, text.as_slice())?;
     let bytes = read_file(alloc, files, name)?;
     open_empty(bytes.as_slice())?;
-    replay(alloc, schedule.as_slice(), Site::new(alloc), out)?;
+    let store = Store::empty(alloc);
+    replay(alloc, &store, schedule.as_slice(), Site::new(alloc), out)?;
     Ok(())
 }

@@ -3,7 +3,7 @@
 
 mod active;
 mod command;
-mod empty_store;
+mod history_out;
 mod http_out;
 mod inputs;
 mod message;
@@ -13,6 +13,7 @@ mod running;
 mod site;
 mod step_line;
 mod stepping;
+mod store;
 mod task;
 #[cfg(test)]
 mod tests;

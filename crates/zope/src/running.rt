@@ -1,17 +1,19 @@
-ghost use Rattle.std.specs.Prelude.{◌≡◌, ◌++◌, ◌∷◌, [], true, IfOk, OnOk, IsErrOf};
+ghost use Rattle.std.specs.Prelude.{◌≡◌, ◌++◌, ◌∷◌, ℕ, [], true, IfOk, OnOk, IsErrOf};
 ghost use Rattle.zbase.specs.Faults.{Counts};
-ghost use Rattle.zbase.specs.History.{empty_history};
+ghost use Rattle.zbase.specs.Values.{last};
 ghost use Rattle.schedule.specs.Courses.{Happens};
 ghost use Rattle.schedule.specs.Moments.{Terms, lost_lines};
 ghost use Rattle.schedule.specs.declared.item.Item2.{Item2};
-ghost use Rattle.zope.specs.Alone.{OnlyAnswers};
+ghost use Rattle.zope.specs.Alone.{IsAt, OnlyAnswers};
 ghost use Rattle.zope.specs.Printed.{HappensPrinted, Prints, PrintsReport, closing, terms_of};
-ghost use Rattle.zope.specs.Tasks.{moment_of};
+ghost use Rattle.zope.specs.Stores.{Opened};
+ghost use Rattle.zope.specs.Tasks.{doing_of, moment_of};
 
-use crate::empty_store::NO_TRANSACTION;
+use crate::history_out::put_history;
 use crate::printing::{put_line, put_step};
 use crate::refusal::RunRefusal;
 use crate::stepping::step;
+use crate::store::Store;
 use crate::task::Task;
 use evaluator::Evaluator;
 use schedule::{Item2, Line, runs_are_serial};
@@ -24,8 +26,9 @@ const FIRST_WORKER: u32 = 0;
 
 // Gives the first worker a request; false where it has one, or the bytes aren't one message.
 fn give<E: Evaluator>(task: &mut Task<E>, evaluator: &E, bytes: &Bytes) -> Result<bool, Memory>
-    ensures { IfOk result (λ given. given ≡ true → (terms : Terms E.Request) → terms.takes ≡ E.takes →
-        Happens terms (moment_of task.old) (Item2.Request 0 bytes.now) [] (moment_of task.new)) }
+    ensures snapshot { (t : ℕ) → IsAt t (doing_of task.old) → IsAt t (doing_of task.new) }
+    ensures given { IfOk result (λ given. given ≡ true → (s : Opened) (terms : Terms E.Request) → terms.takes ≡ E.takes →
+        Happens terms (moment_of s task.old) (Item2.Request 0 bytes.now) [] (moment_of s task.new)) }
 {
     let Task::Free = task else {
         return Ok(false);
@@ -40,14 +43,17 @@ fn give<E: Evaluator>(task: &mut Task<E>, evaluator: &E, bytes: &Bytes) -> Resul
 // Runs the item with this line number. Only the first worker's items can be run.
 fn run_item<E: Evaluator, K: Sink>(
     alloc: Global,
+    store: &Store,
     number: u64,
     item: &Item2,
     task: &mut Task<E>,
     evaluator: &mut E,
     out: &mut K,
 ) -> Result<(), RunRefusal>
-    requires { OnlyAnswers E.meaning }
-    ensures ok { OnOk result (HappensPrinted (terms_of E.takes E.meaning) (moment_of task.old) item.now (moment_of task.new) (K.written out.old) (K.written out.new)) }
+    requires only_answers { OnlyAnswers E.meaning }
+    requires snapshot { IsAt (last store.now.history) (doing_of task.old) }
+    ensures snapshot { IsAt (last store.now.history) (doing_of task.new) }
+    ensures ok { OnOk result (HappensPrinted (terms_of E.takes E.meaning store.now.end) (moment_of store.now task.old) item.now (moment_of store.now task.new) (K.written out.old) (K.written out.new)) }
     ensures counts { Counts (K.counter out.old) (K.counter out.new) (IsErrOf result RunRefusal.Output) }
 {
     match item {
@@ -65,7 +71,7 @@ fn run_item<E: Evaluator, K: Sink>(
             if *worker != FIRST_WORKER {
                 return Err(RunRefusal::BadLine(number));
             }
-            let line = step(alloc, task, evaluator);
+            let line = step(alloc, store, task, evaluator);
             put_step(alloc, &line, out)?;
             Ok(())
         }
@@ -79,7 +85,7 @@ fn put_lost<E: Evaluator, K: Sink>(
     task: &Task<E>,
     out: &mut K,
 ) -> Result<(), OutsideRefusal>
-    ensures ok { OnOk result (Prints (K.written out.old) (K.written out.new) (lost_lines (moment_of task.now))) }
+    ensures ok { (s : Opened) → OnOk result (Prints (K.written out.old) (K.written out.new) (lost_lines (moment_of s task.now))) }
     ensures counts { Counts (K.counter out.old) (K.counter out.new) (IsErrOf result OutsideRefusal.Failed) }
 {
     match task {
@@ -92,37 +98,39 @@ fn put_lost<E: Evaluator, K: Sink>(
 // Writes what closes a report.
 fn close<E: Evaluator, K: Sink>(
     alloc: Global,
+    store: &Store,
     task: &Task<E>,
     out: &mut K,
 ) -> Result<(), OutsideRefusal>
-    ensures ok { OnOk result (Prints (K.written out.old) (K.written out.new) (closing (moment_of task.now))) }
+    ensures ok { OnOk result (Prints (K.written out.old) (K.written out.new) (closing (moment_of store.now task.now))) }
     ensures counts { Counts (K.counter out.old) (K.counter out.new) (IsErrOf result OutsideRefusal.Failed) }
 {
     put_lost(alloc, task, out)?;
-    put_line(alloc, &Line::History(0), out)?;
+    put_history(alloc, store, out)?;
     put_line(alloc, &Line::End, out)
 }
 
-/// Runs a schedule of the first worker over the file of the empty history, and writes its report line by line.
+/// Runs a schedule of the first worker over an opened file, and writes its report line by line.
 pub fn replay<E: Evaluator, K: Sink>(
     alloc: Global,
+    store: &Store,
     items: &[Item2],
     mut evaluator: E,
     out: &mut K,
 ) -> Result<(), RunRefusal>
     requires { OnlyAnswers E.meaning }
-    ensures explained { OnOk result (PrintsReport (terms_of E.takes E.meaning) empty_history items.now (K.written out.old) (K.written out.new)) }
+    ensures explained { OnOk result (PrintsReport (terms_of E.takes E.meaning store.now.end) store.now.history items.now (K.written out.old) (K.written out.new)) }
     ensures counts { Counts (K.counter out.old) (K.counter out.new) (IsErrOf result RunRefusal.Output) }
 {
     put_line(alloc, &Line::Head, out)?;
-    put_line(alloc, &Line::Opened(NO_TRANSACTION, 0), out)?;
+    put_line(alloc, &Line::Opened(store.last(), store.len() as u64), out)?;
     let mut task = Task::Free;
     let mut number: u64 = 2;
     for item in items {
-        run_item(alloc, number, item, &mut task, &mut evaluator, out)?;
+        run_item(alloc, store, number, item, &mut task, &mut evaluator, out)?;
         number = number.saturating_add(1);
     }
-    close(alloc, &task, out)?;
+    close(alloc, store, &task, out)?;
     runs_are_serial::<E>();
     Ok(())
 }

@@ -2,17 +2,21 @@ ghost use Rattle.std.specs.Prelude.{◌≡◌, IfOk};
 ghost use Rattle.zope.specs.Site.{message_of, page};
 ghost use Rattle.zope.specs.SiteLaws.{site_asks_once, site_changes_nothing, site_is_lawful, site_replies};
 
+use crate::history_out::put_history;
 use crate::http_out::reply_bytes;
 use crate::message::Message;
 use crate::running::replay;
 use crate::site::Site;
+use crate::store::{Store, Transaction};
 use crate::{Status, run};
-use evaluator::{Evaluator, Facts, Kind, Mark, Outcome, Reply, ShownList};
+use evaluator::{Evaluator, Fact, Facts, Kind, Mark, Outcome, Reply, ShownList};
 use schedule::read_schedule;
 use std::alloc::Global;
 use std::test::Fail;
-use zbase::{Bytes, FaultPlan, Memory, Text, Tid};
-use zio::{MemoryClock, MemoryFile, MemoryHub, MemoryShelf, MemorySink, MemorySource};
+use zbase::{Bytes, FaultPlan, Items, Memory, Oid, Text, Tid, Value};
+use zio::{
+    MemoryClock, MemoryFile, MemoryHub, MemoryShelf, MemorySink, MemorySource, OutsideRefusal,
+};
 
 const GET: &str = "request 0 18\nGET / HTTP/1.0\r\n\r\n\n";
 
@@ -344,7 +348,16 @@ fn want_of_memory_in_a_step_ends_the_request_alone(rt: HostRuntime) -> Result<()
         site: Site::new(alloc),
     };
     let mut sink = MemorySink::new(alloc, FaultPlan::none(alloc));
-    assert_eq!(rt; replay(alloc, items.as_slice(), starved, &mut sink), Ok(()));
+    assert_eq!(rt;
+        replay(
+            alloc,
+            &Store::empty(alloc),
+            items.as_slice(),
+            starved,
+            &mut sink
+        ),
+        Ok(())
+    );
     let report =
         "zope report 1\nopen 0000000000000000 0\nbegin 0 0000000000000000\nmemory 0\nreply 0 none 151\nHTTP/1.1 503 Service Unavailable\r\nContent-Type: text/plain; charset=utf-8\r\nContent-Length: 14\r\nX-Transaction: none\r\nConnection: close\r\n\r\nout of memory\n\nidle 0\nbegin 0 0000000000000000\nlost 0\nhistory 0\nend\n";
     assert_eq!(rt; sink.bytes(), report.as_bytes());
@@ -400,5 +413,94 @@ fn statuses_have_their_phrases(rt: HostRuntime) -> Result<(), Fail> {
         let bytes = reply_bytes(rt.alloc(), &reply, Mark::Empty)?;
         assert!(rt; bytes.as_slice().starts_with(line.as_bytes()), "{line}");
     }
+    Ok(())
+}
+
+fn written(alloc: Global, oid: u64, value: &str) -> Result<(Oid, Value), Memory> {
+    Ok((Oid(oid), Some(Bytes::from_slice(alloc, value.as_bytes())?)))
+}
+
+/// A transaction of the user `jo` that writes one object.
+fn transaction(alloc: Global, tid: u64, oid: u64, value: &str) -> Result<Transaction, Memory>
+    ensures { IfOk result (λ transaction. transaction.tid ≡ tid) }
+{
+    let mut records = Items::new(alloc);
+    records.push(written(alloc, oid, value)?)?;
+    Ok(Transaction {
+        tid: Tid(tid),
+        user: Bytes::from_slice(alloc, b"jo")?,
+        description: Bytes::from_slice(alloc, value.as_bytes())?,
+        extension: Bytes::new(alloc),
+        records,
+    })
+}
+
+/// A file of three transactions: two of object 1, and one of object 2 between them.
+fn three(alloc: Global) -> Result<Store, Memory> {
+    let mut transactions = Items::new(alloc);
+    transactions.push(transaction(alloc, 5, 1, "old")?)?;
+    transactions.push(transaction(alloc, 6, 2, "else")?)?;
+    transactions.push(transaction(alloc, 9, 1, "new")?)?;
+    Ok(Store::new(transactions, 400))
+}
+
+/// Whether the object has these bytes, none where there are none of them, and this serial.
+fn has_object(store: &Store, oid: u64, bytes: &[u8], tid: u64) -> Result<bool, Memory> {
+    let Fact::Object {
+        oid: _,
+        value,
+        serial,
+    } = store.object(Oid(oid))?
+    else {
+        return Ok(false);
+    };
+    let same = match value {
+        Some(value) => value.as_slice() == bytes,
+        None => bytes.is_empty(),
+    };
+    Ok(same && serial.0 == tid)
+}
+
+#[test]
+fn the_last_revision_of_an_object_counts(rt: HostRuntime) -> Result<(), Fail> {
+    let store = three(rt.alloc())?;
+    assert!(rt; has_object(&store, 1, b"new", 9)?);
+    assert!(rt; has_object(&store, 2, b"else", 6)?);
+    assert!(rt; has_object(&store, 0, b"", 0)?);
+    assert!(rt; has_object(&Store::empty(rt.alloc()), 1, b"", 0)?);
+    Ok(())
+}
+
+#[test]
+fn a_history_is_printed_with_its_values(rt: HostRuntime) -> Result<(), Fail> {
+    let alloc = rt.alloc();
+    let store = three(alloc)?;
+    let mut sink = MemorySink::new(alloc, FaultPlan::none(alloc));
+    assert_eq!(rt; put_history(alloc, &store, &mut sink), Ok(()));
+    let text =
+        "history 3\ntransaction 0000000000000005 6a6f 6f6c64 - 1\nrecord 0000000000000001 6f6c64\ntransaction 0000000000000006 6a6f 656c7365 - 1\nrecord 0000000000000002 656c7365\ntransaction 0000000000000009 6a6f 6e6577 - 1\nrecord 0000000000000001 6e6577\n";
+    assert_eq!(rt; sink.bytes(), text.as_bytes());
+    let mut full = MemorySink::new(alloc, plan(alloc, 3)?);
+    assert_eq!(rt;
+        put_history(alloc, &store, &mut full),
+        Err(OutsideRefusal::Failed)
+    );
+    Ok(())
+}
+
+#[test]
+fn a_run_begins_at_the_last_transaction(rt: HostRuntime) -> Result<(), Fail> {
+    let alloc = rt.alloc();
+    let store = three(alloc)?;
+    let input = format!(in alloc; "zope schedule 1\n{GET}step 0\nstep 0\nend\n")?;
+    let items = read_schedule(alloc, input.as_bytes())?;
+    let mut sink = MemorySink::new(alloc, FaultPlan::none(alloc));
+    assert_eq!(rt;
+        replay(alloc, &store, items.as_slice(), Site::new(alloc), &mut sink),
+        Ok(())
+    );
+    let front =
+        b"zope report 1\nopen 0000000000000009 3\nbegin 0 0000000000000009\nfetch 0 object 0000000000000000\nlost 0\nhistory 3\n";
+    assert!(rt; sink.bytes().starts_with(front));
     Ok(())
 }

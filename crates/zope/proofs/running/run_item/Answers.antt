@@ -9,8 +9,18 @@ use Rattle.zope.proofs.running.run_item.Goals as goal
 
 pub returns-in-Ok-true-clause-ok : goal.returns-in-Ok-true-clause-ok
 returns-in-Ok-true-clause-ok g c =
-    let terms = terms_of g.E.Evaluator.takes g.E.Evaluator.meaning in
+    let store = c.args.store.now in
+    let terms = terms_of g.E.Evaluator.takes g.E.Evaluator.meaning store.end in
     let bytes = c.in-Request.bytes in
     let item : c.args.item.now ≡ Item2.Request 0 bytes = c.in-Request.is ∙ ap (λ w. Item2.Request w bytes) c.if-worker-ne-FIRST_WORKER.false in
-    let given = c.in-Ok-true.ensures c.in-Ok-true.field-0-test terms refl in
-    ([], subst (λ i. Happens terms (moment_of c.args.task.now) i [] (moment_of c.give.new.task)) (sym item) given, subst (λ i. IsCalm i []) (sym item) refl, prints_none _)
+    let given = c.in-Ok-true.ensures.given c.in-Ok-true.field-0-test store terms refl in
+    ([], subst (λ i. Happens terms (moment_of store c.args.task.now) i [] (moment_of store c.give.new.task)) (sym item) given, subst (λ i. IsCalm i []) (sym item) refl, prints_none _)
+
+pub returns-in-Ok-true-clause-snapshot : goal.returns-in-Ok-true-clause-snapshot
+returns-in-Ok-true-clause-snapshot g c = c.give.ensures.snapshot _ c.requires.snapshot
+
+pub returns-in-Ok-false-clause-snapshot : goal.returns-in-Ok-false-clause-snapshot
+returns-in-Ok-false-clause-snapshot g c = c.give.ensures.snapshot _ c.requires.snapshot
+
+pub returns-in-Err-clause-snapshot : goal.returns-in-Err-clause-snapshot
+returns-in-Err-clause-snapshot g c = c.give.ensures.snapshot _ c.requires.snapshot

@@ -1,0 +1,145 @@
+ghost use Rattle.std.specs.Prelude.{◌≡◌, ◌==◌, ◌∷◌, [], IfOk, MatchOption, None, Some, flat_map, length, map, option_map};
+ghost use Rattle.std.specs.Option.{option_copied};
+ghost use Rattle.zbase.specs.History.{IsHistory, empty_history};
+ghost use Rattle.zbase.specs.Values.{last, newest, revisions_of};
+ghost use Rattle.evaluator.specs.declared.ask.Ask.{Ask};
+ghost use Rattle.evaluator.specs.Facts.{fact};
+ghost use Rattle.zope.specs.Stores.{history_of, last_value, transaction_of};
+
+use evaluator::Fact;
+use std::alloc::Global;
+use std::marker::Model;
+use zbase::{Bytes, Items, Memory, Oid, Tid, Value};
+
+/// A transaction of a file, with the values that it wrote, in the file's order.
+#[derive(Debug, Drop)]
+pub struct Transaction {
+    pub tid: Tid,
+    pub user: Bytes,
+    pub description: Bytes,
+    pub extension: Bytes,
+    pub records: Items<(Oid, Value)>,
+}
+
+fn is_of(written: &(Oid, Value), oid: Oid) -> bool
+    ensures { result ≡ (written.now.0 == oid) }
+{
+    written.0.0 == oid.0
+}
+
+// The value of the object's last record.
+fn last_in(records: &[(Oid, Value)], oid: Oid) -> Option<&Value>
+    ensures { option_copied result ≡ last_value oid records.now }
+{
+    let mut found = None;
+    for written in records {
+        if is_of(written, oid) {
+            found = Some(&written.1);
+        }
+    }
+    found
+}
+
+// The value of the object's last record in all, and the id of its transaction.
+fn newest_in(transactions: &[Transaction], oid: Oid) -> Option<(&Value, Tid)>
+    ensures { MatchOption result (newest (flat_map revisions_of (map transaction_of transactions.now)) oid ≡ None) (λ f. newest (flat_map revisions_of (map transaction_of transactions.now)) oid ≡ Some (record { tid = f.1; oid = oid; value = f.0.now })) }
+{
+    let mut found = None;
+    for transaction in transactions {
+        if let Some(value) = last_in(transaction.records.as_slice(), oid) {
+            found = Some((value, transaction.tid));
+        }
+    }
+    found
+}
+
+/// The history of an opened file, from its oldest transaction, and the length of the file in bytes.
+#[derive(Drop)]
+pub struct Store {
+    transactions: Items<Transaction>,
+    end: u64,
+}
+
+impl Model for Store {
+    ghost use Rattle.zbase.specs.History.{IsHistory};
+    ghost use Rattle.zope.specs.Stores.{Opened, history_of};
+
+    ghost Value = { Opened };
+
+    ghost view = { λ store. record { history = history_of store.transactions; end = store.end } };
+
+    ghost invariant = { λ store. IsHistory (history_of store.transactions) };
+}
+
+impl Store {
+    /// The file of the empty history. Takes no memory.
+    pub fn empty(alloc: Global) -> Store
+        ensures history { result.history ≡ empty_history }
+        ensures end { result.end ≡ 4 }
+    {
+        Store::new(Items::new(alloc), 4)
+    }
+
+    /// A file of this length with these transactions, from the oldest.
+    pub fn new(transactions: Items<Transaction>, end: u64) -> Store
+        requires history { IsHistory (history_of transactions) }
+        ensures history { result.history ≡ history_of transactions }
+        ensures end { result.end ≡ end }
+    {
+        Store { transactions, end }
+    }
+
+    /// The transactions, from the oldest.
+    pub fn transactions(&self) -> &[Transaction]
+        ensures { map transaction_of result.now ≡ self.now.history.transactions }
+    {
+        self.transactions.as_slice()
+    }
+
+    /// The number of transactions.
+    pub fn len(&self) -> usize
+        ensures { result ≡ length self.now.history.transactions }
+    {
+        self.transactions.len()
+    }
+
+    /// The id of the last transaction, 0 where there is none.
+    pub fn last(&self) -> Tid
+        ensures last { result ≡ last self.now.history }
+        ensures history { IsHistory self.now.history }
+    {
+        match self.transactions.as_slice().last() {
+            Some(transaction) => transaction.tid,
+            None => Tid(0),
+        }
+    }
+
+    /// What the history answers to an ask for an object.
+    pub fn object(&self, oid: Oid) -> Result<Fact, Memory>
+        ensures fact { IfOk result (λ known. known ≡ fact self.now.history (Ask.Object oid)) }
+        ensures history { IsHistory self.now.history }
+    {
+        match newest_in(self.transactions.as_slice(), oid) {
+            None => Ok(Fact::Object {
+                oid,
+                value: None,
+                serial: Tid(0),
+            }),
+            Some((value, serial)) => Ok(Fact::Object {
+                oid,
+                value: copy_of(value)?,
+                serial,
+            }),
+        }
+    }
+}
+
+/// A second value of the same bytes.
+pub fn copy_of(value: &Value) -> Result<Value, Memory>
+    ensures { IfOk result (λ copy. copy ≡ value.now) }
+{
+    match value {
+        None => Ok(None),
+        Some(bytes) => Ok(Some(bytes.copy()?)),
+    }
+}
