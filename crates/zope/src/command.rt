@@ -1,7 +1,8 @@
-ghost use Rattle.std.specs.Prelude.{◌≡◌, ◌↔◌, OnOk, IsErrOf, map, string_bytes};
+ghost use Rattle.std.specs.Prelude.{◌≡◌, ◌↔◌, IfOk, OnOk, true, IsErrOf, map, string_bytes};
 ghost use Rattle.zbase.specs.Faults.{Counts};
 ghost use Rattle.zope.specs.Replayed.{Replayed};
-ghost use Rattle.zope.specs.Shelved.{magic};
+ghost use Rattle.fs_record.specs.File.{magic};
+ghost use Rattle.zope.specs.Stores.{Opens};
 ghost use Rattle.zope.specs.Words.{IsReplay};
 
 use crate::inputs::{file_name, read_file, read_input};
@@ -13,15 +14,22 @@ use schedule::read_schedule;
 use std::alloc::Global;
 use zio::{Shelf, Sink, Source};
 
+// Whether the bytes are those with which a file begins, and no others.
+fn is_empty_file(bytes: &[u8]) -> bool
+    ensures { result ≡ true → bytes.now ≡ magic }
+{
+    bytes == b"FS21".as_slice()
+}
+
 // Only the file of the empty history is read so far.
-fn open_empty(bytes: &[u8]) -> Result<(), Refusal>
-    ensures file { OnOk result (bytes.now ≡ magic) }
+fn open_file(alloc: Global, bytes: &[u8]) -> Result<Store, Refusal>
+    ensures opens { IfOk result (λ store. Opens bytes.now store) }
     ensures usage { IsErrOf result Refusal.Usage → ⊥ }
     ensures input { IsErrOf result Refusal.Input → ⊥ }
     ensures output { IsErrOf result Refusal.Output → ⊥ }
 {
-    if bytes == b"FS21".as_slice() {
-        Ok(())
+    if is_empty_file(bytes) {
+        Ok(Store::empty(alloc))
     } else if bytes.starts_with(b"FS21") {
         Err(Refusal::NotYet)
     } else {
@@ -49,8 +57,7 @@ pub fn replay_command<F: Shelf, S: Source, K: Sink>(
     let text = read_input(alloc, input)?;
     let schedule = read_schedule(alloc, text.as_slice())?;
     let bytes = read_file(alloc, files, name)?;
-    open_empty(bytes.as_slice())?;
-    let store = Store::empty(alloc);
+    let store = open_file(alloc, bytes.as_slice())?;
     replay(alloc, &store, schedule.as_slice(), Site::new(alloc), out)?;
     Ok(())
 }
