@@ -1,7 +1,7 @@
 -- Heads field by field.
 use Rattle.std.proofs.Common.{◌≡◌, ℕ, ◌≤◌, List, ◌∷◌, ◌++◌, length, get_or, drop, sym, ap, ◌∙◌, append_assoc, arith}
 use Rattle.std.proofs.lemmas.List.{drop_more}
-use Rattle.fs_record.specs.Numbers.{be64, be16}
+use Rattle.zbase.specs.Numbers.{be64, be16}
 use Rattle.fs_record.specs.Spelling.{txn_head, data_head}
 use Rattle.fs_record.specs.declared.heads.TxnHead.{TxnHead}
 use Rattle.fs_record.specs.declared.heads.DataHead.{DataHead}

@@ -1,4 +1,3 @@
-pub mod NumbersAt
 pub mod HeadFields
 pub mod Growing
 pub mod Ends

@@ -1,4 +1,3 @@
-pub mod Numbers
 pub mod Spelling
 pub mod Fits
 pub mod SpellingLaws

@@ -1,7 +1,7 @@
 -- How the records of a file are spelled, whatever their fields say.
 use Rattle.std.specs.Prelude.{ℕ, ◌+◌, List, [], ◌∷◌, ◌++◌, length}
 use Rattle.std.specs.List.{flat_map}
-use Rattle.fs_record.specs.Numbers.{be64, be16}
+use Rattle.zbase.specs.Numbers.{be64, be16}
 use Rattle.fs_record.specs.declared.heads.TxnHead.{TxnHead}
 use Rattle.fs_record.specs.declared.heads.DataHead.{DataHead}
 use Rattle.fs_record.specs.declared.body.TxnTexts.{TxnTexts}

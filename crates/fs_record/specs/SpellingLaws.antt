@@ -1,44 +1,19 @@
 -- No spelling begins another, and what stands where in one.
 use Rattle.std.proofs.Common.{◌≡◌, ℕ, ◌+◌, ◌^◌, ◌<◌, ◌≤◌, List, [], ◌∷◌, ◌++◌, length, get_or, take, drop, refl, sym, ap, subst, ◌∙◌, append_assoc, arith}
-use Rattle.std.specs.Int.{w16, w64, from_be_bytes}
+use Rattle.std.specs.Int.{w64, from_be_bytes}
 use Rattle.std.specs.List.{flat_map, AllByRecursion}
 use Rattle.std.proofs.lemmas.List.{take_at, drop_at, get_or_at, length-append, append-nil}
 use Rattle.std.proofs.lemmas.Bool.{false≢true}
-use Rattle.std.proofs.lemmas.Nat.{from_be_bytes-to_be_bytes_2, from_be_bytes-to_be_bytes_8}
+use Rattle.std.proofs.lemmas.Nat.{from_be_bytes-to_be_bytes_8}
 use Rattle.zbase.specs.HexLaws.{fronts_same}
-use Rattle.fs_record.specs.Numbers.{be64, be16}
+use Rattle.zbase.specs.NumberLaws.{length-be64, length-be16, same_be64, same_be16}
+use Rattle.zbase.specs.Numbers.{be64, be16}
 use Rattle.fs_record.specs.declared.heads.DataHead.{DataHead}
 use Rattle.fs_record.specs.declared.heads.TxnHead.{TxnHead}
 use Rattle.fs_record.specs.declared.body.Body.{Body}
 use Rattle.fs_record.specs.declared.body.Body.TheVariants.{Full, Back}
 use Rattle.fs_record.specs.Spelling.{txn_head, data_head, head_of, txn_head_of, Data, Inside, Records, Skipped, Block, data_spelling, block_spelling, body_length, body_spelling, long_of, texts_spelling, inside_spelling}
 use Rattle.fs_record.specs.Fits.{FitsDataHead, FitsTxnHead, FitsBody, FitsData, FitsInside, FitsBlock}
-
-pub length-be64 : (n : ℕ) → length (be64 n) ≡ 8
-unfolding be64
-length-be64 n = refl
-
-pub length-be16 : (n : ℕ) → length (be16 n) ≡ 2
-unfolding be16
-length-be16 n = refl
-
-from_be64 : (m n : ℕ) → m < 2 ^ 64 → n < 2 ^ 64 → be64 m ≡ be64 n → m ≡ n
-unfolding be64
-from_be64 m n p q e = sym (from_be_bytes-to_be_bytes_8 m p) ∙ ap (from_be_bytes w64) e ∙ from_be_bytes-to_be_bytes_8 n q
-
-pub same_be64 : (m n : ℕ) (x y : List ℕ) → m < 2 ^ 64 → n < 2 ^ 64 → be64 m ++ x ≡ be64 n ++ y → (m ≡ n) × (x ≡ y)
-same_be64 m n x y p q e =
-    let s = fronts_same (be64 m) (be64 n) x y (length-be64 m ∙ sym (length-be64 n)) e in
-    (from_be64 m n p q s.0, s.1)
-
-from_be16 : (m n : ℕ) → m < 2 ^ 16 → n < 2 ^ 16 → be16 m ≡ be16 n → m ≡ n
-unfolding be16
-from_be16 m n p q e = sym (from_be_bytes-to_be_bytes_2 m p) ∙ ap (from_be_bytes w16) e ∙ from_be_bytes-to_be_bytes_2 n q
-
-pub same_be16 : (m n : ℕ) (x y : List ℕ) → m < 2 ^ 16 → n < 2 ^ 16 → be16 m ++ x ≡ be16 n ++ y → (m ≡ n) × (x ≡ y)
-same_be16 m n x y p q e =
-    let s = fronts_same (be16 m) (be16 n) x y (length-be16 m ∙ sym (length-be16 n)) e in
-    (from_be16 m n p q s.0, s.1)
 
 pub length-data_head : (h : DataHead) → length (data_head h) ≡ 42
 unfolding data_head

@@ -1,28 +1,9 @@
-ghost use Rattle.std.specs.Prelude.{◌≡◌, ◌++◌, ◌+◌, List, ℕ, ◌<◌, ◌≤◌, length, drop, MatchResult, IfOk, OnOk};
+ghost use Rattle.std.specs.Prelude.{◌≡◌, ◌++◌, ◌<◌, ◌≤◌, length, drop, MatchResult, IfOk, OnOk};
 ghost use Rattle.fs_record.specs.Fits.{FitsTxnHead, FitsDataHead};
-ghost use Rattle.fs_record.specs.Numbers.{be64, be16};
 ghost use Rattle.fs_record.specs.Spelling.{txn_head, data_head};
 
 use crate::{DataHead, RecordRefusal, TxnHead};
-use zbase::{Oid, Tid};
-
-// The number of eight bytes that stands at a place, high byte first.
-fn u64_at(bytes: &[u8], at: usize) -> u64
-    requires { at + 8 ≤ length bytes.now }
-    ensures { drop at bytes.now ≡ be64 result ++ drop (at + 8) bytes.now }
-{
-    let b = &bytes[at..at + 8];
-    u64::from_be_bytes([b[0], b[1], b[2], b[3], b[4], b[5], b[6], b[7]])
-}
-
-// The number of two bytes that stands at a place, high byte first.
-fn u16_at(bytes: &[u8], at: usize) -> u16
-    requires { at + 2 ≤ length bytes.now }
-    ensures { drop at bytes.now ≡ be16 result ++ drop (at + 2) bytes.now }
-{
-    let b = &bytes[at..at + 2];
-    u16::from_be_bytes([b[0], b[1]])
-}
+use zbase::{Oid, Tid, u16_at, u64_at};
 
 /// The head of a transaction record that stands at the front. Takes no memory.
 pub fn read_txn_head(bytes: &[u8]) -> Result<TxnHead, RecordRefusal>

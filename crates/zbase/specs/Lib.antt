@@ -4,3 +4,5 @@ pub mod Faults
 pub mod History
 pub mod Values
 pub mod HistoryLaws
+pub mod Numbers
+pub mod NumberLaws

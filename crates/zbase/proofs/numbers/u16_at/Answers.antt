@@ -1,6 +1,6 @@
 use Rattle.std.proofs.Common.{arith, ◌-◌, ◌+◌}
-use Rattle.fs_record.proofs.NumbersAt.{be16_is, IsBytes-part}
-use Rattle.fs_record.proofs.reading.u16_at.Goals as goal
+use Rattle.zbase.proofs.NumbersAt.{be16_is, IsBytes-part}
+use Rattle.zbase.proofs.numbers.u16_at.Goals as goal
 
 pub returns : goal.returns
 returns c = be16_is c.args.bytes.now c.from_be_bytes.result c.args.at (c.args.at + 2 - c.args.at) c.requires (omega arith) (IsBytes-part (c.args.at + 2 - c.args.at) c.args.at c.args.bytes.now (λ i. omega (arith, c.type_inv.bytes i))) c.from_be_bytes.ensures

@@ -1,0 +1,42 @@
+ghost use Rattle.std.specs.Prelude.{◌≡◌, ◌++◌, ◌+◌, ◌≤◌, length, drop};
+ghost use Rattle.zbase.specs.Numbers.{be64, be32, be16};
+
+/// The number of eight bytes that stands at a place, high byte first. Takes no memory.
+pub fn u64_at(bytes: &[u8], at: usize) -> u64
+    requires { at + 8 ≤ length bytes.now }
+    ensures { drop at bytes.now ≡ be64 result ++ drop (at + 8) bytes.now }
+{
+    let b = &bytes[at..at + 8];
+    u64::from_be_bytes([b[0], b[1], b[2], b[3], b[4], b[5], b[6], b[7]])
+}
+
+/// The number of four bytes that stands at a place, high byte first. Takes no memory.
+pub fn u32_at(bytes: &[u8], at: usize) -> u32
+    requires { at + 4 ≤ length bytes.now }
+    ensures { drop at bytes.now ≡ be32 result ++ drop (at + 4) bytes.now }
+{
+    let b = &bytes[at..at + 4];
+    u32::from_be_bytes([b[0], b[1], b[2], b[3]])
+}
+
+/// The number of two bytes that stands at a place, high byte first. Takes no memory.
+pub fn u16_at(bytes: &[u8], at: usize) -> u16
+    requires { at + 2 ≤ length bytes.now }
+    ensures { drop at bytes.now ≡ be16 result ++ drop (at + 2) bytes.now }
+{
+    let b = &bytes[at..at + 2];
+    u16::from_be_bytes([b[0], b[1]])
+}
+
+#[cfg(test)]
+mod tests {
+    use super::*;
+
+    #[test]
+    fn numbers_stand_high_byte_first(rt: HostRuntime) {
+        let bytes = b"\xff\x01\x02\x03\x04\x05\x06\x07\x08";
+        assert_eq!(rt; u64_at(bytes, 1), 0x0102_0304_0506_0708);
+        assert_eq!(rt; u32_at(bytes, 5), 0x0506_0708);
+        assert_eq!(rt; u16_at(bytes, 0), 0xff01);
+    }
+}
