@@ -1,6 +1,7 @@
 -- The rules of a change and of a reply.
 use Rattle.std.specs.Prelude.{ℕ, ◌≡◌, ◌+◌, ◌<◌, ◌≤◌, ◌⊎◌, ◌≢◌, ◌==◌, Bool, true, false, List, [], ◌∷◌, length, map, count_by, AllPairs, Contains, Option, Some, IfSome}
 use Rattle.std.specs.List.{AllByRecursion, list_any}
+use Rattle.zbase.specs.Roles.{IsRole}
 use Rattle.evaluator.specs.declared.ask.Ask.{Ask}
 use Rattle.evaluator.specs.declared.draft.Draft.{Draft}
 use Rattle.evaluator.specs.declared.draft.Entry.{Entry}
@@ -68,10 +69,6 @@ pub record IsChange (known : Ask → Option Fact) (d : Draft) : Type 0 where
 -- the status codes of replies
 abbrev pub statuses : List ℕ
 statuses = 200 ∷ 400 ∷ 401 ∷ 404 ∷ 411 ∷ 413 ∷ 414 ∷ 415 ∷ 431 ∷ 500 ∷ 501 ∷ 503 ∷ []
-
--- a role is 1 to 64 characters from space to `~`, without comma
-abbrev pub IsRole : List ℕ → Type 0
-IsRole role = (0 < length role) × (length role ≤ 64) × AllByRecursion (λ b. (32 ≤ b) × (b ≤ 126) × (b ≢ 44)) role
 
 abbrev pub IsPermission : ℕ → Type 0
 IsPermission n = (0 < n) × (n ≤ 12)

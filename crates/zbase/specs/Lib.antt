@@ -6,3 +6,4 @@ pub mod Values
 pub mod HistoryLaws
 pub mod Numbers
 pub mod NumberLaws
+pub mod Roles

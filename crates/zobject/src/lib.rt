@@ -1,0 +1,12 @@
+//! The objects of a site, and their records.
+//!
+//! `specs/Record` says which objects have a record and how it is spelled, `specs/Texts` the rules of their texts,
+//! and `specs/Reading` how the plain ones are read.
+#![tactic(auto)]
+
+mod object;
+
+pub use object::{
+    Child, Children, Local, Locals, Object, Part2, Properties, Property, Roles, Setting, Settings,
+    User, Users,
+};
