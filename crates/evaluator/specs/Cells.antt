@@ -5,7 +5,6 @@ use Rattle.evaluator.specs.declared.cells.CellRequest.{CellRequest}
 use Rattle.evaluator.specs.declared.ask.Ask.{Ask}
 use Rattle.evaluator.specs.declared.fact.Fact.{Fact}
 use Rattle.evaluator.specs.declared.fact.Part.{Part}
-use Rattle.evaluator.specs.declared.reply.Kind.{Kind}
 use Rattle.evaluator.specs.declared.draft.Name.{Name}
 use Rattle.evaluator.specs.declared.draft.Entry.{Entry}
 use Rattle.evaluator.specs.declared.reply.Reply.{Reply}
@@ -13,6 +12,7 @@ use Rattle.evaluator.specs.declared.outcome.Outcome.{Outcome}
 use Rattle.zbase.specs.History.{Value}
 use Rattle.zbase.specs.Hex.{hex_bytes}
 use Rattle.evaluator.specs.Exec.{Eval}
+use Rattle.evaluator.specs.Replies.{one_line}
 
 abbrev pub digit : ℕ → Option ℕ
 digit b = if nat_le 48 b && nat_le b 57 then Some (b - 48) else if nat_le 97 b && nat_le b 102 then Some (b - 87) else None
@@ -46,7 +46,7 @@ takes_cell bs =
     else None
 
 abbrev pub line_reply : List ℕ → Reply
-line_reply text = record { status = 200; kind = Kind.Plain; head_only = false; body = text ++ 10 ∷ []; shown = []; denied = None }
+line_reply text = one_line 200 text
 
 abbrev pub shown_value : Value → List ℕ
 shown_value None = codes "none"

@@ -1,6 +1,7 @@
 pub mod Facts
 pub mod Exec
 pub mod Change
+pub mod Replies
 pub mod Settle
 pub mod FactLaws
 pub mod Cells

@@ -1,15 +1,11 @@
 -- The replies that the core gives by itself, each marked as none, and the lines that follow a reply.
-use Rattle.std.specs.Prelude.{ℕ, false, List, [], ◌∷◌, ◌++◌, map, Option, Some, None, nat_lt, if◌then◌else◌, codes, decimal}
+use Rattle.std.specs.Prelude.{ℕ, List, [], ◌∷◌, ◌++◌, map, Option, Some, None, nat_lt, if◌then◌else◌, codes, decimal}
 use Rattle.zbase.specs.Hex.{hex16_text}
-use Rattle.evaluator.specs.declared.reply.Kind.{Kind}
+use Rattle.evaluator.specs.Replies.{one_line}
 use Rattle.evaluator.specs.declared.reply.Reply.{Reply}
 use Rattle.evaluator.specs.declared.reply.Denial.{Denial}
 use Rattle.evaluator.specs.declared.reply.Shown.{Shown}
 use Rattle.schedule.specs.declared.line.Line.{Line}
-
--- a plain reply of one line
-abbrev pub one_line : ℕ → List ℕ → Reply
-one_line status text = record { status = status; kind = Kind.Plain; head_only = false; body = text ++ 10 ∷ []; shown = []; denied = None }
 
 unfoldable pub conflict_reply : ℕ → Reply
 conflict_reply o = one_line 503 (codes "conflict: " ++ hex16_text o)
