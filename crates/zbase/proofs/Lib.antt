@@ -1,3 +1,4 @@
 pub mod HexDigits
 pub mod Plans
 pub mod NumbersAt
+pub mod HexAscii

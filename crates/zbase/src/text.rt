@@ -1,6 +1,7 @@
 ghost use Rattle.std.specs.Prelude.{◌≡◌, ◌↔◌, ◌++◌, [], List, ℕ, length, IfOk, OnOk, OnErr, IsTrue, ◌==◌, string_bytes};
+ghost use Rattle.zbase.specs.Hex.{hex16_text};
 
-use crate::{Items, Memory};
+use crate::{Items, Memory, hex16};
 use std::alloc::Global;
 use std::marker::Model;
 
@@ -75,6 +76,17 @@ impl Text {
         Ok(())
     }
 
+    /// Adds the 16 hexadecimal digits of a number at the end. For want of memory the text stays as it was.
+    pub fn push_hex16(&mut self, n: u64) -> Result<(), Memory>
+        ensures ok { OnOk result (self.new ≡ self.old ++ hex16_text n) }
+        ensures err { OnErr result (self.new ≡ self.old) }
+    {
+        match str::from_utf8(hex16(n).as_slice()) {
+            Ok(digits) => self.push_str(digits),
+            Err(_) => unreachable!(),
+        }
+    }
+
     /// A second text of the same characters.
     pub fn copy(&self) -> Result<Text, Memory>
         ensures { IfOk result (λ it. it ≡ self.now) }
@@ -105,6 +117,8 @@ mod tests {
         assert_eq!(rt; text.len(), 5);
         assert!(rt; text.same(&text.copy()?));
         assert!(rt; !text.same(&Text::from_str(rt.alloc(), "Zope")?));
+        text.push_hex16(0xab)?;
+        assert_eq!(rt; text.as_str(), "Zopé00000000000000ab");
         Ok(())
     }
 }
