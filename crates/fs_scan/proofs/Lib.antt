@@ -1,0 +1,5 @@
+pub mod DataAt
+pub mod OneByOne
+pub mod WholeAt
+pub mod Stepping
+pub mod KeptPlaces
