@@ -3,3 +3,5 @@ pub mod OneByOne
 pub mod WholeAt
 pub mod Stepping
 pub mod KeptPlaces
+pub mod CopiedValues
+pub mod PlainFiles

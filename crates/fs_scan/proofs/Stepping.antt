@@ -14,8 +14,8 @@ use Rattle.fs_record.specs.declared.damage.Damage.TheVariants.{BadLength, BadTid
 use Rattle.fs_record.specs.File.{fault_in, is_own, has_prev, has_body, has_no_version, is_counted, records_place}
 use Rattle.fs_record.specs.Opening.{is_end, NoBlock, Stands}
 use Rattle.fs_scan.specs.declared.judging.Marks.{Marks}
-use Rattle.fs_scan.specs.declared.whole.Extent.{Extent}
-use Rattle.fs_scan.specs.declared.whole.Extent.{Extent}
+use Rattle.fs_scan.specs.declared.extent.Extent.{Extent}
+use Rattle.fs_scan.specs.declared.extent.Extent.{Extent}
 use Rattle.fs_scan.specs.Marked.{Marked, AreRecords, NoRecords, Read, places_from}
 use Rattle.fs_scan.specs.Extent.{texts_in, area_in, block_in, IsWhole}
 use Rattle.fs_scan.specs.Taking.{fault_by, rows_after, Takes, IsDamageAt}
@@ -45,7 +45,7 @@ inside_stands rest w i whole e fits =
     }
 
 -- what stands has an inside that is spelled so
-only_inside : (rest : List ℕ) (w : Extent) (b : Block) (more : List ℕ) → IsWhole rest w → FitsBlock b → rest ≡ block_spelling b ++ more → (area_in w rest ≡ inside_spelling b.inside) × (w.head.status ≡ b.status)
+pub only_inside : (rest : List ℕ) (w : Extent) (b : Block) (more : List ℕ) → IsWhole rest w → FitsBlock b → rest ≡ block_spelling b ++ more → (area_in w rest ≡ inside_spelling b.inside) × (w.head.status ≡ b.status)
 only_inside rest w b more whole fits e =
     let s = same_parts (block_in w rest (Skipped (area_in w rest))) b (drop (w.long + 8) rest) more (head_fits rest w (Skipped (area_in w rest)) whole refl) whole.tail fits.head fits.tail (sym whole.spelled ∙ e) in
     (s.0.inside, s.0.status)
@@ -89,7 +89,7 @@ fault_is rest w place last rows marks ds whole e m =
     let long : long_of (block_in w rest (Records ds)) ≡ w.head.length = ap (λ (s : List ℕ). 23 + length (texts_spelling (texts_in w.head (drop 23 rest))) + length s) e ∙ whole.size ∙ whole.long in
     rw (long, m.own, m.prev, m.back, m.version) refl
 
-records_stand : (rest : List ℕ) (w : Extent) (ds : List Data) → IsWhole rest w → (w.head.status ≡ 117 → ⊥) → AreRecords (area_in w rest) ds → Stands (block_in w rest (Records ds)) rest (drop (w.long + 8) rest)
+pub records_stand : (rest : List ℕ) (w : Extent) (ds : List Data) → IsWhole rest w → (w.head.status ≡ 117 → ⊥) → AreRecords (area_in w rest) ds → Stands (block_in w rest (Records ds)) rest (drop (w.long + 8) rest)
 records_stand rest w ds whole u are = inside_stands rest w (Records ds) whole (sym are.spelled) (ne_eqb _ _ u, are.fits)
 
 pub records_right : (rest : List ℕ) (w : Extent) (place t : ℕ) (old rows new : List Row) (marks : Marks) → IsWhole rest w → (w.head.status ≡ 117 → ⊥) → Read (area_in w rest) old [] rows (place + w.from) w.head.tid place marks

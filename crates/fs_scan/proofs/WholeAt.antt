@@ -12,7 +12,7 @@ use Rattle.fs_record.specs.Spelling.{Inside, Records, Skipped, Block, txn_head, 
 use Rattle.fs_record.specs.Fits.{FitsTxnHead, FitsBlock}
 use Rattle.fs_record.specs.SpellingLaws.{length-txn_head, same_txn_head, length-block, txn_head_from}
 use Rattle.fs_record.specs.Opening.{is_end, status_in, length_in, NoBlock}
-use Rattle.fs_scan.specs.declared.whole.Extent.{Extent}
+use Rattle.fs_scan.specs.declared.extent.Extent.{Extent}
 use Rattle.fs_scan.specs.Extent.{texts_in, area_in, block_in, IsWhole}
 
 -- the id and the length, the status, and the rest

@@ -5,9 +5,9 @@ use Rattle.fs_record.specs.declared.body.TxnTexts.{TxnTexts}
 use Rattle.fs_record.specs.Spelling.{Inside, Skipped, Block, block_spelling, long_of}
 use Rattle.fs_record.specs.Fits.{FitsTxnHead}
 use Rattle.fs_record.specs.Opening.{is_end, NoBlock}
-use Rattle.fs_scan.specs.declared.whole.Extent.{Extent}
-use Rattle.fs_scan.specs.declared.whole.Parts.{Parts}
-use Rattle.fs_scan.specs.declared.whole.Parts.TheVariants as parts
+use Rattle.fs_scan.specs.declared.extent.Extent.{Extent}
+use Rattle.fs_scan.specs.declared.extent.Parts.{Parts}
+use Rattle.fs_scan.specs.declared.extent.Parts.TheVariants as parts
 
 abbrev pub texts_in : TxnHead → List ℕ → TxnTexts
 texts_in h behind = record { user = take h.user behind; description = take h.description (drop h.user behind); extension = take h.extension (drop (h.user + h.description) behind) }

@@ -7,7 +7,7 @@ use Rattle.fs_record.specs.declared.damage.Damage.TheVariants.{BadLength, BadTid
 use Rattle.fs_record.specs.File.{fault_in, is_counted, records_place}
 use Rattle.fs_record.specs.Opening.{is_end, NoBlock, Stands}
 use Rattle.fs_scan.specs.declared.judging.Marks.{Marks}
-use Rattle.fs_scan.specs.declared.whole.Extent.{Extent}
+use Rattle.fs_scan.specs.declared.extent.Extent.{Extent}
 use Rattle.fs_scan.specs.declared.step.Step.{Step}
 use Rattle.fs_scan.specs.declared.step.Step.TheVariants as steps
 use Rattle.fs_scan.specs.Extent.{block_in, IsWhole}

@@ -21,6 +21,7 @@ pub struct Found {
 pub fn data_at(area: &[u8]) -> Option<Found>
     ensures found { IfSome result (λ f. DataStands (data_in f area.now) area.now (drop f.size area.now)) }
     ensures size { IfSome result (λ f. (43 ≤ f.size) × (f.size ≤ length area.now)) }
+    ensures full { IfSome result (λ f. 0 < f.head.length → f.size ≡ 42 + f.head.length) }
     ensures none { IfNone result (NoData area.now) }
 {
     let head = match read_data_head(area) {

@@ -2,10 +2,10 @@ ghost use Rattle.std.specs.Prelude.{◌≡◌, ◌≢◌, ◌+◌, ◌<◌, ◌^
 ghost use Rattle.fs_scan.specs.Extent.{IsWhole};
 ghost use Rattle.fs_scan.specs.Taking.{fault_by, StepSays, StepLeads};
 
+use crate::extent::{Extent, Parts, whole_at};
 use crate::judging::Marks;
 use crate::places::Places;
 use crate::records::read_records;
-use crate::whole::{Extent, Parts, whole_at};
 use fs_record::Damage;
 use zbase::{Memory, Rows, Tid};
 

@@ -1,6 +1,6 @@
 use Rattle.std.proofs.Common.{arith, inl, inr, refl}
 use Rattle.fs_scan.proofs.WholeAt.{short_ends, ends, goes_on, no_block, whole_is}
-use Rattle.fs_scan.proofs.whole.whole_at.Goals as goal
+use Rattle.fs_scan.proofs.extent.whole_at.Goals as goal
 
 pub returns-in-Err-Short : goal.returns-in-Err-Short
 returns-in-Err-Short c = short_ends c.args.rest.now c.in-Err-Short.ensures.head
