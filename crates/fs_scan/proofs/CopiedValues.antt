@@ -1,11 +1,9 @@
 -- Values of data records that hold their data.
-use Rattle.std.proofs.Common.{◌≡◌, ℕ, zero, suc, ◌+◌, ◌-◌, ◌<◌, ◌≤◌, List, [], ◌∷◌, ◌++◌, length, take, drop, map, Option, Some, None, refl, sym, ap, subst, ◌∙◌, append_assoc, arith}
+use Rattle.std.proofs.Common.{◌≡◌, ℕ, zero, suc, ◌+◌, ◌<◌, ◌≤◌, List, [], ◌∷◌, ◌++◌, length, take, drop, Some, refl, sym, ap, subst, ◌∙◌, arith}
 use Rattle.std.specs.List.{flat_map, AllByRecursion}
-use Rattle.std.proofs.lemmas.List.{length-append, length-drop, drop-take, drop-drop, map-append}
+use Rattle.std.proofs.lemmas.List.{length-append, drop-take, drop-drop, map-append}
 use Rattle.zbase.specs.History.{Value}
 use Rattle.fs_record.specs.declared.heads.TxnHead.{TxnHead}
-use Rattle.fs_record.specs.declared.body.Body.{Body}
-use Rattle.fs_record.specs.declared.body.Body.TheVariants.{Full, Back}
 use Rattle.fs_record.specs.declared.body.TxnTexts.{TxnTexts}
 use Rattle.fs_record.specs.Spelling.{Data, data_spelling}
 use Rattle.fs_record.specs.Fits.{FitsData}
@@ -14,7 +12,6 @@ use Rattle.fs_record.specs.File.{Earlier, value_of, values_of}
 use Rattle.fs_scan.specs.declared.data.Found.{Found}
 use Rattle.fs_scan.specs.declared.wholes.OidValue.{OidValue}
 use Rattle.fs_scan.specs.Found.{DataStands, NoData, data_in, body_in}
-use Rattle.fs_scan.specs.Marked.{AreRecords, NoRecords}
 use Rattle.fs_scan.specs.Extent.{texts_in}
 use Rattle.fs_scan.specs.Plain.{IsFull, HoldData}
 use Rattle.fs_scan.specs.Wholes.{records_in}

@@ -1,15 +1,15 @@
 -- The data record at the front of an area, or none.
-use Rattle.std.proofs.Common.{◌≡◌, ℕ, zero, suc, ◌+◌, ◌-◌, ◌^◌, ◌<◌, ◌≤◌, List, [], ◌∷◌, ◌++◌, length, take, drop, refl, sym, ap, subst, ◌∙◌, append_assoc, arith, inl, inr}
+use Rattle.std.proofs.Common.{◌≡◌, ℕ, zero, suc, ◌+◌, ◌-◌, ◌^◌, ◌<◌, ◌≤◌, List, ◌++◌, length, take, drop, refl, sym, ap, subst, ◌∙◌, append_assoc, arith, inl, inr}
 use Rattle.std.specs.Prelude.{◌⊎◌}
-use Rattle.std.proofs.lemmas.List.{length-append, length-drop, length-take, take-append-drop, drop-drop, drop_at}
+use Rattle.std.proofs.lemmas.List.{length-append, length-drop, length-take, take-append-drop, drop-drop}
 use Rattle.zbase.specs.NumberLaws.{length-be64}
-use Rattle.zbase.specs.Numbers.{be64, be16}
+use Rattle.zbase.specs.Numbers.{be64}
 use Rattle.fs_record.specs.declared.heads.DataHead.{DataHead}
 use Rattle.fs_record.specs.declared.body.Body.{Body}
 use Rattle.fs_record.specs.declared.body.Body.TheVariants.{Full, Back}
 use Rattle.fs_record.specs.Spelling.{Data, data_head, head_of, data_spelling, body_length, body_spelling}
-use Rattle.fs_record.specs.Fits.{FitsDataHead, FitsBody, FitsData}
-use Rattle.fs_record.specs.SpellingLaws.{length-data_head, same_data_head, long_data, data_head_from}
+use Rattle.fs_record.specs.Fits.{FitsDataHead, FitsBody}
+use Rattle.fs_record.specs.SpellingLaws.{same_data_head, long_data, data_head_from}
 use Rattle.fs_scan.specs.declared.data.Found.{Found}
 use Rattle.fs_scan.specs.Found.{body_in, data_in, DataStands, NoData}
 

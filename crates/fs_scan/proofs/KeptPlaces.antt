@@ -1,5 +1,5 @@
 -- The map of the objects' last records, when a record is added.
-use Rattle.std.proofs.Common.{◌≡◌, ℕ, Bool, true, false, Option, Some, None, List, [], ◌∷◌, ◌++◌, refl, sym, ap, ◌∙◌, cond, ltb, eqb, arith}
+use Rattle.std.proofs.Common.{◌≡◌, ℕ, Bool, true, false, Option, Some, List, [], ◌∷◌, ◌++◌, refl, sym, ap, subst, ◌∙◌, cond, ltb, eqb, arith}
 use Rattle.std.specs.Prelude.{◌==◌, if◌then◌else◌}
 use Rattle.std.proofs.lemmas.Bool.{ltb-true, ne_eqb, false≢true}
 use Rattle.std.specs.declared.cmp.Ordering.TheVariants.{Less, Equal, Greater}
@@ -7,7 +7,8 @@ use Rattle.std.specs.Ordering.{is_eq, nat_cmp}
 use Rattle.std.specs.BTreeMap.{BTreeMap, get, is_at}
 use Rattle.zbase.specs.declared.ids.Row.{Row}
 use Rattle.fs_record.specs.File.{last_place}
-use Rattle.fs_scan.specs.Newest.{place_in, HasNewest}
+use Rattle.fs_scan.specs.Newest.{place_in, HasNewest, IsIndex}
+use Rattle.fs_scan.specs.Rising.{RiseFrom}
 
 one_of : (p q : Bool) → (p ≡ true → q ≡ false) → is_eq (cond p Less (cond q Equal Greater)) ≡ q
 one_of true true h = absurd (false≢true (sym (h refl)))
@@ -30,10 +31,13 @@ last_place-append : (o found : ℕ) (rows : List Row) (row : Row) → last_place
 last_place-append o found [] row = refl
 last_place-append o found (r ∷ rows) row = last_place-append o (if r.oid == o then r.place else found) rows row
 
-pub one_more : (newest next : BTreeMap ℕ ℕ) (rows after : List Row) (row : Row) → HasNewest newest rows → after ≡ rows ++ row ∷ [] → ((o : ℕ) → get nat_cmp next o ≡ cond (is_at (nat_cmp row.oid) o) (Some row.place) (get nat_cmp newest o)) → HasNewest next after
-one_more newest next rows after row has added put o =
+one_newest : (newest next : BTreeMap ℕ ℕ) (rows after : List Row) (row : Row) → HasNewest newest rows → after ≡ rows ++ row ∷ [] → ((o : ℕ) → get nat_cmp next o ≡ cond (is_at (nat_cmp row.oid) o) (Some row.place) (get nat_cmp newest o)) → HasNewest next after
+one_newest newest next rows after row has added put o =
     ap place_in (put o)
     ∙ put_place row.oid row.place o (get nat_cmp newest o)
     ∙ ap (λ (n : ℕ). if row.oid == o then row.place else n) (has o)
     ∙ sym (last_place-append o 0 rows row)
     ∙ ap (last_place o 0) (sym added)
+
+pub one_more : (newest next : BTreeMap ℕ ℕ) (rows after : List Row) (row : Row) → IsIndex newest rows → after ≡ rows ++ row ∷ [] → ((o : ℕ) → get nat_cmp next o ≡ cond (is_at (nat_cmp row.oid) o) (Some row.place) (get nat_cmp newest o)) → RiseFrom 0 (rows ++ row ∷ []) → IsIndex next after
+one_more newest next rows after row has added put rise = record { newest_of = one_newest newest next rows after row has.newest_of added put; rise = subst (RiseFrom 0) (sym added) rise }

@@ -5,3 +5,4 @@ pub mod Stepping
 pub mod KeptPlaces
 pub mod CopiedValues
 pub mod PlainFiles
+pub mod RisingPlaces

@@ -1,11 +1,11 @@
 -- One record after another.
-use Rattle.std.proofs.Common.{◌≡◌, ℕ, zero, suc, ◌+◌, ◌-◌, ◌^◌, ◌<◌, ◌≤◌, Bool, true, false, ◌&&◌, List, [], ◌∷◌, ◌++◌, length, take, drop, refl, sym, ap, subst, ◌∙◌, append_assoc, add-zero, arith, inl, inr}
+use Rattle.std.proofs.Common.{◌≡◌, ℕ, ◌+◌, ◌<◌, ◌≤◌, Bool, true, false, ◌&&◌, List, [], ◌∷◌, ◌++◌, length, drop, refl, sym, ap, subst, ◌∙◌, append_assoc, add-zero, arith}
 use Rattle.std.specs.List.{list_all, flat_map, AllByRecursion}
-use Rattle.std.proofs.lemmas.List.{length-append, length-drop, length-take, take-append-drop, drop-drop, take_all, append-nil, drop_at, take_at, drop_all}
+use Rattle.std.proofs.lemmas.List.{length-append, length-drop, drop-drop, append-nil, drop_all}
 use Rattle.std.proofs.lemmas.List.Folds.{list_all-append}
 use Rattle.fs_record.specs.Spelling.{Data, data_spelling}
 use Rattle.fs_record.specs.Fits.{FitsData}
-use Rattle.fs_record.specs.SpellingLaws.{same_data, same_records, long_data}
+use Rattle.fs_record.specs.SpellingLaws.{same_records}
 use Rattle.zbase.specs.declared.ids.Row.{Row}
 use Rattle.fs_record.specs.File.{is_own, has_prev, has_body, has_no_version, last_place, is_right_body}
 use Rattle.fs_scan.specs.declared.data.Found.{Found}

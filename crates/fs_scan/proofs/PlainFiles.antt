@@ -1,29 +1,30 @@
 -- A reader of plain files that has come to a place.
-use Rattle.std.proofs.Common.{◌≡◌, ℕ, zero, suc, ◌+◌, ◌-◌, ◌^◌, ◌<◌, ◌≤◌, Bool, true, false, eqb, List, [], ◌∷◌, ◌++◌, length, take, drop, map, Option, Some, None, refl, sym, ap, subst, ◌∙◌, append_assoc, append-nil, arith, inl, inr}
-use Rattle.std.specs.Prelude.{◌⊎◌}
+use Rattle.std.proofs.Common.{◌≡◌, ℕ, zero, suc, ◌+◌, ◌-◌, ◌<◌, ◌≤◌, true, List, [], ◌∷◌, ◌++◌, length, drop, map, Option, Some, None, refl, sym, ap, subst, ◌∙◌, append_assoc, append-nil, arith, inl, inr}
 use Rattle.std.specs.List.{AllByRecursion}
 use Rattle.std.proofs.lemmas.List.{length-append, length-drop, drop-drop, drop_all, map-append}
 use Rattle.std.proofs.lemmas.Bool.{false≢true, cases_order}
 use Rattle.zbase.specs.declared.ids.Row.{Row}
 use Rattle.zbase.specs.History.{History, Transaction}
-use Rattle.zbase.specs.Values.{last, last_after}
+use Rattle.zbase.specs.Values.{last}
 use Rattle.zbase.specs.HistoryLaws.{last_after-append}
 use Rattle.fs_record.specs.declared.damage.Damage.{Damage}
 use Rattle.fs_record.specs.Spelling.{Data, Inside, Records, Skipped, Block, data_spelling, block_spelling, inside_spelling, long_of}
-use Rattle.fs_record.specs.Fits.{FitsInside, FitsBlock}
+use Rattle.fs_record.specs.Fits.{FitsInside}
 use Rattle.fs_record.specs.SpellingLaws.{length-block, same_block}
 use Rattle.fs_record.specs.UniqueLaws.{not_end, same_count}
-use Rattle.fs_record.specs.File.{Earlier, Front, rows, records_from, records_place, longer, transaction_of, after_in, fault_in, magic, front_of, bytes_of, IsRight, AreRight, IsFile}
+use Rattle.fs_record.specs.File.{Earlier, Front, rows, records_from, records_place, longer, transaction_of, after_in, fault_in, magic, front_of, bytes_of, IsRight, AreRight}
 use Rattle.fs_record.specs.FileLaws.{file_place}
-use Rattle.fs_record.specs.Opening.{is_end, NoBlock, Stands, IsDamage}
+use Rattle.fs_record.specs.Opening.{is_end, Stands}
 use Rattle.fs_scan.specs.declared.extent.Extent.{Extent}
 use Rattle.fs_scan.specs.declared.wholes.Whole.{Whole}
 use Rattle.fs_scan.specs.Marked.{places_from, AreRecords}
-use Rattle.fs_scan.specs.Extent.{area_in, block_in, IsWhole}
+use Rattle.fs_scan.specs.Extent.{area_in, block_in}
 use Rattle.fs_scan.specs.Taking.{rows_after, Takes, IsDamageAt}
 use Rattle.fs_scan.specs.Plain.{HoldData, HoldsData, IsPlain, IsPlainFile, starts, SaysWholes}
 use Rattle.fs_scan.specs.Wholes.{transaction_in, history_in}
 use Rattle.fs_scan.specs.Copied.{NoWhole, CopiesWhole}
+use Rattle.fs_scan.specs.Rising.{RiseWithin}
+use Rattle.fs_scan.proofs.RisingPlaces.{taken_rise}
 use Rattle.fs_scan.proofs.Stepping.{only_inside, records_stand}
 
 -- plain blocks up to at, and what is kept of them
@@ -35,6 +36,7 @@ pub record CameTo (bytes : List ℕ) (at t : ℕ) (places : List Row) (wholes : 
   pub at_end : at ≡ length (bytes_of blocks)
   pub ids : last (front_of blocks).history ≡ t
   pub stood : rows (front_of blocks).records ≡ places
+  pub rise : RiseWithin 0 at places
   pub history : (front_of blocks).history ≡ history_in wholes
   pub begins : map (λ (w : Whole). w.place) wholes ≡ starts blocks
   pub counts : AllByRecursion (λ (w : Whole). w.status ≡ 32) wholes
@@ -48,6 +50,7 @@ begun bytes places wholes e p w = record {
   at_end = refl;
   ids = refl;
   stood = sym p;
+  rise = subst (RiseWithin 0 4) (sym p) (omega arith);
   history = ap history_in (sym w);
   begins = ap (map (λ (w : Whole). w.place)) w;
   counts = subst (AllByRecursion (λ (w : Whole). w.status ≡ 32)) (sym w) tt;
@@ -122,6 +125,7 @@ went bytes at t old new wholes after e w c k p a =
       at_end = omega (arith, c.at_end, size, length-block b, length-append (bytes_of c.blocks) (block_spelling b));
       ids = ap last (history_then front b p.ds) ∙ last_then front.history b.status (transaction_of front.records b p.ds);
       stood = rows_then front b (Records p.ds) ∙ rw (c.stood, place) (ap (λ (i : Inside). rows_after old at (block_in e rest i) i) (sym same) ∙ sym k.rows);
+      rise = taken_rise rest at t old new e k c.rise;
       history = said ∙ ap history_in (sym a);
       begins = ap (map (λ (v : Whole). v.place)) a ∙ map-append (λ (v : Whole). v.place) wholes (w ∷ []) ∙ ap (λ (n : ℕ). map (λ (v : Whole). v.place) wholes ++ n ∷ []) (p.begins ∙ c.at_end) ∙ ap (λ (ns : List ℕ). ns ++ length (bytes_of c.blocks) ∷ []) c.begins;
       counts = subst (AllByRecursion (λ (v : Whole). v.status ≡ 32)) (sym a) (counts-append wholes w c.counts p.counts);

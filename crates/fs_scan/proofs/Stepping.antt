@@ -1,24 +1,22 @@
 -- The damage of what stands, or the transaction.
-use Rattle.std.proofs.Common.{◌≡◌, ℕ, zero, suc, ◌+◌, ◌-◌, ◌^◌, ◌<◌, ◌≤◌, Bool, true, false, ◌&&◌, cond, eqb, ltb, List, [], ◌∷◌, ◌++◌, length, get_or, take, drop, Option, Some, None, refl, sym, ap, subst, ◌∙◌, append_assoc, arith, inl, inr}
-use Rattle.std.specs.Prelude.{◌⊎◌}
-use Rattle.std.specs.List.{list_all, flat_map, AllByRecursion}
-use Rattle.std.proofs.lemmas.List.{length-append}
+use Rattle.std.proofs.Common.{◌≡◌, ℕ, ◌+◌, true, false, eqb, List, [], ◌++◌, length, drop, Some, None, refl, sym, ap, ◌∙◌, arith, inr}
+use Rattle.std.specs.List.{flat_map}
 use Rattle.std.proofs.lemmas.Bool.{eq-eqb, ne_eqb, false≢true}
 use Rattle.fs_record.specs.declared.body.TxnTexts.{TxnTexts}
 use Rattle.fs_record.specs.Spelling.{Data, Inside, Records, Skipped, Block, data_spelling, txn_head_of, block_spelling, long_of, texts_spelling, inside_spelling}
-use Rattle.fs_record.specs.Fits.{FitsTxnHead, FitsInside, FitsData, FitsBlock}
+use Rattle.fs_record.specs.Fits.{FitsTxnHead, FitsInside, FitsBlock}
 use Rattle.fs_record.specs.SpellingLaws.{same_parts}
 use Rattle.zbase.specs.declared.ids.Row.{Row}
 use Rattle.fs_record.specs.declared.damage.Damage.{Damage}
-use Rattle.fs_record.specs.declared.damage.Damage.TheVariants.{BadLength, BadTid, BadPrev, BadBack, BadStatus, BadTail, BadVersion}
-use Rattle.fs_record.specs.File.{fault_in, is_own, has_prev, has_body, has_no_version, is_counted, records_place}
-use Rattle.fs_record.specs.Opening.{is_end, NoBlock, Stands}
+use Rattle.fs_record.specs.declared.damage.Damage.TheVariants.{BadTail}
+use Rattle.fs_record.specs.File.{fault_in}
+use Rattle.fs_record.specs.Opening.{NoBlock, Stands}
 use Rattle.fs_scan.specs.declared.judging.Marks.{Marks}
 use Rattle.fs_scan.specs.declared.extent.Extent.{Extent}
 use Rattle.fs_scan.specs.declared.extent.Extent.{Extent}
 use Rattle.fs_scan.specs.Marked.{Marked, AreRecords, NoRecords, Read, places_from}
 use Rattle.fs_scan.specs.Extent.{texts_in, area_in, block_in, IsWhole}
-use Rattle.fs_scan.specs.Taking.{fault_by, rows_after, Takes, IsDamageAt}
+use Rattle.fs_scan.specs.Taking.{fault_by, Takes, IsDamageAt}
 
 -- the inside counts by its spelling
 spelled_alike : (tid status : ℕ) (texts : TxnTexts) (i j : Inside) (tail : ℕ) → inside_spelling i ≡ inside_spelling j → block_spelling (record { tid = tid; status = status; texts = texts; inside = i; tail = tail }) ≡ block_spelling (record { tid = tid; status = status; texts = texts; inside = j; tail = tail })

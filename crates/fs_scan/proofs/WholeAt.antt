@@ -1,19 +1,19 @@
 -- What a transaction's head says of what stands behind it.
-use Rattle.std.proofs.Common.{◌≡◌, ℕ, zero, suc, ◌+◌, ◌-◌, ◌^◌, ◌<◌, ◌≤◌, Bool, true, false, ◌||◌, eqb, ltb, List, [], ◌∷◌, ◌++◌, length, get_or, take, drop, refl, sym, ap, subst, ◌∙◌, append_assoc, arith, inl, inr}
+use Rattle.std.proofs.Common.{◌≡◌, ℕ, ◌+◌, ◌-◌, ◌^◌, ◌<◌, ◌≤◌, Bool, true, false, ◌||◌, eqb, ltb, List, [], ◌∷◌, ◌++◌, length, get_or, take, drop, refl, sym, ap, ◌∙◌, append_assoc, arith, inl, inr}
 use Rattle.std.specs.Prelude.{◌⊎◌}
 use Rattle.std.specs.Int.{w64, from_be_bytes}
 use Rattle.std.proofs.lemmas.List.{get_or_at, take_at, drop_at, length-append, length-drop, length-take, take-append-drop, drop-drop}
 use Rattle.std.proofs.lemmas.Nat.{from_be_bytes-to_be_bytes_8}
-use Rattle.std.proofs.lemmas.Bool.{ltb-true, ltb-false, le-ltb, lt-ltb, eqb-true, eqb-false, ne_eqb}
-use Rattle.zbase.specs.NumberLaws.{length-be64, length-be16}
+use Rattle.std.proofs.lemmas.Bool.{le-ltb, lt-ltb, ne_eqb}
+use Rattle.zbase.specs.NumberLaws.{length-be64}
 use Rattle.zbase.specs.Numbers.{be64, be16}
 use Rattle.fs_record.specs.declared.heads.TxnHead.{TxnHead}
-use Rattle.fs_record.specs.Spelling.{Inside, Records, Skipped, Block, txn_head, txn_head_of, block_spelling, long_of, texts_spelling, inside_spelling}
-use Rattle.fs_record.specs.Fits.{FitsTxnHead, FitsBlock}
-use Rattle.fs_record.specs.SpellingLaws.{length-txn_head, same_txn_head, length-block, txn_head_from}
-use Rattle.fs_record.specs.Opening.{is_end, status_in, length_in, NoBlock}
+use Rattle.fs_record.specs.Spelling.{Skipped, txn_head, txn_head_of, block_spelling, long_of, texts_spelling, inside_spelling}
+use Rattle.fs_record.specs.Fits.{FitsTxnHead}
+use Rattle.fs_record.specs.SpellingLaws.{same_txn_head, txn_head_from}
+use Rattle.fs_record.specs.Opening.{is_end, length_in, NoBlock}
 use Rattle.fs_scan.specs.declared.extent.Extent.{Extent}
-use Rattle.fs_scan.specs.Extent.{texts_in, area_in, block_in, IsWhole}
+use Rattle.fs_scan.specs.Extent.{area_in, block_in, IsWhole}
 
 -- the id and the length, the status, and the rest
 regroup_parts : (t l s u d e x : List ℕ) → (((((t ++ l) ++ s) ++ u) ++ d) ++ e) ++ x ≡ (t ++ l) ++ (s ++ ((u ++ d) ++ e ++ x))

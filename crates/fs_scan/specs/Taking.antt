@@ -1,5 +1,5 @@
 -- One step over the transactions of a file.
-use Rattle.std.specs.Prelude.{◌≡◌, ◌⊎◌, ℕ, ◌+◌, ◌<◌, Bool, true, false, ◌&&◌, ◌==◌, nat_lt, if◌then◌else◌, List, ◌++◌, length, drop, Option, Some, None}
+use Rattle.std.specs.Prelude.{◌≡◌, ◌⊎◌, ℕ, ◌+◌, true, false, ◌&&◌, ◌==◌, nat_lt, if◌then◌else◌, List, ◌++◌, drop, Option, Some, None}
 use Rattle.fs_record.specs.Spelling.{Inside, Records, Skipped, Block, long_of}
 use Rattle.zbase.specs.declared.ids.Row.{Row}
 use Rattle.fs_record.specs.declared.damage.Damage.{Damage}

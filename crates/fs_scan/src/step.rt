@@ -1,5 +1,6 @@
 ghost use Rattle.std.specs.Prelude.{◌≡◌, ◌≢◌, ◌+◌, ◌<◌, ◌^◌, length, IfOk};
 ghost use Rattle.fs_scan.specs.Extent.{IsWhole};
+ghost use Rattle.fs_scan.specs.Rising.{RiseWithin};
 ghost use Rattle.fs_scan.specs.Taking.{fault_by, StepSays, StepLeads};
 
 use crate::extent::{Extent, Parts, whole_at};
@@ -55,6 +56,7 @@ fn take_records(
     extent: &Extent,
 ) -> Result<Step, Memory>
     requires place { place + length rest.now < 2 ^ 63 }
+    requires before { RiseWithin 0 place places.old }
     requires whole { IsWhole rest.now extent.now }
     requires read { extent.now.head.status ≢ 117 }
     ensures { IfOk result (λ s. StepLeads rest.now place last places.old places.new s) }
@@ -81,7 +83,8 @@ fn take_records(
 /// transaction has the id `last`. The records of a right transaction are added to the places; of one undone in the
 /// old manner they aren't read.
 pub fn take_one(places: &mut Places, rest: &[u8], place: u64, last: Tid) -> Result<Step, Memory>
-    requires { place + length rest.now < 2 ^ 63 }
+    requires place { place + length rest.now < 2 ^ 63 }
+    requires before { RiseWithin 0 place places.old }
     ensures { IfOk result (λ s. StepSays rest.now place last places.old places.new s) }
 {
     let extent = match whole_at(rest) {

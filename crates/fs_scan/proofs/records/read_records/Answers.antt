@@ -1,4 +1,4 @@
-use Rattle.std.proofs.Common.{subst, refl, arith, ◌-◌, drop, take, length}
+use Rattle.std.proofs.Common.{subst, arith, ◌-◌, drop, take, length}
 use Rattle.std.proofs.lemmas.List.{take_rest}
 use Rattle.fs_scan.specs.Found.{NoData}
 use Rattle.fs_scan.proofs.OneByOne.{turn, none_read}

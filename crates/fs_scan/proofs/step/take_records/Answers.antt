@@ -1,5 +1,8 @@
-use Rattle.std.proofs.Common.{inl, refl, sym, ap, ◌∙◌, subst, ◌++◌, List, []}
+use Rattle.std.proofs.Common.{inl, refl, sym, ap, ◌∙◌, subst, ◌++◌, List}
 use Rattle.zbase.specs.declared.ids.Row.{Row}
+use Rattle.fs_scan.specs.Extent.{area_in}
+use Rattle.fs_scan.specs.Rising.{RiseFrom}
+use Rattle.fs_scan.proofs.RisingPlaces.{read_rise}
 use Rattle.fs_scan.proofs.Stepping.{bad_length, records_right, records_wrong}
 use Rattle.fs_scan.proofs.step.take_records.Goals as goal
 
@@ -17,3 +20,8 @@ returns c =
     records_right c.args.rest.now c.args.extent.now c.args.place c.args.last c.args.places.now c.read_records.new.rows _ c.in-Some.marks c.requires.whole c.requires.read
     (rw c.new-rows.ensures at (rw c.in-Some.is at c.in_ok-read.ensures)) (sym c.fault.ensures ∙ c.in-None-fault.is)
     (c.in_ok-add-in-None-fault.ensures ∙ ap (λ (rows : List Row). c.args.places.now ++ rows) c.as_slice.ensures)
+
+pub add-requires : goal.add-requires
+add-requires c =
+    let r = rw c.new-rows.ensures at (rw c.in-Some.is at c.in_ok-read.ensures) in
+    subst (λ (rows : List Row). RiseFrom 0 (c.args.places.now ++ rows)) (sym c.as_slice.ensures) (read_rise (area_in c.args.extent.now c.args.rest.now) c.args.places.now c.read_records.new.rows c.args.place c.args.extent.now.from c.args.extent.now.head.tid c.args.place c.in-Some.marks c.requires.before r)
