@@ -1,4 +1,3 @@
 pub mod HeadFields
 pub mod Growing
-pub mod Ends
 pub mod Unique

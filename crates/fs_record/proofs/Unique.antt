@@ -1,25 +1,13 @@
 -- Bytes open in one way.
 use Rattle.std.proofs.Common.{◌≡◌, ℕ, suc, zero, ◌+◌, ◌-◌, true, List, [], ◌∷◌, ◌++◌, length, Option, Some, None, refl, sym, ap, subst, ◌∙◌, append_assoc, arith, inl, inr}
-use Rattle.std.proofs.lemmas.List.{append_cancel_left}
 use Rattle.fs_record.specs.Spelling.{Block, block_spelling}
 use Rattle.fs_record.specs.SpellingLaws.{same_block}
 use Rattle.std.proofs.lemmas.Bool.{false≢true, cases_order}
 use Rattle.std.specs.Prelude.{◌⊎◌}
 use Rattle.fs_record.specs.declared.damage.Damage.{Damage}
-use Rattle.fs_record.proofs.Ends.{not_end}
+use Rattle.fs_record.specs.UniqueLaws.{not_end, same_count}
 use Rattle.fs_record.specs.Opening.{is_end, IsDamage, SplitsAt, Cut, Damaged}
 use Rattle.fs_record.specs.File.{Front, IsRight, AreRight, front_of, bytes_of, fault_of, magic}
-
--- as many blocks are the same blocks
-pub same_count : (bs cs : List Block) (x y : List ℕ) → AreRight bs → AreRight cs → length bs ≡ length cs → bytes_of bs ++ x ≡ bytes_of cs ++ y → (bs ≡ cs) × (x ≡ y)
-same_count [] [] x y p q l e = (refl, append_cancel_left magic x y e)
-same_count [] (c ∷ cs) x y p q l e = absurd (omega arith)
-same_count (b ∷ bs) [] x y p q l e = absurd (omega arith)
-same_count (b ∷ bs) (c ∷ cs) x y p q l e =
-    let m : length bs ≡ length cs = omega arith in
-    let r = same_count bs cs (block_spelling b ++ x) (block_spelling c ++ y) p.1 q.1 m (sym (append_assoc (bytes_of bs) (block_spelling b) x) ∙ e ∙ append_assoc (bytes_of cs) (block_spelling c) y) in
-    let s = same_block b c x y p.0.fits q.0.fits r.1 in
-    (ap (λ (h : Block). h ∷ bs) s.0 ∙ ap (λ (t : List Block). c ∷ t) r.0, s.1)
 
 -- behind fewer blocks a right one stands
 pub GoesOn : Front → List ℕ → Type 0

@@ -4,3 +4,4 @@ pub mod SpellingLaws
 pub mod File
 pub mod FileLaws
 pub mod Opening
+pub mod UniqueLaws

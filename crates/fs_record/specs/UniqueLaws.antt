@@ -1,15 +1,15 @@
--- A right block is no end.
-use Rattle.std.proofs.Common.{◌≡◌, ℕ, ◌+◌, Bool, true, false, cond, eqb, ltb, ◌||◌, ◌&&◌, List, ◌++◌, length, Option, Some, None, refl, ap, ◌∙◌, arith}
+-- A right block is no end, and as many right blocks with the same spelling are the same.
+use Rattle.std.proofs.Common.{◌≡◌, ℕ, ◌+◌, Bool, true, false, cond, eqb, ltb, ◌||◌, ◌&&◌, List, [], ◌∷◌, ◌++◌, length, Option, Some, None, refl, sym, ap, ◌∙◌, append_assoc, arith}
 use Rattle.std.specs.List.{list_all}
-use Rattle.std.proofs.lemmas.List.{length-append}
+use Rattle.std.proofs.lemmas.List.{append_cancel_left, length-append}
 use Rattle.std.proofs.lemmas.Bool.{eqb-true, le-ltb, false≢true}
 use Rattle.fs_record.specs.Spelling.{Inside, Records, Skipped, Block, block_spelling, long_of}
 use Rattle.fs_record.specs.Fits.{FitsInside}
-use Rattle.fs_record.specs.SpellingLaws.{length-block, status_stands, length_stands}
+use Rattle.fs_record.specs.SpellingLaws.{length-block, same_block, status_stands, length_stands}
 use Rattle.zbase.specs.declared.ids.Row.{Row}
 use Rattle.fs_record.specs.declared.damage.Damage.{Damage}
 use Rattle.fs_record.specs.declared.damage.Damage.TheVariants.{BadTid, BadPrev, BadBack, BadStatus}
-use Rattle.fs_record.specs.File.{Front, rows, fault_in, IsRight, is_own, has_prev, has_body, is_counted}
+use Rattle.fs_record.specs.File.{Front, rows, fault_in, IsRight, AreRight, bytes_of, magic, is_own, has_prev, has_body, is_counted}
 use Rattle.zbase.specs.Values.{last}
 use Rattle.fs_record.specs.Opening.{length_in, is_end}
 
@@ -50,3 +50,14 @@ not_end front b more right =
     let status = known front.place (last front.history) (rows front.records) b b.inside right.fits.inside right.right in
     let says = length_stands b more right.fits.head.length in
     no_end _ _ _ _ (le-ltb _ _ (omega arith)) (ap (λ (s : ℕ). eqb s 99) (status_stands b more) ∙ status.0) (ap (λ (s : ℕ). eqb s 0) (status_stands b more) ∙ status.1) (le-ltb _ _ (omega (arith, says)))
+
+-- as many blocks are the same blocks
+pub same_count : (bs cs : List Block) (x y : List ℕ) → AreRight bs → AreRight cs → length bs ≡ length cs → bytes_of bs ++ x ≡ bytes_of cs ++ y → (bs ≡ cs) × (x ≡ y)
+same_count [] [] x y p q l e = (refl, append_cancel_left magic x y e)
+same_count [] (c ∷ cs) x y p q l e = absurd (omega arith)
+same_count (b ∷ bs) [] x y p q l e = absurd (omega arith)
+same_count (b ∷ bs) (c ∷ cs) x y p q l e =
+    let m : length bs ≡ length cs = omega arith in
+    let r = same_count bs cs (block_spelling b ++ x) (block_spelling c ++ y) p.1 q.1 m (sym (append_assoc (bytes_of bs) (block_spelling b) x) ∙ e ∙ append_assoc (bytes_of cs) (block_spelling c) y) in
+    let s = same_block b c x y p.0.fits q.0.fits r.1 in
+    (ap (λ (h : Block). h ∷ bs) s.0 ∙ ap (λ (t : List Block). c ∷ t) r.0, s.1)

@@ -1,0 +1,63 @@
+ghost use Rattle.std.specs.Prelude.{◌≡◌, ◌+◌, ◌<◌, ◌≤◌, ◌^◌, length, drop};
+ghost use Rattle.fs_scan.specs.Extent.{PartsSay};
+
+use fs_record::{RecordRefusal, TxnHead, read_txn_head};
+use zbase::u64_at;
+
+/// A transaction whose texts lie within it, in bytes from its start.
+#[derive(Clone, Copy)]
+pub struct Extent {
+    pub head: TxnHead,
+    /// Where its data records begin.
+    pub from: usize,
+    /// Where they end, and the second length begins.
+    pub long: usize,
+    /// The second length.
+    pub tail: u64,
+}
+
+/// What may stand behind a file's transactions.
+#[derive(Clone, Copy)]
+pub enum Parts {
+    /// Nothing, or a torn rest.
+    End,
+    /// A transaction whose head and texts pass its end.
+    Bad,
+    /// A transaction with a place for data records.
+    Whole(Extent),
+}
+
+/// What stands at the front, down to where its data records begin and end. Takes no memory.
+///
+/// FileStorage format notes: no whole head, a status `c` or 0, and a length that passes the file's end are a
+/// write that was broken off.
+pub fn whole_at(rest: &[u8]) -> Parts
+    requires { length rest.now < 2 ^ 63 }
+    ensures { PartsSay rest.now result }
+{
+    let head = match read_txn_head(rest) {
+        Ok(head) => head,
+        Err(RecordRefusal::Short) => return Parts::End,
+    };
+    if head.status == b'c' {
+        return Parts::End;
+    }
+    if head.status == 0 {
+        return Parts::End;
+    }
+    if head.length > (rest.len() - 8) as u64 {
+        return Parts::End;
+    }
+    let long = head.length as usize;
+    let from = 23 + head.user as usize + head.description as usize + head.extension as usize;
+    if long < from {
+        return Parts::Bad;
+    }
+    let tail = u64_at(rest, long);
+    Parts::Whole(Extent {
+        head,
+        from,
+        long,
+        tail,
+    })
+}

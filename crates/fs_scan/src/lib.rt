@@ -1,0 +1,19 @@
+//! Reads the transactions of a storage file one after another.
+//!
+//! `step::take_one` says of any bytes what stands at a place in a file: the end, a damage or a right transaction.
+//! `read_plain_file` reads all transactions of a file that has nothing but committed ones that aren't packed and
+//! hold their data (`specs/Plain`), with their values (`specs/Wholes`).
+#![tactic(auto)]
+
+mod copying;
+mod data;
+mod extent;
+mod judging;
+mod places;
+mod plain;
+mod records;
+mod step;
+mod wholes;
+
+pub use plain::{PlainRefusal, read_plain_file};
+pub use wholes::{OidValue, OidValues, Whole, Wholes};

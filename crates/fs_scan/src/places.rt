@@ -1,0 +1,103 @@
+ghost use Rattle.std.specs.Prelude.{◌≡◌, ◌++◌, ◌∷◌, [], IfOk, IfErr, OnOk, OnErr};
+ghost use Rattle.std.specs.List.{list_any};
+ghost use Rattle.fs_record.specs.File.{last_place, is_row};
+ghost use Rattle.fs_scan.specs.Rising.{RiseFrom, IsAt, NoneAt};
+
+use std::alloc::Global;
+use std::collections::BTreeMap;
+use std::marker::Model;
+use zbase::{Memory, Oid, Row};
+
+/// The places of a file's data records, which contracts see as a list, from the oldest to the newest. They rise.
+///
+/// Every record is kept, and not only the newest of an object: of two records of an object in one transaction
+/// the first is on no chain of previous places, and yet a back pointer may name it.
+#[derive(Drop)]
+pub struct Places {
+    rows: Vec<Row>,
+    /// Where each object's last record stands.
+    newest: BTreeMap<u64, u64>,
+}
+
+impl Model for Places {
+    ghost use Rattle.std.specs.Prelude.{List};
+    ghost use Rattle.zbase.specs.declared.ids.Row.{Row as Place};
+    ghost use Rattle.fs_scan.specs.Newest.{IsIndex};
+
+    ghost Value = { List Place };
+
+    ghost view = { λ places. places.rows.items };
+
+    ghost invariant = { λ places. IsIndex places.newest places.rows.items };
+}
+
+impl Places {
+    /// No record. Takes no memory.
+    pub fn new(alloc: Global) -> Places
+        ensures { result ≡ [] }
+    {
+        Places {
+            rows: Vec::new(alloc),
+            newest: BTreeMap::new(alloc),
+        }
+    }
+
+    /// The allocator that the list keeps.
+    pub fn alloc(&self) -> Global {
+        *self.rows.allocator()
+    }
+
+    /// The place of the object's last record, 0 where it has none.
+    pub fn last_place(&self, oid: Oid) -> u64
+        ensures { result ≡ last_place oid 0 self.now }
+    {
+        match self.newest.get(&oid.0) {
+            Some(place) => *place,
+            None => 0,
+        }
+    }
+
+    // The index of the record at this place.
+    fn search(&self, place: u64) -> Result<usize, usize>
+        ensures found { IfOk result (IsAt self.now place) }
+        ensures absent { IfErr result (λ _. NoneAt self.now place) }
+        ensures rise { RiseFrom 0 self.now }
+    {
+        self.rows.binary_search_by_key(&place, |row| row.place)
+    }
+
+    /// Whether a record of the object stands at this place.
+    pub fn has(&self, oid: Oid, place: u64) -> bool
+        ensures { result ≡ list_any (is_row oid place) self.now }
+    {
+        match self.search(place) {
+            Ok(at) => self.rows[at].oid == oid,
+            Err(_) => false,
+        }
+    }
+
+    // Adds a record behind all others. For want of memory the list stays as it was.
+    fn push(&mut self, row: Row) -> Result<(), Memory>
+        requires { RiseFrom 0 (self.old ++ row ∷ []) }
+        ensures ok { OnOk result (self.new ≡ self.old ++ row ∷ []) }
+        ensures err { OnErr result (self.new ≡ self.old) }
+    {
+        self.rows.reserve(1)?;
+        self.newest.insert(row.oid.0, row.place)?;
+        match self.rows.push(row) {
+            Ok(()) => Ok(()),
+            Err(_) => unreachable!(),
+        }
+    }
+
+    /// Adds the records of a transaction behind all others. For want of memory the first of them may be added.
+    pub fn add(&mut self, rows: &[Row]) -> Result<(), Memory>
+        requires { RiseFrom 0 (self.old ++ rows.now) }
+        ensures { OnOk result (self.new ≡ self.old ++ rows.now) }
+    {
+        for row in rows {
+            self.push(*row)?;
+        }
+        Ok(())
+    }
+}
