@@ -1,3 +1,4 @@
 pub mod Texts
 pub mod Record
 pub mod Reading
+pub mod Kinds

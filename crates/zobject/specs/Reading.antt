@@ -22,9 +22,13 @@ None >>= f = None
 unfoldable pub number_at : Width → List ℕ → Reads ℕ
 number_at w bytes = if nat_lt (length bytes) (byte_len w) then None else Some (from_be_bytes w (take (byte_len w) bytes), drop (byte_len w) bytes)
 
+-- the text, where it keeps the rule
+abbrev pub kept : (List ℕ → Bool) → List ℕ → Option (List ℕ)
+kept rule t = if rule t then Some t else None
+
 -- so many bytes, where they keep the rule
 unfoldable pub bytes_at : (List ℕ → Bool) → ℕ → List ℕ → Reads (List ℕ)
-bytes_at rule n bytes = if nat_lt (length bytes) n then None else if rule (take n bytes) then Some (take n bytes, drop n bytes) else None
+bytes_at rule n bytes = if nat_lt (length bytes) n then None else kept rule (take n bytes) >>= λ t. Some (t, drop n bytes)
 
 -- a length of that width, and so many bytes, which keep the rule
 unfoldable pub text_at : (List ℕ → Bool) → Width → List ℕ → Reads (List ℕ)

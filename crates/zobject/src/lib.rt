@@ -5,8 +5,11 @@
 #![tactic(auto)]
 
 mod object;
+mod reading;
+mod texts;
 
 pub use object::{
     Child, Children, Local, Locals, Object, Part2, Properties, Property, Roles, Setting, Settings,
     User, Users,
 };
+pub use texts::is_id;
