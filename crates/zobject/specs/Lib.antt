@@ -2,3 +2,5 @@ pub mod Texts
 pub mod Record
 pub mod Reading
 pub mod Kinds
+pub mod Given
+pub mod Folders
