@@ -4,7 +4,7 @@ ghost use Rattle.zobject.specs.Given.{Gives, Knows};
 ghost use Rattle.zobject.specs.Kinds.{letter};
 ghost use Rattle.zobject.specs.Folders.{child_of};
 
-use crate::reading::{behind_lists, head_of, name_of, u64_of, source_of, u16_of};
+use crate::reading::{behind_lists, head_of, name_of, source_of, u16_of, u64_of};
 use crate::texts::Kind;
 use crate::unread::Unread;
 use crate::{Child, Children, Object, Part2};

@@ -16,3 +16,6 @@ pub use object::{
     User, Users,
 };
 pub use texts::is_id;
+
+#[cfg(test)]
+mod tests;

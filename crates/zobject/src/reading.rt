@@ -70,7 +70,6 @@ pub(crate) fn u64_of(bytes: &[u8]) -> Option<(u64, &[u8])>
     Some((number, rest))
 }
 
-
 /// So many bytes.
 #[tactic(auto, unfolding(crate::specs::Reading::front_at))]
 fn cut(len: usize, bytes: &[u8]) -> Option<(&[u8], &[u8])>
