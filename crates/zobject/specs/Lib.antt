@@ -1,3 +1,6 @@
 pub mod Texts
 pub mod Record
 pub mod Reading
+pub mod Kinds
+pub mod Given
+pub mod Folders

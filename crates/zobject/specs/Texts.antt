@@ -32,12 +32,17 @@ is_reserved text = list_any (λ name. bytes_eq name text) reserved
 abbrev pub is_of_length : ℕ → List ℕ → Bool
 is_of_length most text = is_between 1 most (length text)
 
+-- 1 to 100 bytes that a name may have
+abbrev pub is_spelled : List ℕ → Bool
+is_spelled text = is_of_length 100 text && list_all is_id_byte text
+
+-- names that are kept from the outside
+abbrev pub is_hidden : List ℕ → Bool
+is_hidden text = begins_with (codes "_") text || begins_with (codes "aq_") text || begins_with (codes "manage_") text
+
 -- the name of an object in its folder
 unfoldable pub is_id : List ℕ → Bool
-is_id text =
-    is_of_length 100 text && list_all is_id_byte text
-    && not (begins_with (codes "_") text) && not (begins_with (codes "aq_") text) && not (begins_with (codes "manage_") text)
-    && not (is_reserved text)
+is_id text = is_spelled text && not (is_hidden text) && not (is_reserved text)
 
 abbrev pub is_acl_users : List ℕ → Bool
 is_acl_users text = bytes_eq (codes "acl_users") text

@@ -4,9 +4,18 @@
 //! and `specs/Reading` how the plain ones are read.
 #![tactic(auto)]
 
+mod bare;
 mod object;
+mod reading;
+mod texts;
+mod unread;
 
+pub use bare::{find_child, read_bare};
 pub use object::{
     Child, Children, Local, Locals, Object, Part2, Properties, Property, Roles, Setting, Settings,
     User, Users,
 };
+pub use texts::is_id;
+
+#[cfg(test)]
+mod tests;
