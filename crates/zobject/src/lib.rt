@@ -5,12 +5,14 @@
 #![tactic(auto)]
 
 mod bare;
+mod laws;
 mod object;
 mod reading;
 mod texts;
 mod unread;
 
 pub use bare::{find_child, read_bare};
+pub use laws::bare_is_record;
 pub use object::{
     Child, Children, Local, Locals, Object, Part2, Properties, Property, Roles, Setting, Settings,
     User, Users,
