@@ -38,9 +38,9 @@ short_name t e = elim (either (is_id t) (is_acl_users t) e) [
 short_stored : (k : ℕ) (t : List ℕ) → is_stored_id k t ≡ true → length t < 2 ^ 16
 short_stored k t e = elim (either (is_id t || (eqb k 70 && eqb (length t) 0)) (eqb k 85 && is_acl_users t) e) [
   | inl rest ↦ elim (either (is_id t) (eqb k 70 && eqb (length t) 0) rest) [
-      | inl id ↦ short_id t id
-      | inr empty ↦ let len : length t ≡ 0 = eqb-true (length t) 0 (both (eqb k 70) (eqb (length t) 0) empty).1 in omega (arith, len)
-    ]
+    | inl id ↦ short_id t id
+    | inr empty ↦ let len : length t ≡ 0 = eqb-true (length t) 0 (both (eqb k 70) (eqb (length t) 0) empty).1 in omega (arith, len)
+  ]
   | inr acl ↦ short_acl_users t (both (eqb k 85) (is_acl_users t) acl).1
 ]
 
@@ -89,10 +89,12 @@ unfolding head_at text be16 be64
 head_again h rest is =
     let front : List ℕ = 90 ∷ 49 ∷ h.kind ∷ [] in
     let regrouped : head_text h ++ rest ≡ front ++ (text h.id ++ (be64 h.parent ++ (text h.title ++ rest))) = simp append_assoc in
-    ap head_at regrouped ∙ rw (kind_again h.kind (text h.id ++ (be64 h.parent ++ (text h.title ++ rest))) is.kind,
+    ap head_at regrouped ∙ rw (
+      kind_again h.kind (text h.id ++ (be64 h.parent ++ (text h.title ++ rest))) is.kind,
       text_again (is_stored_id h.kind) w16 (2 ^ 16) wide16 h.id (be64 h.parent ++ (text h.title ++ rest)) (short_stored h.kind h.id is.id) is.id,
       number_again w64 (2 ^ 64) wide64 h.parent (text h.title ++ rest) is.parent,
-      text_again is_title w16 (2 ^ 16) wide16 h.title rest (short_title h.title is.title) is.title) refl
+      text_again is_title w16 (2 ^ 16) wide16 h.title rest (short_title h.title is.title) is.title,
+    ) refl
 
 -- ---- children
 
@@ -155,9 +157,11 @@ child_takes earlier bytes x fits e =
 child_again : (earlier : List (List ℕ)) (c : Child) (rest : List ℕ) → IsNewChild earlier c → child_at earlier (child c ++ rest) ≡ Some (c, rest)
 unfolding child_at name_at text be16 be64
 child_again earlier c rest is =
-    ap (child_at earlier) (append_assoc (text c.name) (be64 c.oid) rest) ∙ rw (text_again is_child_name w16 (2 ^ 16) wide16 c.name (be64 c.oid ++ rest) (short_name c.name is.right.name) is.right.name,
+    ap (child_at earlier) (append_assoc (text c.name) (be64 c.oid) rest) ∙ rw (
+      text_again is_child_name w16 (2 ^ 16) wide16 c.name (be64 c.oid ++ rest) (short_name c.name is.right.name) is.right.name,
       is.new,
-      number_again w64 (2 ^ 64) wide64 c.oid rest is.right.oid) refl
+      number_again w64 (2 ^ 64) wide64 c.oid rest is.right.oid,
+    ) refl
 
 -- children with new names, each once
 pub record AreChildren (earlier : List (List ℕ)) (cs : List Child) : Type 0 where

@@ -17,7 +17,7 @@ pub use object::{
     Child, Children, Local, Locals, Object, Part2, Properties, Property, Roles, Setting, Settings,
     User, Users,
 };
-pub use texts::is_id;
+pub use texts::id_text;
 
 #[cfg(test)]
 mod tests;

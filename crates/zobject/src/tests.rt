@@ -1,4 +1,4 @@
-use crate::{Part2, find_child, is_id, read_bare};
+use crate::{Part2, find_child, id_text, read_bare};
 use std::test::Fail;
 use zbase::{Bytes, Oid};
 
@@ -125,10 +125,10 @@ fn a_title_has_at_most_1000_bytes(rt: HostRuntime) -> Result<(), Fail> {
 #[test]
 fn ids(rt: HostRuntime) {
     let letters = [b'a'; 101];
-    assert!(rt; is_id(&letters[..100]));
-    assert!(rt; !is_id(&letters));
+    assert!(rt; id_text(&letters[..100]).is_some());
+    assert!(rt; id_text(&letters).is_none());
     for name in ["a", "index_html", "A-1.x,y~", "acl_users2"] {
-        assert!(rt; is_id(name.as_bytes()), "{name}");
+        assert!(rt; id_text(name.as_bytes()).is_some(), "{name}");
     }
     for name in [
         "",
@@ -143,6 +143,6 @@ fn ids(rt: HostRuntime) {
         "a b",
         "é",
     ] {
-        assert!(rt; !is_id(name.as_bytes()), "{name}");
+        assert!(rt; id_text(name.as_bytes()).is_none(), "{name}");
     }
 }

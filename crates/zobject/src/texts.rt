@@ -70,9 +70,9 @@ fn is_hidden(text: &[u8]) -> bool
     text.starts_with(b"_") || text.starts_with(b"aq_") || text.starts_with(b"manage_")
 }
 
-/// Whether a text may name an object in its folder. Takes no memory.
+// Whether a text may name an object in its folder.
 #[tactic(auto, unfolding(crate::specs::Texts::is_id))]
-pub fn is_id(text: &[u8]) -> bool
+fn is_id(text: &[u8]) -> bool
     ensures { result ≡ is_id text.now }
 {
     is_spelled(text) && !is_hidden(text) && !is_reserved(text)
@@ -120,6 +120,14 @@ pub(crate) fn stored_id(kind: Kind, bytes: &[u8]) -> Option<&str>
     } else {
         None
     }
+}
+
+/// The text, where it may name an object in its folder. Takes no memory.
+#[tactic(auto, using(crate::proofs::Ids::id_is_utf8))]
+pub fn id_text(bytes: &[u8]) -> Option<&str>
+    ensures { option_map (λ t. t.now) result ≡ kept is_id bytes.now }
+{
+    if is_id(bytes) { as_utf8(bytes) } else { None }
 }
 
 /// The text, where a folder may list a child under it.

@@ -27,9 +27,9 @@ unfolding others
 others_lose R = refl
 
 -- an answer
-pub reads : {R : Type 0} (terms : Terms R) (s : Opened) (t : ℕ) (q : R) (facts : List Fact) (x : Reply) → terms.eval (look facts) q ≡ Outcome.Answer x → x.shown ≡ [] → x.denied ≡ None
+pub reads : {R : Type 0} (terms : Terms R) (s : Opened) (t : ℕ) (q : R) (facts : List Fact) (x : Reply) → terms.eval (look facts) q ≡ Outcome.Answer x
     → Steps terms (alone s (Asking (attempt q t facts))) 0 (step_lines terms.answer (StepLine.Read x t)) (alone s Free)
-reads terms s t q facts x e none all = inl (ap (from_asking terms (alone s (Asking (attempt q t facts))) 0 (attempt q t facts)) e ∙ rw (none, all) refl)
+reads terms s t q facts x e = inl (ap (from_asking terms (alone s (Asking (attempt q t facts))) 0 (attempt q t facts)) e)
 
 -- a fact that is wanted
 pub fetches : {R : Type 0} (terms : Terms R) (s : Opened) (t : ℕ) (q : R) (facts : List Fact) (ask : Ask) → IsHistory s.history → t ≡ last s.history → terms.eval (look facts) q ≡ Outcome.Need ask

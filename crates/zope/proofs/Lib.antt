@@ -2,7 +2,9 @@ pub mod Phrases
 pub mod TwoWords
 pub mod Pieces
 pub mod Alones
+pub mod CalmSteps
 pub mod PrintSteps
 pub mod WholeReport
 pub mod Refusals
+pub mod FactKinds
 pub mod Newest

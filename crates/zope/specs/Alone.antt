@@ -1,13 +1,14 @@
 -- The first worker over the opened file, while the fifteen others have no request.
-use Rattle.std.specs.Prelude.{ℕ, ◌≡◌, List, [], ◌∷◌, replicate, Option, None}
+use Rattle.std.specs.Prelude.{ℕ, ◌≡◌, List, [], ◌∷◌, ◌++◌, replicate, Option, None}
 use Rattle.evaluator.specs.declared.ask.Ask.{Ask}
 use Rattle.evaluator.specs.declared.fact.Fact.{Fact}
 use Rattle.evaluator.specs.declared.outcome.Outcome.{Outcome}
 use Rattle.evaluator.specs.declared.reply.Mark.{Mark}
 use Rattle.evaluator.specs.declared.reply.Reply.{Reply}
+use Rattle.evaluator.specs.declared.reply.Shown.{Shown}
 use Rattle.evaluator.specs.Exec.{Eval}
 use Rattle.schedule.specs.declared.line.Line.{Line}
-use Rattle.schedule.specs.Causes.{memory_reply}
+use Rattle.schedule.specs.Causes.{denied_line, memory_reply, shown_lines}
 use Rattle.schedule.specs.Moments.{Attempt, Doing, Free, Waiting, Asking, Computed, Moment}
 use Rattle.zope.specs.declared.step_line.StepLine.{StepLine}
 use Rattle.zope.specs.Replies.{IsStatus}
@@ -19,10 +20,16 @@ IsOfObject (Ask.Object o) = Unit {0}
 IsOfObject (Ask.Transaction t) = ⊥
 IsOfObject Ask.Log = ⊥
 
--- an evaluation of this stage asks for objects, changes nothing, shows no object and denies none
+-- no more than one object is shown
+abbrev pub ShowsFew : List Shown → Type 0
+ShowsFew [] = Unit {0}
+ShowsFew (s ∷ []) = Unit {0}
+ShowsFew (s ∷ t ∷ ss) = ⊥
+
+-- an evaluation of this stage asks for objects, changes nothing and shows no more than one object
 abbrev pub IsPlain : Outcome → Type 0
 IsPlain (Outcome.Need ask) = IsOfObject ask
-IsPlain (Outcome.Answer x) = (x.shown ≡ []) × (x.denied ≡ None)
+IsPlain (Outcome.Answer x) = ShowsFew x.shown
 IsPlain (Outcome.Change x d) = ⊥
 
 abbrev pub OnlyAnswers : {R : Type 0} → Eval R → Type 0
@@ -51,10 +58,10 @@ abbrev pub step_lines : (Reply → Mark → List ℕ) → StepLine → List Line
 step_lines answer StepLine.Idle = Line.Idle 0 ∷ []
 step_lines answer (StepLine.Begun t) = Line.Begin 0 t ∷ []
 step_lines answer (StepLine.Fetched ask) = Line.Fetch 0 ask ∷ []
-step_lines answer (StepLine.Read x t) = Line.ReplyRead 0 t (answer x (Mark.Read t)) ∷ []
+step_lines answer (StepLine.Read x t) = Line.ReplyRead 0 t (answer x (Mark.Read t)) ∷ (shown_lines 0 x ++ denied_line 0 x.denied)
 step_lines answer StepLine.Memory = Line.Memory 0 ∷ Line.ReplyNone 0 (answer memory_reply Mark.Empty) ∷ []
 
--- a reply of the step has a status
+-- a reply of the step has a status, and shows no more than one object
 abbrev pub IsAnswered : StepLine → Type 0
-IsAnswered (StepLine.Read x t) = IsStatus x.status
+IsAnswered (StepLine.Read x t) = IsStatus x.status × ShowsFew x.shown
 IsAnswered _ = Unit {0}

@@ -1,6 +1,7 @@
 pub mod Words
 pub mod Shelved
 pub mod Replies
+pub mod Messages
 pub mod Site
 pub mod SiteLaws
 pub mod Alone

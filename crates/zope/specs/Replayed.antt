@@ -6,7 +6,8 @@ use Rattle.schedule.specs.Items.{IsSchedule}
 use Rattle.zope.specs.Printed.{terms_of, PrintsReport}
 use Rattle.zope.specs.Shelved.{HasFile}
 use Rattle.zope.specs.Stores.{Opened, Opens}
-use Rattle.zope.specs.Site.{message_of, page}
+use Rattle.zope.specs.Messages.{message_of}
+use Rattle.zope.specs.Site.{page}
 use Rattle.zope.specs.Words.{IsReplayOf}
 
 pub record Replayed (words : List (List ℕ)) (files : Option (List Entry)) (input old new : Option (List ℕ)) : Type 0 where

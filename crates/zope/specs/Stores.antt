@@ -2,7 +2,6 @@
 use Rattle.std.specs.Prelude.{◌≡◌, ℕ, ◌==◌, List, [], ◌∷◌, map, Option, Some, None, if◌then◌else◌}
 use Rattle.zbase.specs.History.{Value, Transaction, History}
 use Rattle.fs_record.specs.File.{Front, IsFile}
-use Rattle.zope.specs.declared.store.Transaction.{Transaction as Stored}
 
 pub record Opened : Type 0 where
   pub history : History
@@ -14,12 +13,6 @@ pub record Opens (bytes : List ℕ) (s : Opened) : Type 0 where
   pub file : IsFile bytes front
   pub history : s.history ≡ front.history
   pub end : s.end ≡ front.place
-
-abbrev pub transaction_of : Stored → Transaction
-transaction_of x = record { tid = x.tid; user = x.user; description = x.description; extension = x.extension; records = x.records }
-
-abbrev pub history_of : List Stored → History
-history_of xs = record { floor = 0; transactions = map transaction_of xs }
 
 -- the value of the object's last record, if it has one
 abbrev pub last_or : Option Value → Option Value → Option Value

@@ -1,7 +1,6 @@
 ghost use Rattle.std.specs.Prelude.{◌≡◌, ◌↔◌, IfOk, OnOk, true, IsErrOf, map, string_bytes};
 ghost use Rattle.zbase.specs.Faults.{Counts};
 ghost use Rattle.zope.specs.Replayed.{Replayed};
-ghost use Rattle.fs_record.specs.File.{magic};
 ghost use Rattle.zope.specs.Stores.{Opens};
 ghost use Rattle.zope.specs.Words.{IsReplay};
 
@@ -10,30 +9,23 @@ use crate::refusal::Refusal;
 use crate::running::replay;
 use crate::site::Site;
 use crate::store::Store;
+use fs_scan::{PlainRefusal, read_plain_file};
 use schedule::read_schedule;
 use std::alloc::Global;
 use zio::{Shelf, Sink, Source};
 
-// Whether the bytes are those with which a file begins, and no others.
-fn is_empty_file(bytes: &[u8]) -> bool
-    ensures { result ≡ true → bytes.now ≡ magic }
-{
-    bytes == b"FS21".as_slice()
-}
-
-// Only the file of the empty history is read so far.
+// The history that a file says. Only a file of whole committed transactions that hold their data is read so far.
 fn open_file(alloc: Global, bytes: &[u8]) -> Result<Store, Refusal>
     ensures opens { IfOk result (λ store. Opens bytes.now store) }
     ensures usage { IsErrOf result Refusal.Usage → ⊥ }
     ensures input { IsErrOf result Refusal.Input → ⊥ }
     ensures output { IsErrOf result Refusal.Output → ⊥ }
 {
-    if is_empty_file(bytes) {
-        Ok(Store::empty(alloc))
-    } else if bytes.starts_with(b"FS21") {
-        Err(Refusal::NotYet)
-    } else {
-        Err(Refusal::Damaged)
+    match read_plain_file(alloc, bytes) {
+        Ok(wholes) => Ok(Store::new(wholes, bytes.len() as u64)),
+        Err(PlainRefusal::BadMagic) => Err(Refusal::Damaged),
+        Err(PlainRefusal::NotPlain) => Err(Refusal::NotYet),
+        Err(PlainRefusal::Memory) => Err(Refusal::Memory),
     }
 }
 

@@ -1,32 +1,33 @@
 ghost use Rattle.std.specs.Prelude.{◌≡◌, IfOk, OnOk, IsErrOf, flat_map, length, map};
 ghost use Rattle.zbase.specs.Faults.{Counts};
 ghost use Rattle.schedule.specs.Explained.{history_lines, record_line, transaction_lines};
+ghost use Rattle.fs_scan.specs.Wholes.{records_in, transaction_in};
 ghost use Rattle.zope.specs.Printed.{Prints};
-ghost use Rattle.zope.specs.Stores.{transaction_of};
 
 use crate::printing::put_line;
-use crate::store::{Store, Transaction, copy_of};
+use crate::store::{Store, copy_of};
+use fs_scan::{OidValue, Whole};
 use schedule::Line;
 use std::alloc::Global;
-use zbase::{Memory, Oid, Value};
+use zbase::Memory;
 use zio::{OutsideRefusal, Sink};
 
 // The line of a value.
-fn record_line_of(written: &(Oid, Value)) -> Result<Line, Memory>
-    ensures { IfOk result (λ line. line ≡ record_line written.now) }
+fn record_line_of(written: &OidValue) -> Result<Line, Memory>
+    ensures { IfOk result (λ line. line ≡ record_line (written.now.oid, written.now.value)) }
 {
-    Ok(Line::RecordRow(written.0, copy_of(&written.1)?))
+    Ok(Line::RecordRow(written.oid, copy_of(&written.value)?))
 }
 
 fn put_records<K: Sink>(
     alloc: Global,
-    records: &[(Oid, Value)],
+    values: &[OidValue],
     out: &mut K,
 ) -> Result<(), OutsideRefusal>
-    ensures ok { OnOk result (Prints (K.written out.old) (K.written out.new) (map record_line records.now)) }
+    ensures ok { OnOk result (Prints (K.written out.old) (K.written out.new) (map record_line (records_in values.now))) }
     ensures counts { Counts (K.counter out.old) (K.counter out.new) (IsErrOf result OutsideRefusal.Failed) }
 {
-    for written in records {
+    for written in values {
         let Ok(line) = record_line_of(written) else {
             return Err(OutsideRefusal::Memory);
         };
@@ -36,39 +37,39 @@ fn put_records<K: Sink>(
 }
 
 // The line of a transaction.
-fn transaction_line_of(transaction: &Transaction) -> Result<Line, Memory>
-    ensures { IfOk result (λ line. line ≡ Line.Transaction transaction.now.tid transaction.now.user transaction.now.description transaction.now.extension (length transaction.now.records)) }
+fn transaction_line_of(transaction: &Whole) -> Result<Line, Memory>
+    ensures { IfOk result (λ line. line ≡ Line.Transaction transaction.now.tid transaction.now.texts.user transaction.now.texts.description transaction.now.texts.extension (length transaction.now.values)) }
 {
     Ok(Line::Transaction(
         transaction.tid,
-        transaction.user.copy()?,
-        transaction.description.copy()?,
-        transaction.extension.copy()?,
-        transaction.records.len() as u64,
+        transaction.texts.user.copy()?,
+        transaction.texts.description.copy()?,
+        transaction.texts.extension.copy()?,
+        transaction.values.len() as u64,
     ))
 }
 
 fn put_transaction<K: Sink>(
     alloc: Global,
-    transaction: &Transaction,
+    transaction: &Whole,
     out: &mut K,
 ) -> Result<(), OutsideRefusal>
-    ensures ok { OnOk result (Prints (K.written out.old) (K.written out.new) (transaction_lines (transaction_of transaction.now))) }
+    ensures ok { OnOk result (Prints (K.written out.old) (K.written out.new) (transaction_lines (transaction_in transaction.now))) }
     ensures counts { Counts (K.counter out.old) (K.counter out.new) (IsErrOf result OutsideRefusal.Failed) }
 {
     let Ok(line) = transaction_line_of(transaction) else {
         return Err(OutsideRefusal::Memory);
     };
     put_line(alloc, &line, out)?;
-    put_records(alloc, transaction.records.as_slice(), out)
+    put_records(alloc, transaction.values.as_slice(), out)
 }
 
 fn put_transactions<K: Sink>(
     alloc: Global,
-    transactions: &[Transaction],
+    transactions: &[Whole],
     out: &mut K,
 ) -> Result<(), OutsideRefusal>
-    ensures ok { OnOk result (Prints (K.written out.old) (K.written out.new) (flat_map transaction_lines (map transaction_of transactions.now))) }
+    ensures ok { OnOk result (Prints (K.written out.old) (K.written out.new) (flat_map transaction_lines (map transaction_in transactions.now))) }
     ensures counts { Counts (K.counter out.old) (K.counter out.new) (IsErrOf result OutsideRefusal.Failed) }
 {
     for transaction in transactions {

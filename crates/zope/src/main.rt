@@ -7,8 +7,11 @@ mod history_out;
 mod http_out;
 mod inputs;
 mod message;
+#[cfg(test)]
+mod page_tests;
 mod printing;
 mod refusal;
+mod replies;
 mod running;
 mod site;
 mod step_line;
@@ -18,6 +21,7 @@ mod task;
 #[cfg(test)]
 mod tests;
 mod top;
+mod way;
 
 use std::env;
 use std::io::ErrorKind;

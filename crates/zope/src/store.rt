@@ -4,49 +4,35 @@ ghost use Rattle.zbase.specs.History.{IsHistory, empty_history};
 ghost use Rattle.zbase.specs.Values.{last, newest, revisions_of};
 ghost use Rattle.evaluator.specs.declared.ask.Ask.{Ask};
 ghost use Rattle.evaluator.specs.Facts.{fact};
-ghost use Rattle.zope.specs.Stores.{history_of, last_value, transaction_of};
+ghost use Rattle.fs_scan.specs.Wholes.{history_in, records_in, transaction_in};
+ghost use Rattle.zope.specs.Stores.{last_value};
 
 use evaluator::Fact;
+use fs_scan::{OidValue, Whole, Wholes};
 use std::alloc::Global;
 use std::marker::Model;
-use zbase::{Bytes, Items, Memory, Oid, Tid, Value};
-
-/// A transaction of a file, with the values that it wrote, in the file's order.
-#[derive(Debug, Drop)]
-pub struct Transaction {
-    pub tid: Tid,
-    pub user: Bytes,
-    pub description: Bytes,
-    pub extension: Bytes,
-    pub records: Items<(Oid, Value)>,
-}
-
-fn is_of(written: &(Oid, Value), oid: Oid) -> bool
-    ensures { result ≡ (written.now.0 == oid) }
-{
-    written.0.0 == oid.0
-}
+use zbase::{Memory, Oid, Tid, Value};
 
 // The value of the object's last record.
-fn last_in(records: &[(Oid, Value)], oid: Oid) -> Option<&Value>
-    ensures { option_copied result ≡ last_value oid records.now }
+fn last_in(values: &[OidValue], oid: Oid) -> Option<&Value>
+    ensures { option_copied result ≡ last_value oid (records_in values.now) }
 {
     let mut found = None;
-    for written in records {
-        if is_of(written, oid) {
-            found = Some(&written.1);
+    for written in values {
+        if written.oid == oid {
+            found = Some(&written.value);
         }
     }
     found
 }
 
 // The value of the object's last record in all, and the id of its transaction.
-fn newest_in(transactions: &[Transaction], oid: Oid) -> Option<(&Value, Tid)>
-    ensures { MatchOption result (newest (flat_map revisions_of (map transaction_of transactions.now)) oid ≡ None) (λ f. newest (flat_map revisions_of (map transaction_of transactions.now)) oid ≡ Some (record { tid = f.1; oid = oid; value = f.0.now })) }
+fn newest_in(transactions: &[Whole], oid: Oid) -> Option<(&Value, Tid)>
+    ensures { MatchOption result (newest (flat_map revisions_of (map transaction_in transactions.now)) oid ≡ None) (λ f. newest (flat_map revisions_of (map transaction_in transactions.now)) oid ≡ Some (record { tid = f.1; oid = oid; value = f.0.now })) }
 {
     let mut found = None;
     for transaction in transactions {
-        if let Some(value) = last_in(transaction.records.as_slice(), oid) {
+        if let Some(value) = last_in(transaction.values.as_slice(), oid) {
             found = Some((value, transaction.tid));
         }
     }
@@ -56,19 +42,20 @@ fn newest_in(transactions: &[Transaction], oid: Oid) -> Option<(&Value, Tid)>
 /// The history of an opened file, from its oldest transaction, and the length of the file in bytes.
 #[derive(Drop)]
 pub struct Store {
-    transactions: Items<Transaction>,
+    transactions: Wholes,
     end: u64,
 }
 
 impl Model for Store {
     ghost use Rattle.zbase.specs.History.{IsHistory};
-    ghost use Rattle.zope.specs.Stores.{Opened, history_of};
+    ghost use Rattle.fs_scan.specs.Wholes.{history_in};
+    ghost use Rattle.zope.specs.Stores.{Opened};
 
     ghost Value = { Opened };
 
-    ghost view = { λ store. record { history = history_of store.transactions; end = store.end } };
+    ghost view = { λ store. record { history = history_in store.transactions; end = store.end } };
 
-    ghost invariant = { λ store. IsHistory (history_of store.transactions) };
+    ghost invariant = { λ store. IsHistory (history_in store.transactions) };
 }
 
 impl Store {
@@ -77,21 +64,21 @@ impl Store {
         ensures history { result.history ≡ empty_history }
         ensures end { result.end ≡ 4 }
     {
-        Store::new(Items::new(alloc), 4)
+        Store::new(Wholes::new(alloc), 4)
     }
 
     /// A file of this length with these transactions, from the oldest.
-    pub fn new(transactions: Items<Transaction>, end: u64) -> Store
-        requires history { IsHistory (history_of transactions) }
-        ensures history { result.history ≡ history_of transactions }
+    pub fn new(transactions: Wholes, end: u64) -> Store
+        requires history { IsHistory (history_in transactions) }
+        ensures history { result.history ≡ history_in transactions }
         ensures end { result.end ≡ end }
     {
         Store { transactions, end }
     }
 
     /// The transactions, from the oldest.
-    pub fn transactions(&self) -> &[Transaction]
-        ensures { map transaction_of result.now ≡ self.now.history.transactions }
+    pub fn transactions(&self) -> &[Whole]
+        ensures { map transaction_in result.now ≡ self.now.history.transactions }
     {
         self.transactions.as_slice()
     }

@@ -1,19 +1,22 @@
 ghost use Rattle.std.specs.Prelude.{◌≡◌, IfOk};
-ghost use Rattle.zope.specs.Site.{message_of, page};
-ghost use Rattle.zope.specs.SiteLaws.{site_asks_once, site_changes_nothing, site_is_lawful, site_replies};
+ghost use Rattle.zope.specs.Messages.{message_of};
+ghost use Rattle.zope.specs.Site.{page};
+ghost use Rattle.zope.specs.SiteLaws.{site_asks_twice, site_changes_nothing, site_is_lawful, site_replies};
 
 use crate::history_out::put_history;
 use crate::http_out::reply_bytes;
 use crate::message::Message;
 use crate::running::replay;
 use crate::site::Site;
-use crate::store::{Store, Transaction};
+use crate::store::Store;
 use crate::{Status, run};
 use evaluator::{Evaluator, Fact, Facts, Kind, Mark, Outcome, Reply, ShownList};
+use fs_record::TxnTexts;
+use fs_scan::{OidValue, Whole};
 use schedule::read_schedule;
 use std::alloc::Global;
 use std::test::Fail;
-use zbase::{Bytes, FaultPlan, Items, Memory, Oid, Text, Tid, Value};
+use zbase::{Bytes, FaultPlan, Items, Memory, Oid, Text, Tid};
 use zio::{
     MemoryClock, MemoryFile, MemoryHub, MemoryShelf, MemorySink, MemorySource, OutsideRefusal,
 };
@@ -25,14 +28,14 @@ const FOUND_NONE: &str =
 
 /// The numbers of the calls that are to fail, 0 for none: calls are numbered from 1 on.
 #[derive(Clone, Copy)]
-struct Failing {
-    opening: u64,
-    disk: u64,
-    input: u64,
-    output: u64,
+pub struct Failing {
+    pub opening: u64,
+    pub disk: u64,
+    pub input: u64,
+    pub output: u64,
 }
 
-const NONE: Failing = Failing {
+pub const NONE: Failing = Failing {
     opening: 0,
     disk: 0,
     input: 0,
@@ -41,15 +44,15 @@ const NONE: Failing = Failing {
 
 /// What a program is started with. The one file of its shelf is `empty.fs`.
 #[derive(Clone, Copy)]
-struct Start<'a> {
-    words: &'a [&'a str],
-    file: &'a str,
-    input: &'a str,
-    failing: Failing,
+pub struct Start<'a> {
+    pub words: &'a [&'a str],
+    pub file: &'a [u8],
+    pub input: &'a str,
+    pub failing: Failing,
 }
 
 /// The words of a replay of the file that is there.
-const WORDS: &[&str] = &["replay", "empty.fs"];
+pub const WORDS: &[&str] = &["replay", "empty.fs"];
 
 fn plan(alloc: Global, number: u64) -> Result<FaultPlan, Memory> {
     Ok(FaultPlan::new(Vec::from_slice(alloc, &[number])?))
@@ -59,14 +62,14 @@ fn shelf_of(alloc: Global, start: &Start<'_>) -> Result<MemoryShelf, Memory> {
     let mut files = Vec::new(alloc);
     files.push(MemoryFile {
         name: Text::from_str(alloc, "empty.fs")?,
-        bytes: Bytes::from_slice(alloc, start.file.as_bytes())?,
+        bytes: Bytes::from_slice(alloc, start.file)?,
         failing: Vec::from_slice(alloc, &[start.failing.disk])?,
     })?;
     Ok(MemoryShelf::new(alloc, files, plan(alloc, start.failing.opening)?))
 }
 
 /// The status and the output of a run.
-fn ran(alloc: Global, start: &Start<'_>) -> Result<(Status, MemorySink), Memory> {
+pub fn ran(alloc: Global, start: &Start<'_>) -> Result<(Status, MemorySink), Memory> {
     let mut words = Vec::new(alloc);
     for word in start.words {
         words.push(String::from_str(alloc, word)?)?;
@@ -94,7 +97,7 @@ fn ends(alloc: Global, lines: &str, status: u8, output: &str) -> Result<bool, Me
     let input = format!(in alloc; "zope schedule 1\n{lines}")?;
     let start = Start {
         words: WORDS,
-        file: "FS21",
+        file: b"FS21",
         input: input.as_str(),
         failing: NONE,
     };
@@ -197,7 +200,7 @@ fn comes_to(alloc: Global, start: &Start<'_>, status: u8, output: &str) -> Resul
 fn is_usage(alloc: Global, words: &[&str]) -> Result<bool, Memory> {
     let start = Start {
         words,
-        file: "FS21",
+        file: b"FS21",
         input: SCHEDULE,
         failing: NONE,
     };
@@ -228,7 +231,7 @@ fn other_files_are_refused(rt: HostRuntime) -> Result<(), Fail> {
     ] {
         let start = Start {
             words: &["replay", word],
-            file,
+            file: file.as_bytes(),
             input: SCHEDULE,
             failing: NONE,
         };
@@ -244,7 +247,7 @@ fn other_files_are_refused(rt: HostRuntime) -> Result<(), Fail> {
 fn a_bad_schedule_comes_before_a_missing_file(rt: HostRuntime) -> Result<(), Fail> {
     let start = Start {
         words: &["replay", "other.fs"],
-        file: "FS21",
+        file: b"FS21",
         input: "zope schedule 2\n",
         failing: NONE,
     };
@@ -272,7 +275,7 @@ fn a_fault_of_the_outside_has_its_status(rt: HostRuntime) -> Result<(), Fail> {
     ] {
         let start = Start {
             words: WORDS,
-            file: "FS21",
+            file: b"FS21",
             input: SCHEDULE,
             failing,
         };
@@ -288,7 +291,7 @@ fn a_fault_of_the_outside_has_its_status(rt: HostRuntime) -> Result<(), Fail> {
 fn a_sink_that_fails_at_the_last_line_is_status_six(rt: HostRuntime) -> Result<(), Fail> {
     let start = Start {
         words: &["replay"],
-        file: "FS21",
+        file: b"FS21",
         input: SCHEDULE,
         failing: Failing { output: 1, ..NONE },
     };
@@ -330,7 +333,7 @@ impl Evaluator for Starved {
 
     ghost lawful = { site_is_lawful };
 
-    ghost few_asks = { site_asks_once };
+    ghost few_asks = { site_asks_twice };
 
     ghost changes = { site_changes_nothing };
 
@@ -416,22 +419,30 @@ fn statuses_have_their_phrases(rt: HostRuntime) -> Result<(), Fail> {
     Ok(())
 }
 
-fn written(alloc: Global, oid: u64, value: &str) -> Result<(Oid, Value), Memory> {
-    Ok((Oid(oid), Some(Bytes::from_slice(alloc, value.as_bytes())?)))
+fn written(alloc: Global, oid: u64, value: &str) -> Result<OidValue, Memory> {
+    Ok(OidValue {
+        oid: Oid(oid),
+        value: Some(Bytes::from_slice(alloc, value.as_bytes())?),
+    })
 }
 
 /// A transaction of the user `jo` that writes one object.
-fn transaction(alloc: Global, tid: u64, oid: u64, value: &str) -> Result<Transaction, Memory>
+fn transaction(alloc: Global, tid: u64, oid: u64, value: &str) -> Result<Whole, Memory>
     ensures { IfOk result (λ transaction. transaction.tid ≡ tid) }
 {
-    let mut records = Items::new(alloc);
-    records.push(written(alloc, oid, value)?)?;
-    Ok(Transaction {
-        tid: Tid(tid),
+    let mut values = Items::new(alloc);
+    values.push(written(alloc, oid, value)?)?;
+    let texts = TxnTexts {
         user: Bytes::from_slice(alloc, b"jo")?,
         description: Bytes::from_slice(alloc, value.as_bytes())?,
         extension: Bytes::new(alloc),
-        records,
+    };
+    Ok(Whole {
+        place: 4,
+        status: b' ',
+        tid: Tid(tid),
+        texts,
+        values,
     })
 }
 

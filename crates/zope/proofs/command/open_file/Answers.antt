@@ -1,6 +1,19 @@
-use Rattle.std.proofs.Common.{[], refl}
+use Rattle.std.proofs.Common.{◌∙◌, sym, subst}
+use Rattle.zbase.specs.History.{IsHistory}
+use Rattle.fs_record.specs.FileLaws.{file_history, file_place}
 use Rattle.zope.proofs.command.open_file.Goals as goal
 
--- a file without blocks
-pub returns-then-is_empty_file-clause-opens : goal.returns-then-is_empty_file-clause-opens
-returns-then-is_empty_file-clause-opens c = record { front = _; file = record { blocks = []; right = tt; spelled = c.is_empty_file.ensures c.if-is_empty_file.true; said = refl }; history = c.empty.ensures.history; end = c.empty.ensures.end }
+pub new-requires : goal.new-requires
+new-requires c =
+    let says = c.in-Ok.ensures.read in
+    record { history = subst IsHistory says.history (file_history c.args.bytes.now says.front says.plain.file) }
+
+pub returns-in-Ok-clause-opens : goal.returns-in-Ok-clause-opens
+returns-in-Ok-clause-opens c =
+    let says = c.in-Ok.ensures.read in
+    record {
+      front = says.front;
+      file = says.plain.file;
+      history = c.new.ensures.history ∙ sym says.history;
+      end = c.new.ensures.end ∙ sym (file_place c.args.bytes.now says.front says.plain.file);
+    }

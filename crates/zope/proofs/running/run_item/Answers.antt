@@ -4,6 +4,9 @@ use Rattle.schedule.specs.Courses.{Happens}
 use Rattle.schedule.specs.CourseLaws.{IsCalm}
 use Rattle.zope.specs.Printed.{terms_of}
 use Rattle.zope.specs.Tasks.{moment_of}
+use Rattle.zope.specs.Alone.{step_lines}
+use Rattle.zope.specs.Replies.{answer}
+use Rattle.zope.proofs.CalmSteps.{step_is_calm}
 use Rattle.zope.proofs.PrintSteps.{prints_none}
 use Rattle.zope.proofs.running.run_item.Goals as goal
 
@@ -24,3 +27,15 @@ returns-in-Ok-false-clause-snapshot g c = c.give.ensures.snapshot _ c.requires.s
 
 pub returns-in-Err-clause-snapshot : goal.returns-in-Err-clause-snapshot
 returns-in-Err-clause-snapshot g c = c.give.ensures.snapshot _ c.requires.snapshot
+
+pub returns-in_ok-put_step-in-Step-clause-ok : goal.returns-in_ok-put_step-in-Step-clause-ok
+returns-in_ok-put_step-in-Step-clause-ok g c =
+    let store = c.args.store.now in
+    let terms = terms_of g.E.Evaluator.takes g.E.Evaluator.meaning store.end in
+    let lines = step_lines answer c.step-line.result in
+    let item : c.args.item.now ≡ Item2.Step 0 = c.in-Step.is ∙ ap Item2.Step c.if-worker-ne-FIRST_WORKER-2.false in (
+      lines,
+      subst (λ i. Happens terms (moment_of store c.args.task.now) i lines (moment_of store c.step-line.new.task)) (sym item) (c.step-line.ensures.steps terms refl),
+      subst (λ i. IsCalm i lines) (sym item) (step_is_calm answer c.step-line.result),
+      c.in_ok-put_step-in-Step.ensures.ok,
+    )

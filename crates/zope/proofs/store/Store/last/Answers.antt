@@ -1,9 +1,10 @@
 use Rattle.std.proofs.Common.{◌∙◌, sym, ap, map}
 use Rattle.std.specs.Option.{option_copied}
 use Rattle.zbase.specs.Values.{last, last_after}
-use Rattle.zope.specs.Stores.{Opened, transaction_of}
+use Rattle.fs_scan.specs.Wholes.{transaction_in}
+use Rattle.zope.specs.Stores.{Opened}
 use Rattle.zope.proofs.Newest.{last_is}
 use Rattle.zope.proofs.store.Store.last.Goals as goal
 
 pub returns-in-Some-clause-last : goal.returns-in-Some-clause-last
-returns-in-Some-clause-last c = sym (last_is c.as_slice.result.now c.in-Some.transaction.now (sym c.last.ensures.value ∙ ap option_copied c.in-Some.is)) ∙ ap (λ xs. last_after 0 (map transaction_of xs)) c.as_slice.ensures ∙ ap (λ (s : Opened). last s.history) c.self.view_is
+returns-in-Some-clause-last c = sym (last_is c.as_slice.result.now c.in-Some.transaction.now (sym c.last.ensures.value ∙ ap option_copied c.in-Some.is)) ∙ ap (λ xs. last_after 0 (map transaction_in xs)) c.as_slice.ensures ∙ ap (λ (s : Opened). last s.history) c.self.view_is

@@ -1,0 +1,64 @@
+ghost use Rattle.std.specs.Prelude.{◌≡◌, IfOk};
+ghost use Rattle.evaluator.specs.Replies.{one_line};
+ghost use Rattle.zope.specs.Site.{not_found, not_yet, page_of};
+
+use evaluator::{Kind, Reply, Shown, ShownList};
+use std::alloc::Global;
+use zbase::{Memory, Oid, Text};
+
+// A plain reply whose body is this text and a line end.
+fn line_of(alloc: Global, status: u16, mut body: Text) -> Result<Reply, Memory>
+    ensures { IfOk result (λ reply. reply ≡ one_line status body) }
+{
+    body.push_str("\n")?;
+    Ok(Reply {
+        status,
+        kind: Kind::Plain,
+        head_only: false,
+        body,
+        shown: ShownList::new(alloc),
+        denied: None,
+    })
+}
+
+/// A plain reply of one line.
+pub fn one_line(alloc: Global, status: u16, text: &str) -> Result<Reply, Memory>
+    ensures { IfOk result (λ reply. reply ≡ one_line status text.now) }
+{
+    line_of(alloc, status, Text::from_str(alloc, text)?)
+}
+
+/// The reply where a path leads nowhere at this segment.
+pub fn not_found(alloc: Global, segment: &str) -> Result<Reply, Memory>
+    ensures { IfOk result (λ reply. reply ≡ not_found segment.now) }
+{
+    let mut text = Text::from_str(alloc, "not found: ")?;
+    text.push_str(segment)?;
+    line_of(alloc, 404, text)
+}
+
+/// The reply where an object has a form that isn't read yet.
+pub fn not_yet(alloc: Global, oid: Oid) -> Result<Reply, Memory>
+    ensures { IfOk result (λ reply. reply ≡ not_yet oid) }
+{
+    let mut text = Text::from_str(alloc, "not yet: ")?;
+    text.push_hex16(oid.0)?;
+    line_of(alloc, 500, text)
+}
+
+/// The page of a document that everyone may view.
+pub fn page_of(alloc: Global, oid: Oid, source: &str) -> Result<Reply, Memory>
+    ensures { IfOk result (λ reply. reply ≡ page_of oid source.now) }
+{
+    let mut shown = ShownList::new(alloc);
+    let role = Text::from_str(alloc, "Anonymous")?;
+    shown.push(Shown { oid, role })?;
+    Ok(Reply {
+        status: 200,
+        kind: Kind::Html,
+        head_only: false,
+        body: Text::from_str(alloc, source)?,
+        shown,
+        denied: None,
+    })
+}
