@@ -1,7 +1,7 @@
 -- A text by whose rule each byte is ASCII is UTF-8.
-use Rattle.std.proofs.Common.{◌≡◌, ℕ, zero, suc, ◌<◌, ◌&&◌, ◌||◌, List, [], ◌∷◌, Bool, true, false, refl, arith, get_or, inl, inr, ◌⊎◌, ap, codes, sym, subst}
+use Rattle.std.proofs.Common.{◌≡◌, ℕ, zero, suc, ◌<◌, ◌&&◌, ◌||◌, List, [], ◌∷◌, Bool, true, false, refl, arith, inl, inr, ◌⊎◌, ap, codes, sym}
 use Rattle.std.specs.List.{list_all}
-use Rattle.std.specs.Str.{IsAscii, is_utf8, bytes_eq}
+use Rattle.std.specs.Str.{IsAscii, is_utf8}
 use Rattle.std.proofs.lemmas.Str.{is_utf8-from_IsUtf8, IsUtf8-from_ascii, IsUtf8-nil}
 use Rattle.std.proofs.lemmas.Slice.Eq.{bytes_eq-Decides}
 use Rattle.std.proofs.lemmas.Bool.Decides.{nat_tests}

@@ -1,6 +1,6 @@
 -- The head and the part of an object: what is read was written, and what was written is read again.
-use Rattle.std.proofs.Common.{◌≡◌, ◌⊎◌, inl, inr, ℕ, zero, suc, ◌^◌, ◌<◌, ◌≤◌, Bool, true, false, ◌&&◌, ◌||◌, cond, ltb, leb, eqb, List, [], ◌∷◌, ◌++◌, length, map, Option, Some, None, refl, sym, ap, subst, ◌∙◌, append_assoc, arith, codes}
-use Rattle.std.specs.List.{flat_map, list_any, list_all, AllByRecursion}
+use Rattle.std.proofs.Common.{◌≡◌, inl, inr, ℕ, zero, suc, ◌^◌, ◌<◌, ◌≤◌, Bool, true, false, ◌&&◌, ◌||◌, cond, leb, eqb, List, [], ◌∷◌, ◌++◌, length, map, Some, None, refl, sym, ap, subst, ◌∙◌, append_assoc, arith, codes}
+use Rattle.std.specs.List.{flat_map, list_any, AllByRecursion}
 use Rattle.std.specs.Int.{w16, w32, w64, to_be_bytes}
 use Rattle.std.specs.Str.{bytes_eq}
 use Rattle.std.proofs.lemmas.Bool.{eqb-true, leb-true, le-leb}
@@ -11,11 +11,11 @@ use Rattle.zbase.specs.Numbers.{be16, be32, be64}
 use Rattle.zobject.specs.declared.object.Child.{Child}
 use Rattle.zobject.specs.declared.object.Part2.{Part2}
 use Rattle.zobject.specs.declared.object.Part2.TheVariants.{Folder, Method, Document, UserFolder}
-use Rattle.zobject.specs.Texts.{is_of_length, is_spelled, is_id, is_acl_users, is_child_name, is_title, is_source}
-use Rattle.zobject.specs.Record.{text, list_of, source_text, child, kind, part_text, is_stored_id, IsChild, IsPart, IsPage, AreAtMost, AreDistinct}
-use Rattle.zobject.specs.Reading.{◌>>=◌, Reads, Head, number_at, text_at, kind_at, head_at, name_at, child_at, children_at, folder_at, document_at, part_at}
+use Rattle.zobject.specs.Texts.{is_of_length, is_id, is_acl_users, is_child_name, is_title, is_source}
+use Rattle.zobject.specs.Record.{text, list_of, source_text, child, kind, part_text, is_stored_id, IsChild, IsPart, IsPage, AreDistinct}
+use Rattle.zobject.specs.Reading.{◌>>=◌, Head, number_at, text_at, kind_at, head_at, name_at, child_at, children_at, folder_at, document_at, part_at}
 use Rattle.zobject.proofs.Ids.{both, either}
-use Rattle.zobject.proofs.Fields.{IsBytes, bind_some, some_is, some_if, none_if, behind_if, Takes, Takes-then, IsKind, wide16, wide32, wide64, number_takes, number_again, text_takes, text_again, kind_takes, folder_again, document_again}
+use Rattle.zobject.proofs.Fields.{IsBytes, bind_some, some_is, none_if, behind_if, Takes, Takes-then, IsKind, wide16, wide32, wide64, number_takes, number_again, text_takes, text_again, kind_takes, folder_again, document_again}
 
 -- ---- texts with a length that fits
 
@@ -76,7 +76,7 @@ head_takes bytes x fits e =
     let e13 = Takes-then a.0.1 (text b.0.0) b.0.1 (be64 c.0.0 ++ text d.0.0) d.0.1 t1.0 e23 in
     let e03 = Takes-then bytes (90 ∷ 49 ∷ a.0.0 ∷ []) a.0.1 (text b.0.0 ++ (be64 c.0.0 ++ text d.0.0)) d.0.1 t0.0 e13 in
     let made : Head × List ℕ = (record { kind = a.0.0; id = b.0.0; parent = c.0.0; title = d.0.0 }, d.0.1) in
-    subst (λ (y : Head × List ℕ). Takes bytes (head_text y.0) y.1 × IsHead y.0) (some_is made x d.2) (e03, record { kind = t0.1; id = t1.1; parent = t2.1; title = t3.1 })
+    subst (λ (y : Head × List ℕ). Takes bytes (head_text y.0) y.1 × IsHead y.0) {x = made} (some_is made x d.2) (e03, record { kind = t0.1; id = t1.1; parent = t2.1; title = t3.1 })
 
 kind_again : (k : ℕ) (rest : List ℕ) → IsKind k → kind_at ((90 ∷ 49 ∷ k ∷ []) ++ rest) ≡ Some (k, rest)
 kind_again k rest h = elim h [
@@ -152,7 +152,7 @@ child_takes earlier bytes x fits e =
     let t1 = number_takes w64 (2 ^ 64) wide64 a.0.1 c.0.0 c.0.1 s0.0.rest_fits c.1 in
     let two = Takes-then bytes (text a.0.0) a.0.1 (be64 c.0.0) c.0.1 s0.0 t1.0 in
     let made : Child × List ℕ = (record { name = a.0.0; oid = c.0.0 }, c.0.1) in
-    subst (λ (y : Child × List ℕ). Takes bytes (child y.0) y.1 × IsNewChild earlier y.0) (some_is made x c.2) (two, record { right = record { name = s0.1; oid = t1.1 }; new = s0.2 })
+    subst (λ (y : Child × List ℕ). Takes bytes (child y.0) y.1 × IsNewChild earlier y.0) {x = made} (some_is made x c.2) (two, record { right = record { name = s0.1; oid = t1.1 }; new = s0.2 })
 
 child_again : (earlier : List (List ℕ)) (c : Child) (rest : List ℕ) → IsNewChild earlier c → child_at earlier (child c ++ rest) ≡ Some (c, rest)
 unfolding child_at name_at text be16 be64
@@ -181,7 +181,7 @@ children_take (suc n) earlier bytes x fits e =
     let both = Takes-then bytes (child a.0.0) a.0.1 (flat_map child b.0.0) b.0.1 first.0 second.0 in
     let apart = first_apart a.0.0.name earlier (names b.0.0) second.2.new in
     let made : List Child × List ℕ = (a.0.0 ∷ b.0.0, b.0.1) in
-    subst (λ (y : List Child × List ℕ). Takes bytes (flat_map child y.0) y.1 × (length y.0 ≡ suc n) × AreChildren earlier y.0) (some_is made x b.2) (rw flat_map-cons both, ap suc second.1, record { each = (first.1.right, second.2.each); new = (first.1.new, apart.1); distinct = (apart.0, second.2.distinct) })
+    subst (λ (y : List Child × List ℕ). Takes bytes (flat_map child y.0) y.1 × (length y.0 ≡ suc n) × AreChildren earlier y.0) {x = made} (some_is made x b.2) (rw flat_map-cons both, ap suc second.1, record { each = (first.1.right, second.2.each); new = (first.1.new, apart.1); distinct = (apart.0, second.2.distinct) })
 
 pub children_again : (cs : List Child) (earlier : List (List ℕ)) (rest : List ℕ) → AreChildren earlier cs → children_at (length cs) earlier (flat_map child cs ++ rest) ≡ Some (cs, rest)
 unfolding children_at
@@ -210,7 +210,7 @@ folder_takes bytes x fits e =
     let all : Takes bytes (list_of child b.0.0) b.0.1 = subst (λ (n : ℕ). Takes bytes (to_be_bytes w16 n ++ flat_map child b.0.0) b.0.1) (sym t1.1) two in
     let few : length b.0.0 ≤ 10000 = subst (λ (n : ℕ). n ≤ 10000) (sym t1.1) (leb-true _ _ g.0) in
     let made : Part2 × List ℕ = (Folder b.0.0, b.0.1) in
-    subst (λ (y : Part2 × List ℕ). Takes bytes (part_text y.0) y.1 × IsRead 70 y.0) (some_is made x b.2) (all, record { kind = refl; part = (record { few = few; each = t1.2.each }, t1.2.distinct); page = tt })
+    subst (λ (y : Part2 × List ℕ). Takes bytes (part_text y.0) y.1 × IsRead 70 y.0) {x = made} (some_is made x b.2) (all, record { kind = refl; part = (record { few = few; each = t1.2.each }, t1.2.distinct); page = tt })
 
 document_takes : (bytes : List ℕ) (x : Part2 × List ℕ) → IsBytes bytes → document_at bytes ≡ Some x → Takes bytes (part_text x.0) x.1 × IsRead 68 x.0
 unfolding document_at source_text be32
@@ -218,7 +218,7 @@ document_takes bytes x fits e =
     let a = bind_some (text_at is_source w32 bytes) (λ source. Some (Document source.0, source.1)) x e in
     let t = text_takes is_source w32 (2 ^ 32) wide32 bytes a.0.0 a.0.1 fits a.1 in
     let made : Part2 × List ℕ = (Document a.0.0, a.0.1) in
-    subst (λ (y : Part2 × List ℕ). Takes bytes (part_text y.0) y.1 × IsRead 68 y.0) (some_is made x a.2) (t.0, record { kind = refl; part = t.1; page = tt })
+    subst (λ (y : Part2 × List ℕ). Takes bytes (part_text y.0) y.1 × IsRead 68 y.0) {x = made} (some_is made x a.2) (t.0, record { kind = refl; part = t.1; page = tt })
 
 pub part_takes : (k : ℕ) (bytes : List ℕ) (x : Part2 × List ℕ) → IsKind k → IsBytes bytes → part_at k bytes ≡ Some x → Takes bytes (part_text x.0) x.1 × IsRead k x.0
 part_takes k bytes x is fits e = elim is [

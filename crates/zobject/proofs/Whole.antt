@@ -1,17 +1,16 @@
 -- What is read is the one bare object whose record the bytes are.
-use Rattle.std.proofs.Common.{◌≡◌, ℕ, ◌^◌, ◌<◌, ◌≤◌, Bool, true, false, cond, eqb, List, [], ◌∷◌, ◌++◌, length, get_or, Option, Some, None, refl, sym, ap, subst, ◌∙◌, append_assoc, arith, inl, inr}
+use Rattle.std.proofs.Common.{◌≡◌, ℕ, cond, eqb, List, [], ◌∷◌, ◌++◌, length, Some, None, refl, sym, ap, subst, ◌∙◌, append_assoc, arith, inl, inr}
 use Rattle.std.specs.Int.{w16, to_be_bytes}
 use Rattle.std.proofs.lemmas.Bool.{eqb-true}
 use Rattle.std.proofs.lemmas.List.{append-nil, nil_from_length}
-use Rattle.zbase.specs.Numbers.{be16, be32, be64}
+use Rattle.zbase.specs.Numbers.{be16, be64}
 use Rattle.zobject.specs.declared.object.Setting.{Setting}
 use Rattle.zobject.specs.declared.object.Local.{Local}
 use Rattle.zobject.specs.declared.object.Property.{Property}
 use Rattle.zobject.specs.declared.object.Part2.{Part2}
 use Rattle.zobject.specs.declared.object.Part2.TheVariants.{Folder, Method, Document, UserFolder}
 use Rattle.zobject.specs.declared.object.Object.{Object}
-use Rattle.zobject.specs.Record.{text, list_of, setting, local_roles, property, kind, part_text, record_text, is_stored_id, IsPage, IsPart, IsObject, IsBare, Spells, AreAtMost}
-use Rattle.zobject.specs.Texts.{is_title}
+use Rattle.zobject.specs.Record.{text, list_of, kind, part_text, record_text, IsPage, IsPart, IsObject, IsBare, Spells}
 use Rattle.zobject.specs.Reading.{◌>>=◌, Head, head_at, nothing_at, no_lists_at, part_at, bare}
 use Rattle.zobject.proofs.Fields.{IsBytes, bind_some, some_if, Takes, Takes-then, IsKind, nothing_takes, nothing_again}
 use Rattle.zobject.proofs.Parts.{head_text, IsHead, head_takes, head_again, IsRead, part_takes, part_again}

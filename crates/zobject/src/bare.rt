@@ -1,5 +1,5 @@
-ghost use Rattle.std.specs.Prelude.{◌≡◌, ◌∷◌, [], ℕ, List, Bool, Option, Some, None, option_map, IfOk};
-ghost use Rattle.zobject.specs.Reading.{Head as ReadHead, name_at, child_at, children_at, folder_at, document_at, part_at, bare};
+ghost use Rattle.std.specs.Prelude.{◌≡◌, ◌∷◌, [], ℕ, List, IfOk};
+ghost use Rattle.zobject.specs.Reading.{name_at, child_at, children_at, folder_at, document_at, part_at, bare};
 ghost use Rattle.zobject.specs.Given.{Gives, Knows};
 ghost use Rattle.zobject.specs.Kinds.{letter};
 ghost use Rattle.zobject.specs.Folders.{child_of};
@@ -11,6 +11,9 @@ use crate::{Child, Children, Object, Part2};
 use std::alloc::Global;
 use std::collections::BTreeSet;
 use zbase::{Items, Memory, Oid, Text};
+
+/// The most children that a folder lists.
+const MOST_CHILDREN: u16 = 10_000;
 
 /// The name of a child, which is none of the names, and which they then have.
 #[tactic(auto, unfolding(crate::specs::Reading::name_at))]
@@ -70,7 +73,7 @@ fn folder_of(alloc: Global, bytes: &[u8]) -> Result<(Part2, &[u8]), Unread>
     ensures { Gives (λ x. (x.0, x.1.now)) result (folder_at bytes.now) }
 {
     let (count, rest) = u16_of(bytes).ok_or(Unread::Bad)?;
-    if count > 10_000 {
+    if count > MOST_CHILDREN {
         return Err(Unread::Bad);
     }
     let (children, rest) = children_of(alloc, count, rest)?;
@@ -121,7 +124,8 @@ fn object_of(alloc: Global, bytes: &[u8]) -> Result<Object, Unread>
 /// The object that the bytes are the record of, where it is a folder or a document without settings, local
 /// roles and properties.
 ///
-/// None where they are no such record. Want of memory is the one error.
+/// None where they are no such record; want of memory is the one error. All of the bytes are read, from left to
+/// right, and the object owns copies of its texts.
 pub fn read_bare(alloc: Global, bytes: &[u8]) -> Result<Option<Object>, Memory>
     ensures { IfOk result (λ found. found ≡ bare bytes.now) }
 {

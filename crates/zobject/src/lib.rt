@@ -1,7 +1,7 @@
 //! The objects of a site, and their records.
 //!
 //! `specs/Record` says which objects have a record and how it is spelled, `specs/Texts` the rules of their texts,
-//! and `specs/Reading` how the plain ones are read.
+//! `specs/Reading` how the plain ones are read, and `specs/Folders` what a folder lists.
 #![tactic(auto)]
 
 mod bare;

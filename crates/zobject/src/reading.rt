@@ -1,8 +1,8 @@
-ghost use Rattle.std.specs.Prelude.{◌≡◌, ℕ, List, Bool, Option, Some, None, option_map};
+ghost use Rattle.std.specs.Prelude.{◌≡◌, option_map};
 ghost use Rattle.std.specs.Int.{w16, w32, w64};
 ghost use Rattle.zobject.specs.Texts.{is_child_name, is_title, is_source};
 ghost use Rattle.zobject.specs.Record.{is_stored_id};
-ghost use Rattle.zobject.specs.Reading.{Head as ReadHead, number_at, front_at, text_at, kind_at, head_at, nothing_at, no_lists_at};
+ghost use Rattle.zobject.specs.Reading.{number_at, front_at, text_at, kind_at, head_at, nothing_at, no_lists_at};
 ghost use Rattle.zobject.specs.Kinds.{letter};
 
 use crate::texts::{Kind, child_name, source, stored_id, title};

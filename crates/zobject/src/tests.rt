@@ -110,13 +110,14 @@ fn names_of_children_are_distinct(rt: HostRuntime) -> Result<(), Fail> {
 
 #[test]
 fn a_title_has_at_most_1000_bytes(rt: HostRuntime) -> Result<(), Fail> {
+    let document: &[u8] = DOCUMENT;
     for (len, is_read) in [(1000u16, true), (1001, false)] {
-        let mut bytes = Bytes::from_slice(rt.alloc(), &DOCUMENT[..14])?;
+        let mut bytes = Bytes::from_slice(rt.alloc(), &document[..14])?;
         bytes.append(&len.to_be_bytes())?;
         for _ in 0..len {
             bytes.push(b't')?;
         }
-        bytes.append(&DOCUMENT[16..])?;
+        bytes.append(&document[16..])?;
         assert_eq!(rt; read_bare(rt.alloc(), bytes.as_slice())?.is_some(), is_read);
     }
     Ok(())

@@ -1,4 +1,4 @@
-ghost use Rattle.std.specs.Prelude.{◌≡◌, ℕ, List, Bool, Option, Some, None, option_map, if◌then◌else◌, IfSome, IfNone};
+ghost use Rattle.std.specs.Prelude.{◌≡◌, Bool, option_map, IfSome, IfNone};
 ghost use Rattle.std.specs.List.{list_all, list_any};
 ghost use Rattle.std.specs.Str.{is_utf8, bytes_eq};
 ghost use Rattle.zobject.specs.Texts.{is_id_byte, is_of_length, is_spelled, is_hidden, is_id, is_reserved, is_acl_users, is_child_name, is_title, is_source};
@@ -12,6 +12,15 @@ pub(crate) enum Kind {
     Folder,
     Document,
 }
+
+/// The most bytes of an id.
+const MOST_ID: usize = 100;
+
+/// The most bytes of a title.
+const MOST_TITLE: usize = 1000;
+
+/// The most bytes of a source.
+const MOST_SOURCE: usize = 262_144;
 
 /// Names that mean something else in every object.
 const RESERVED: [&str; 10] = [
@@ -61,7 +70,7 @@ fn has_id_bytes(text: &[u8]) -> bool
 fn is_spelled(text: &[u8]) -> bool
     ensures { result ≡ is_spelled text.now }
 {
-    is_of_length(100, text) && has_id_bytes(text)
+    is_of_length(MOST_ID, text) && has_id_bytes(text)
 }
 
 fn is_hidden(text: &[u8]) -> bool
@@ -146,7 +155,7 @@ pub(crate) fn child_name(bytes: &[u8]) -> Option<&str>
 pub(crate) fn title(bytes: &[u8]) -> Option<&str>
     ensures { option_map (λ t. t.now) result ≡ kept is_title bytes.now }
 {
-    if bytes.len() <= 1000 {
+    if bytes.len() <= MOST_TITLE {
         as_utf8(bytes)
     } else {
         None
@@ -157,7 +166,7 @@ pub(crate) fn title(bytes: &[u8]) -> Option<&str>
 pub(crate) fn source(bytes: &[u8]) -> Option<&str>
     ensures { option_map (λ t. t.now) result ≡ kept is_source bytes.now }
 {
-    if bytes.len() <= 262_144 {
+    if bytes.len() <= MOST_SOURCE {
         as_utf8(bytes)
     } else {
         None

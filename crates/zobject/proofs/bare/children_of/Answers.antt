@@ -1,4 +1,4 @@
-use Rattle.std.proofs.Common.{◌≡◌, []}
+use Rattle.std.proofs.Common.{[]}
 use Rattle.std.proofs.lemmas.Result.{err_from_is_err_and}
 use Rattle.zobject.specs.Reading.{children_at}
 use Rattle.zobject.proofs.Children.{named, knows_none, knows_pushed, starts, goes_on, ends, is_done}
