@@ -1,10 +1,10 @@
--- Numbers of eight, four and two bytes at a place of a list.
+-- Numbers of eight and two bytes at a place of a list.
 use Rattle.std.proofs.Common.{◌≡◌, ℕ, ◌+◌, ◌<◌, ◌≤◌, List, ◌++◌, length, get_or, take, drop, sym, ap, ◌∙◌, arith, inl, inr}
-use Rattle.std.specs.Int.{w16, w32, w64, to_be_bytes, from_be_bytes}
+use Rattle.std.specs.Int.{w16, w64, to_be_bytes, from_be_bytes}
 use Rattle.std.proofs.lemmas.List.{take-append-drop, length-take, length-drop, drop-drop, get_or-drop, get_or-take, get_or_past}
 use Rattle.std.proofs.lemmas.Bool.{cases_lt}
-use Rattle.std.proofs.lemmas.Nat.{be_bytes_2, be_bytes_4, be_bytes_8}
-use Rattle.zbase.specs.Numbers.{be64, be32, be16}
+use Rattle.std.proofs.lemmas.Nat.{be_bytes_2, be_bytes_8}
+use Rattle.zbase.specs.Numbers.{be64, be16}
 
 -- n is what the first eight bytes spell
 pub be64_is : (bytes : List ℕ) (n at k : ℕ) → at + 8 ≤ length bytes → k ≡ 8 → ((i : ℕ) → get_or (take k (drop at bytes)) i 0 < 256) → n ≡ from_be_bytes w64 (take k (drop at bytes)) → drop at bytes ≡ be64 n ++ drop (at + 8) bytes
@@ -13,13 +13,6 @@ be64_is bytes n at k long same fits e =
     let len : length (take k (drop at bytes)) ≡ 8 = omega (arith, length-take k (drop at bytes), length-drop at bytes) in
     let front : to_be_bytes w64 n ≡ take 8 (drop at bytes) = be_bytes_8 (take k (drop at bytes)) n len fits e ∙ ap (λ (j : ℕ). take j (drop at bytes)) same in
     sym (take-append-drop 8 (drop at bytes)) ∙ ap (λ (x : List ℕ). x ++ drop 8 (drop at bytes)) (sym front) ∙ ap (λ (x : List ℕ). to_be_bytes w64 n ++ x) (drop-drop 8 at bytes)
-
-pub be32_is : (bytes : List ℕ) (n at k : ℕ) → at + 4 ≤ length bytes → k ≡ 4 → ((i : ℕ) → get_or (take k (drop at bytes)) i 0 < 256) → n ≡ from_be_bytes w32 (take k (drop at bytes)) → drop at bytes ≡ be32 n ++ drop (at + 4) bytes
-unfolding be32
-be32_is bytes n at k long same fits e =
-    let len : length (take k (drop at bytes)) ≡ 4 = omega (arith, length-take k (drop at bytes), length-drop at bytes) in
-    let front : to_be_bytes w32 n ≡ take 4 (drop at bytes) = be_bytes_4 (take k (drop at bytes)) n len fits e ∙ ap (λ (j : ℕ). take j (drop at bytes)) same in
-    sym (take-append-drop 4 (drop at bytes)) ∙ ap (λ (x : List ℕ). x ++ drop 4 (drop at bytes)) (sym front) ∙ ap (λ (x : List ℕ). to_be_bytes w32 n ++ x) (drop-drop 4 at bytes)
 
 pub be16_is : (bytes : List ℕ) (n at k : ℕ) → at + 2 ≤ length bytes → k ≡ 2 → ((i : ℕ) → get_or (take k (drop at bytes)) i 0 < 256) → n ≡ from_be_bytes w16 (take k (drop at bytes)) → drop at bytes ≡ be16 n ++ drop (at + 2) bytes
 unfolding be16

@@ -16,5 +16,5 @@ pub use faults::{Failed, FaultCount, FaultPlan, Memory};
 pub use hex::{hex_digits, hex16, read_hex16};
 pub use ids::{Clash, Oid, Row, Tid};
 pub use list::{Bytes, Items, Oids, Rows, Value};
-pub use numbers::{u16_at, u32_at, u64_at};
+pub use numbers::{u16_at, u64_at};
 pub use text::{Text, Texts};

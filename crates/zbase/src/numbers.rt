@@ -1,5 +1,5 @@
 ghost use Rattle.std.specs.Prelude.{◌≡◌, ◌++◌, ◌+◌, ◌≤◌, length, drop};
-ghost use Rattle.zbase.specs.Numbers.{be64, be32, be16};
+ghost use Rattle.zbase.specs.Numbers.{be64, be16};
 
 /// The number of eight bytes that stands at a place, high byte first. Takes no memory.
 pub fn u64_at(bytes: &[u8], at: usize) -> u64
@@ -8,15 +8,6 @@ pub fn u64_at(bytes: &[u8], at: usize) -> u64
 {
     let b = &bytes[at..at + 8];
     u64::from_be_bytes([b[0], b[1], b[2], b[3], b[4], b[5], b[6], b[7]])
-}
-
-/// The number of four bytes that stands at a place, high byte first. Takes no memory.
-pub fn u32_at(bytes: &[u8], at: usize) -> u32
-    requires { at + 4 ≤ length bytes.now }
-    ensures { drop at bytes.now ≡ be32 result ++ drop (at + 4) bytes.now }
-{
-    let b = &bytes[at..at + 4];
-    u32::from_be_bytes([b[0], b[1], b[2], b[3]])
 }
 
 /// The number of two bytes that stands at a place, high byte first. Takes no memory.
@@ -36,7 +27,6 @@ mod tests {
     fn numbers_stand_high_byte_first(rt: HostRuntime) {
         let bytes = b"\xff\x01\x02\x03\x04\x05\x06\x07\x08";
         assert_eq!(rt; u64_at(bytes, 1), 0x0102_0304_0506_0708);
-        assert_eq!(rt; u32_at(bytes, 5), 0x0506_0708);
         assert_eq!(rt; u16_at(bytes, 0), 0xff01);
     }
 }
