@@ -13,7 +13,7 @@ use Rattle.fs_scan.specs.declared.data.Found.{Found}
 use Rattle.fs_scan.specs.declared.wholes.OidValue.{OidValue}
 use Rattle.fs_scan.specs.Found.{DataStands, NoData, data_in, body_in}
 use Rattle.fs_scan.specs.Extent.{texts_in}
-use Rattle.fs_scan.specs.Plain.{IsFull, HoldData}
+use Rattle.fs_scan.specs.Plain.{IsFull, AreFull}
 use Rattle.fs_scan.specs.Wholes.{records_in}
 use Rattle.fs_scan.specs.Copied.{CopiesValues, NoValues}
 use Rattle.fs_scan.proofs.OneByOne.{StandTo, none_yet, stands_more, all_stand, none_stand, tail_fits}
@@ -22,7 +22,7 @@ use Rattle.fs_scan.proofs.OneByOne.{StandTo, none_yet, stands_more, all_stand, n
 pub record CopiedTo (area : List ℕ) (at : ℕ) (values : List OidValue) : Type 0 where
   pub ds : List Data
   pub stand : StandTo area at ds
-  pub full : HoldData ds
+  pub full : AreFull ds
   pub said : (earlier : List Earlier) → records_in values ≡ values_of earlier ds
 
 pub no_value : (area : List ℕ) (values : List OidValue) → values ≡ [] → CopiedTo area 0 values
@@ -34,16 +34,16 @@ all_copied area at values r le = record { ds = r.ds; are = all_stand area at r.d
 pub no_record : (area : List ℕ) (at : ℕ) (values : List OidValue) → CopiedTo area at values → at < length area → NoData (drop at area) → NoValues area
 no_record area at values r lt lacks es are full = none_stand area at r.ds r.stand lt lacks es are
 
-full_tail : (ds more : List Data) → HoldData (ds ++ more) → HoldData more
+full_tail : (ds more : List Data) → AreFull (ds ++ more) → AreFull more
 full_tail [] more h = h
 full_tail (d ∷ ds) more h = full_tail ds more h.1
 
-full-append : (ds : List Data) (d : Data) → HoldData ds → IsFull d.body → HoldData (ds ++ d ∷ [])
+full-append : (ds : List Data) (d : Data) → AreFull ds → IsFull d.body → AreFull (ds ++ d ∷ [])
 full-append [] d h f = (f, tt)
 full-append (e ∷ ds) d h f = (h.0, full-append ds d h.1 f)
 
 -- a record without data is the next of any records
-not_full : (d : Data) (area rest : List ℕ) (more : List Data) → DataStands d area rest → area ≡ flat_map data_spelling more → AllByRecursion FitsData more → (IsFull d.body → ⊥) → HoldData more → ⊥
+not_full : (d : Data) (area rest : List ℕ) (more : List Data) → DataStands d area rest → area ≡ flat_map data_spelling more → AllByRecursion FitsData more → (IsFull d.body → ⊥) → AreFull more → ⊥
 not_full d area rest [] s e fits lacks full = omega (arith, long_data d s.fits.body, ap length s.spelled, ap length e, length-append (data_spelling d) rest)
 not_full d area rest (f ∷ more) s e fits lacks full =
     let same = same_data d f rest (flat_map data_spelling more) s.fits fits.0 (sym s.spelled ∙ e) in
@@ -56,7 +56,7 @@ back_body (suc n) back behind z full = omega arith
 pub back_pointer : (area rest : List ℕ) (at : ℕ) (values : List OidValue) (f : Found) → CopiedTo area at values → rest ≡ drop at area → DataStands (data_in f rest) rest (drop f.size rest) → f.head.length ≡ 0 → NoValues area
 back_pointer area rest at values f r e s z es are full =
     let p = same_records r.ds es (drop at area) r.stand.fits are.fits (sym r.stand.spelled ∙ are.spelled) in
-    not_full (data_in f rest) rest (drop f.size rest) p.0 s (e ∙ p.2) (tail_fits r.ds p.0 (subst (AllByRecursion FitsData) p.1 are.fits)) (back_body f.head.length f.back (drop 42 rest) z) (full_tail r.ds p.0 (subst HoldData p.1 full))
+    not_full (data_in f rest) rest (drop f.size rest) p.0 s (e ∙ p.2) (tail_fits r.ds p.0 (subst (AllByRecursion FitsData) p.1 are.fits)) (back_body f.head.length f.back (drop 42 rest) z) (full_tail r.ds p.0 (subst AreFull p.1 full))
 
 record FullIs (n back : ℕ) (behind : List ℕ) : Type 0 where
   full : IsFull (body_in n back behind)

@@ -20,7 +20,7 @@ use Rattle.fs_scan.specs.declared.wholes.Whole.{Whole}
 use Rattle.fs_scan.specs.Marked.{places_from, AreRecords}
 use Rattle.fs_scan.specs.Extent.{area_in, block_in}
 use Rattle.fs_scan.specs.Taking.{rows_after, Takes, IsDamageAt}
-use Rattle.fs_scan.specs.Plain.{HoldData, HoldsData, IsPlain, IsPlainFile, starts, SaysWholes}
+use Rattle.fs_scan.specs.Plain.{AreFull, HoldsData, IsPlain, IsPlainFile, starts, SaysWholes}
 use Rattle.fs_scan.specs.Wholes.{transaction_in, history_in}
 use Rattle.fs_scan.specs.Copied.{NoWhole, CopiesWhole}
 use Rattle.fs_scan.specs.Rising.{RiseWithin}
@@ -190,7 +190,7 @@ no_damage bytes at t places wholes kind c lt (inr bad) front f =
     let s = same_block n.0 bad.0 n.1 bad.1 n.2.fits bad.2.fits (sym n.4 ∙ bad.2.spelled) in
     none_some kind (fault_in at t places bad.0 bad.0.inside) (ap (λ (b : Block). fault_in at t places b b.inside) (sym s.0) ∙ next_right bytes at t places wholes n.0 c n.2) bad.3
 
-holds_records : (rest : List ℕ) (e : Extent) (i : Inside) → FitsInside e.head.status i → area_in e rest ≡ inside_spelling i → HoldsData i → (ds : List Data) × AreRecords (area_in e rest) ds × HoldData ds
+holds_records : (rest : List ℕ) (e : Extent) (i : Inside) → FitsInside e.head.status i → area_in e rest ≡ inside_spelling i → HoldsData i → (ds : List Data) × AreRecords (area_in e rest) ds × AreFull ds
 holds_records rest e (Records ds) fits s full = (ds, record { fits = fits.1; spelled = s }, full)
 holds_records rest e (Skipped bytes) fits s full = absurd full
 

@@ -9,17 +9,19 @@ use Rattle.fs_scan.specs.declared.extent.Extent.{Extent}
 use Rattle.fs_scan.specs.declared.extent.Parts.{Parts}
 use Rattle.fs_scan.specs.declared.extent.Parts.TheVariants as parts
 
+-- the three texts behind the head, one behind the other
 abbrev pub texts_in : TxnHead → List ℕ → TxnTexts
 texts_in h behind = record { user = take h.user behind; description = take h.description (drop h.user behind); extension = take h.extension (drop (h.user + h.description) behind) }
 
+-- what stands between the texts and the second length
 abbrev pub area_in : Extent → List ℕ → List ℕ
 area_in w rest = take (w.long - w.from) (drop w.from rest)
 
--- the transaction, with an inside
+-- the transaction, with what is taken for its inside
 abbrev pub block_in : Extent → List ℕ → Inside → Block
 block_in w rest inside = record { tid = w.head.tid; status = w.head.status; texts = texts_in w.head (drop 23 rest); inside = inside; tail = w.tail }
 
--- the bytes begin so, whatever the inside is
+-- the bytes begin with this transaction, whatever its inside is taken for
 pub record IsWhole (rest : List ℕ) (w : Extent) : Type 0 where
   pub head : FitsTxnHead w.head
   pub tail : w.tail < 2 ^ 64
@@ -33,6 +35,7 @@ pub record IsWhole (rest : List ℕ) (w : Extent) : Type 0 where
   pub extension : length (take w.head.extension (drop (w.head.user + w.head.description) (drop 23 rest))) ≡ w.head.extension
   pub spelled : rest ≡ block_spelling (block_in w rest (Skipped (area_in w rest))) ++ drop (w.long + 8) rest
 
+-- an end, a transaction of which the head and the texts pass its length, or one with a place for records
 abbrev pub PartsSay : List ℕ → Parts → Type 0
 PartsSay rest parts.End = is_end rest ≡ true
 PartsSay rest parts.Bad = (is_end rest ≡ false) × NoBlock rest

@@ -7,6 +7,7 @@ use Rattle.zbase.specs.declared.ids.Row.{Row}
 use Rattle.fs_record.specs.File.{is_own, has_prev, has_body, has_no_version}
 use Rattle.fs_scan.specs.declared.judging.Marks.{Marks}
 
+-- the marks say of all the records whether they are right, given the rows before their transaction
 pub record Marked (rows : List Row) (tid start : ℕ) (marks : Marks) (ds : List Data) : Type 0 where
   pub own : marks.own ≡ list_all (is_own tid start) ds
   pub prev : marks.prev ≡ list_all (has_prev rows) ds
@@ -23,6 +24,7 @@ pub record AreRecords (area : List ℕ) (ds : List Data) : Type 0 where
   pub fits : AllByRecursion FitsData ds
   pub spelled : area ≡ flat_map data_spelling ds
 
+-- no records end exactly with the area
 abbrev pub NoRecords : List ℕ → Type 0
 NoRecords area = (ds : List Data) → AreRecords area ds → ⊥
 

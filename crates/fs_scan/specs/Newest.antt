@@ -11,6 +11,7 @@ abbrev pub place_in : Option ℕ → ℕ
 place_in None = 0
 place_in (Some place) = place
 
+-- the map gives the place of each object's last record
 abbrev pub HasNewest : BTreeMap ℕ ℕ → List Row → Type 0
 HasNewest newest rows = (o : ℕ) → place_in (get nat_cmp newest o) ≡ last_place o 0 rows
 

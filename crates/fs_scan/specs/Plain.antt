@@ -8,21 +8,25 @@ use Rattle.fs_record.specs.File.{Front, IsFile, bytes_of}
 use Rattle.fs_scan.specs.declared.wholes.Whole.{Whole}
 use Rattle.fs_scan.specs.Wholes.{history_in}
 
+-- a record with data, and not a back pointer
 abbrev pub IsFull : Body → Type 0
 IsFull (Full bytes) = Unit {0}
 IsFull (Back place) = ⊥
 
-abbrev pub HoldData : List Data → Type 0
-HoldData ds = AllByRecursion (λ (d : Data). IsFull d.body) ds
+-- records that all hold their data
+abbrev pub AreFull : List Data → Type 0
+AreFull ds = AllByRecursion (λ (d : Data). IsFull d.body) ds
 
+-- the inside was not undone, and all its records hold their data
 abbrev pub HoldsData : Inside → Type 0
-HoldsData (Records ds) = HoldData ds
+HoldsData (Records ds) = AreFull ds
 HoldsData (Skipped bytes) = ⊥
 
 -- a block that counts, isn't packed, and whose records all hold their data
 abbrev pub IsPlain : Block → Type 0
 IsPlain b = (b.status ≡ 32) × HoldsData b.inside
 
+-- a file of such blocks alone
 pub record IsPlainFile (bytes : List ℕ) (front : Front) : Type 0 where
   pub file : IsFile bytes front
   pub plain : AllByRecursion IsPlain file.blocks

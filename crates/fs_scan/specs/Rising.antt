@@ -1,5 +1,5 @@
 -- Records whose places rise.
-use Rattle.std.specs.Prelude.{◌≡◌, ◌≢◌, ℕ, ◌+◌, ◌<◌, ◌≤◌, List, [], ◌∷◌, length, slice_index_or}
+use Rattle.std.specs.Prelude.{◌≡◌, ◌≢◌, ℕ, ◌+◌, ◌<◌, ◌≤◌, List, [], ◌∷◌, ◌++◌, length, take, slice_index_or}
 use Rattle.zbase.specs.declared.ids.Row.{Row}
 
 -- places rise, from n on
@@ -23,3 +23,13 @@ pub record IsAt (rs : List Row) (place i : ℕ) : Type 0 where
 -- no record stands at the place
 abbrev pub NoneAt : List Row → ℕ → Type 0
 NoneAt rs place = (i : ℕ) → i < length rs → (row_at rs i).place ≢ place
+
+-- the first of these rows were added
+pub record AddsFirst (old new rows : List Row) : Type 0 where
+  pub count : ℕ
+  pub added : new ≡ old ++ take count rows
+
+-- the same rows, and maybe more behind them
+pub record Grows (old new : List Row) : Type 0 where
+  pub more : List Row
+  pub added : new ≡ old ++ more

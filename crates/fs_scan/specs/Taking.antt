@@ -13,6 +13,7 @@ use Rattle.fs_scan.specs.declared.step.Step.TheVariants as steps
 use Rattle.fs_scan.specs.Extent.{block_in, IsWhole}
 use Rattle.fs_scan.specs.Marked.{places_from}
 
+-- the first damage by the marks of all records, in the order of `fault_in`
 abbrev pub fault_by : ℕ → ℕ → ℕ → ℕ → ℕ → Marks → Option Damage
 fault_by last tid status tail long marks =
     if nat_lt last tid && marks.own then
@@ -28,7 +29,7 @@ fault_by last tid status tail long marks =
     else Some BadPrev
     else Some BadTid
 
--- the rows after a transaction
+-- the rows after a transaction at the place; records of an undone one don't count
 abbrev pub rows_after : List Row → ℕ → Block → Inside → List Row
 rows_after rows place b (Skipped bytes) = rows
 rows_after rows place b (Records ds) = rows ++ places_from (records_place place b) ds
@@ -42,15 +43,17 @@ pub record Takes (rest : List ℕ) (place last : ℕ) (old new : List Row) (w : 
   pub size : long_of (block_in w rest inside) ≡ w.long
   pub rows : new ≡ rows_after old place (block_in w rest inside) inside
 
+-- the damage at a place, behind rows and a transaction with the id `last`
 abbrev pub IsDamageAt : List ℕ → ℕ → ℕ → List Row → Damage → Type 0
 IsDamageAt rest place last rows kind = ((kind ≡ BadLength) × NoBlock rest) ⊎ ((b : Block) × (more : List ℕ) × Stands b rest more × (fault_in place last rows b b.inside ≡ Some kind))
 
--- what is said of the transaction that stands here, or of the end
+-- what a step says where a transaction stands that isn't undone
 abbrev pub StepLeads : List ℕ → ℕ → ℕ → List Row → List Row → Step → Type 0
 StepLeads rest place last old new steps.End = ⊥
 StepLeads rest place last old new (steps.Damaged kind) = IsDamageAt rest place last old kind × (new ≡ old)
 StepLeads rest place last old new (steps.Right w) = Takes rest place last old new w
 
+-- what a step says; the rows change for a right transaction alone
 abbrev pub StepSays : List ℕ → ℕ → ℕ → List Row → List Row → Step → Type 0
 StepSays rest place last old new steps.End = (is_end rest ≡ true) × (new ≡ old)
 StepSays rest place last old new (steps.Damaged kind) = (is_end rest ≡ false) × IsDamageAt rest place last old kind × (new ≡ old)

@@ -19,6 +19,7 @@ pub struct Marks {
     pub version: bool,
 }
 
+// Whether data stands, or a back pointer that is 0 or the place of a record of the object.
 fn is_right_back(places: &Places, found: &Found) -> bool
     ensures { (behind : List ℕ) → result ≡ is_right_body places.now found.now.head.oid (body_in found.now.head.length found.now.back behind) }
 {
@@ -44,7 +45,7 @@ pub fn judged(places: &Places, found: &Found, tid: Tid, start: u64) -> Marks
 }
 
 impl Marks {
-    /// What no record has right or wrong so far.
+    /// The marks of no records.
     pub fn all() -> Marks
         ensures own { result.own ≡ true }
         ensures prev { result.prev ≡ true }

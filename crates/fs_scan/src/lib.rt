@@ -13,6 +13,8 @@ mod places;
 mod plain;
 mod records;
 mod step;
+#[cfg(test)]
+mod tests;
 mod wholes;
 
 pub use plain::{PlainRefusal, read_plain_file};

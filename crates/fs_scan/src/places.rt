@@ -1,7 +1,7 @@
 ghost use Rattle.std.specs.Prelude.{◌≡◌, ◌++◌, ◌∷◌, [], IfOk, IfErr, OnOk, OnErr};
 ghost use Rattle.std.specs.List.{list_any};
 ghost use Rattle.fs_record.specs.File.{last_place, is_row};
-ghost use Rattle.fs_scan.specs.Rising.{RiseFrom, IsAt, NoneAt};
+ghost use Rattle.fs_scan.specs.Rising.{RiseFrom, IsAt, NoneAt, AddsFirst};
 
 use std::alloc::Global;
 use std::collections::BTreeMap;
@@ -93,7 +93,8 @@ impl Places {
     /// Adds the records of a transaction behind all others. For want of memory the first of them may be added.
     pub fn add(&mut self, rows: &[Row]) -> Result<(), Memory>
         requires { RiseFrom 0 (self.old ++ rows.now) }
-        ensures { OnOk result (self.new ≡ self.old ++ rows.now) }
+        ensures ok { OnOk result (self.new ≡ self.old ++ rows.now) }
+        ensures err { OnErr result (AddsFirst self.old self.new rows.now) }
     {
         for row in rows {
             self.push(*row)?;

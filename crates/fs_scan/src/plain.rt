@@ -32,7 +32,7 @@ impl From<Memory> for PlainRefusal {
 
 /// All transactions of a file whose transactions are committed, not packed, and hold their data.
 ///
-/// It copies each value once, and else keeps 32 bytes or so for each data record while it reads.
+/// It copies each text and value once, and while it reads it keeps where each data record stands.
 pub fn read_plain_file(alloc: Global, bytes: &[u8]) -> Result<Wholes, PlainRefusal>
     ensures read { IfOk result (SaysWholes bytes.now) }
     ensures not_plain { IsErrOf result PlainRefusal.NotPlain → (front : Front) → IsPlainFile bytes.now front → ⊥ }
@@ -63,6 +63,7 @@ pub fn read_plain_file(alloc: Global, bytes: &[u8]) -> Result<Wholes, PlainRefus
     Ok(wholes)
 }
 
+// Whether the bytes begin with `FS21`.
 fn has_magic(bytes: &[u8]) -> bool
     ensures yes { result ≡ true → bytes.now ≡ magic ++ drop 4 bytes.now }
     ensures no { result ≡ false → (more : List ℕ) → bytes.now ≡ magic ++ more → ⊥ }

@@ -1,6 +1,6 @@
-ghost use Rattle.std.specs.Prelude.{◌≡◌, ◌≢◌, ◌+◌, ◌<◌, ◌^◌, length, IfOk};
+ghost use Rattle.std.specs.Prelude.{◌≡◌, ◌≢◌, ◌+◌, ◌<◌, ◌^◌, length, IfOk, OnErr};
 ghost use Rattle.fs_scan.specs.Extent.{IsWhole};
-ghost use Rattle.fs_scan.specs.Rising.{RiseWithin};
+ghost use Rattle.fs_scan.specs.Rising.{RiseWithin, Grows};
 ghost use Rattle.fs_scan.specs.Taking.{fault_by, StepSays, StepLeads};
 
 use crate::extent::{Extent, Parts, whole_at};
@@ -59,7 +59,8 @@ fn take_records(
     requires before { RiseWithin 0 place places.old }
     requires whole { IsWhole rest.now extent.now }
     requires read { extent.now.head.status ≢ 117 }
-    ensures { IfOk result (λ s. StepLeads rest.now place last places.old places.new s) }
+    ensures ok { IfOk result (λ s. StepLeads rest.now place last places.old places.new s) }
+    ensures err { OnErr result (Grows places.old places.new) }
 {
     let head = extent.head;
     let area = &rest[extent.from..extent.long];
@@ -81,11 +82,12 @@ fn take_records(
 
 /// Takes what stands at the front, at this place in a file whose records before it are given and whose last
 /// transaction has the id `last`. The records of a right transaction are added to the places; of one undone in the
-/// old manner they aren't read.
+/// old manner they aren't read. For want of memory some of its records may be added, of which none may be used.
 pub fn take_one(places: &mut Places, rest: &[u8], place: u64, last: Tid) -> Result<Step, Memory>
     requires place { place + length rest.now < 2 ^ 63 }
     requires before { RiseWithin 0 place places.old }
-    ensures { IfOk result (λ s. StepSays rest.now place last places.old places.new s) }
+    ensures ok { IfOk result (λ s. StepSays rest.now place last places.old places.new s) }
+    ensures err { OnErr result (Grows places.old places.new) }
 {
     let extent = match whole_at(rest) {
         Parts::End => return Ok(Step::End),

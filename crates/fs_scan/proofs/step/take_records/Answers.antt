@@ -6,20 +6,20 @@ use Rattle.fs_scan.proofs.RisingPlaces.{read_rise}
 use Rattle.fs_scan.proofs.Stepping.{bad_length, records_right, records_wrong}
 use Rattle.fs_scan.proofs.step.take_records.Goals as goal
 
-pub returns-in-None : goal.returns-in-None
-returns-in-None c = (inl (refl, bad_length c.args.rest.now c.args.extent.now c.requires.whole c.requires.read (rw c.in-None.is at c.in_ok-read.ensures)), refl)
+pub returns-in-None-clause-ok : goal.returns-in-None-clause-ok
+returns-in-None-clause-ok c = (inl (refl, bad_length c.args.rest.now c.args.extent.now c.requires.whole c.requires.read (rw c.in-None.is at c.in_ok-read.ensures)), refl)
 
-pub returns-in-Some-fault : goal.returns-in-Some-fault
-returns-in-Some-fault c = (
+pub returns-in-Some-fault-clause-ok : goal.returns-in-Some-fault-clause-ok
+returns-in-Some-fault-clause-ok c = (
   records_wrong c.args.rest.now c.args.extent.now c.args.place c.args.last c.args.places.now _ _ c.in-Some.marks c.in-Some-fault.kind c.requires.whole c.requires.read (rw c.in-Some.is at c.in_ok-read.ensures) (sym c.fault.ensures ∙ c.in-Some-fault.is),
   refl,
 )
 
-pub returns : goal.returns
-returns c =
+pub returns-clause-ok : goal.returns-clause-ok
+returns-clause-ok c =
     records_right c.args.rest.now c.args.extent.now c.args.place c.args.last c.args.places.now c.read_records.new.rows _ c.in-Some.marks c.requires.whole c.requires.read
     (rw c.new-rows.ensures at (rw c.in-Some.is at c.in_ok-read.ensures)) (sym c.fault.ensures ∙ c.in-None-fault.is)
-    (c.in_ok-add-in-None-fault.ensures ∙ ap (λ (rows : List Row). c.args.places.now ++ rows) c.as_slice.ensures)
+    (c.in_ok-add-in-None-fault.ensures.ok ∙ ap (λ (rows : List Row). c.args.places.now ++ rows) c.as_slice.ensures)
 
 pub add-requires : goal.add-requires
 add-requires c =

@@ -1,0 +1,179 @@
+use crate::places::Places;
+use crate::step::{Step, take_one};
+use crate::{PlainRefusal, Wholes, read_plain_file};
+use fs_record::Damage;
+use std::alloc::Global;
+use std::test::*;
+use zbase::{Bytes, Memory, Oid, Row, Tid};
+
+/// A file of one transaction at place 4, of two records, at the places 27 and 103.
+const TWO_OBJECTS: [u8; 184] = [
+    70, 83, 50, 49, 3, 49, 98, 0, 0, 0, 0, 0, 0, 0, 0, 0, 0, 0, 0, 172, 32, 0, 0, 0, 0, 0, 0, 0, 0,
+    0, 0, 0, 0, 0, 0, 3, 49, 98, 0, 0, 0, 0, 0, 0, 0, 0, 0, 0, 0, 0, 0, 0, 0, 0, 0, 0, 0, 0, 4, 0,
+    0, 0, 0, 0, 0, 0, 0, 0, 34, 90, 49, 70, 0, 0, 0, 0, 0, 0, 0, 0, 0, 0, 0, 0, 0, 0, 0, 0, 0, 0,
+    0, 1, 0, 1, 97, 0, 0, 0, 0, 0, 0, 0, 1, 0, 0, 0, 0, 0, 0, 0, 1, 3, 49, 98, 0, 0, 0, 0, 0, 0, 0,
+    0, 0, 0, 0, 0, 0, 0, 0, 0, 0, 0, 0, 0, 4, 0, 0, 0, 0, 0, 0, 0, 0, 0, 31, 90, 49, 68, 0, 1, 97,
+    0, 0, 0, 0, 0, 0, 0, 0, 0, 0, 0, 0, 0, 0, 0, 0, 0, 0, 0, 5, 104, 101, 108, 108, 111, 0, 0, 0,
+    0, 0, 0, 0, 172,
+];
+
+const FIRST: u64 = 0x0331_6200_0000_0000;
+
+fn refusal(read: Result<Wholes, PlainRefusal>) -> Option<PlainRefusal> {
+    read.err()
+}
+
+// A data record of the transaction at place 184; no data stands for a back pointer.
+fn put_record(
+    out: &mut Bytes,
+    oid: u8,
+    previous: u8,
+    data_or_none: &[u8],
+    back: u8,
+) -> Result<(), Memory> {
+    out.append(&[0, 0, 0, 0, 0, 0, 0, oid, 3, 49, 98, 0, 0, 0, 0, 1])?;
+    out.append(&[0, 0, 0, 0, 0, 0, 0, previous, 0, 0, 0, 0, 0, 0, 0, 184])?;
+    out.append(&[0, 0])?;
+    out.append(&(data_or_none.len() as u64).to_be_bytes())?;
+    if data_or_none.is_empty() {
+        return out.append(&[0, 0, 0, 0, 0, 0, 0, back]);
+    }
+    out.append(data_or_none)
+}
+
+// The file above, and these records in a transaction behind it, of the user `me` and with the description `why`.
+fn longer(alloc: Global, records: &Bytes) -> Result<Bytes, Memory> {
+    let mut out = Bytes::from_slice(alloc, &TWO_OBJECTS)?;
+    let long = 23 + 5 + records.as_slice().len() as u64;
+    out.append(&[3, 49, 98, 0, 0, 0, 0, 1])?;
+    out.append(&long.to_be_bytes())?;
+    out.append(&[b' ', 0, 2, 0, 3, 0, 0])?;
+    out.append(b"mewhy")?;
+    out.append(records.as_slice())?;
+    out.append(&long.to_be_bytes())?;
+    Ok(out)
+}
+
+#[test]
+fn the_worked_file_has_two_objects(rt: HostRuntime) -> Result<(), Fail> {
+    let wholes = read_plain_file(rt.alloc(), &TWO_OBJECTS)
+        .ok()
+        .ok_or("reads")?;
+    assert_eq!(rt; wholes.len(), 1);
+    for whole in wholes.as_slice() {
+        assert_eq!(rt; (whole.place, whole.status), (4, b' '));
+        assert_eq!(rt; whole.tid, Tid(FIRST));
+        assert!(rt; whole.texts.user.is_empty());
+        for (index, value) in whole.values.as_slice().iter().enumerate() {
+            let bytes = value.value.as_ref().ok_or("has data")?;
+            assert_eq!(rt; value.oid.0, index as u64);
+            assert_eq!(rt; bytes.len(), if index == 0 { 34 } else { 31 });
+        }
+        assert_eq!(rt; whole.values.len(), 2);
+    }
+    Ok(())
+}
+
+#[test]
+fn a_file_may_have_no_transaction(rt: HostRuntime) {
+    assert_eq!(rt;
+        read_plain_file(rt.alloc(), b"FS21").map(|wholes| wholes.len()),
+        Ok(0)
+    );
+}
+
+#[test]
+fn other_bytes_are_refused(rt: HostRuntime) -> Result<(), Fail> {
+    let plain = Some(PlainRefusal::NotPlain);
+    let magic = Some(PlainRefusal::BadMagic);
+    let changes = [
+        (0, 0, magic),
+        (20, b'p', plain),
+        (20, b'u', plain),
+        (20, b'c', plain),
+        (26, 1, plain),
+        (58, 5, plain),
+        (126, 1, plain),
+        (135, 1, plain),
+        (183, 171, plain),
+    ];
+    for (place, byte, expected) in changes {
+        let mut file = TWO_OBJECTS;
+        file[place] = byte;
+        assert_eq!(rt; refusal(read_plain_file(rt.alloc(), &file)), expected);
+    }
+    assert_eq!(rt;
+        refusal(read_plain_file(rt.alloc(), &TWO_OBJECTS[..183])),
+        plain
+    );
+    let mut torn = Bytes::from_slice(rt.alloc(), &TWO_OBJECTS)?;
+    torn.append(&[1; 22])?;
+    assert_eq!(rt;
+        refusal(read_plain_file(rt.alloc(), torn.as_slice())),
+        plain
+    );
+    Ok(())
+}
+
+#[test]
+fn a_second_transaction_is_judged_by_the_first(rt: HostRuntime) -> Result<(), Fail> {
+    let mut records = Bytes::new(rt.alloc());
+    put_record(&mut records, 1, 103, b"new", 0)?;
+    put_record(&mut records, 1, 103, b"newer", 0)?;
+    put_record(&mut records, 2, 0, b"other", 0)?;
+    let file = longer(rt.alloc(), &records)?;
+    let wholes = read_plain_file(rt.alloc(), file.as_slice())
+        .ok()
+        .ok_or("reads")?;
+    assert_eq!(rt; wholes.len(), 2);
+    let whole = wholes.as_slice().last().ok_or("has a last")?;
+    assert_eq!(rt; (whole.place, whole.tid), (184, Tid(FIRST + 1)));
+    assert_eq!(rt; whole.texts.user.as_slice(), b"me".as_slice());
+    assert_eq!(rt; whole.texts.description.as_slice(), b"why".as_slice());
+    assert_eq!(rt; whole.values.len(), 3);
+    let second = whole.values.as_slice().get(1).ok_or("has a second")?;
+    let value = second.value.as_ref().ok_or("has data")?;
+    assert_eq!(rt; second.oid.0, 1);
+    assert_eq!(rt; value.as_slice(), b"newer".as_slice());
+    Ok(())
+}
+
+// What stands behind the first transaction, where the object 1 has a record at place 103.
+fn step_behind(alloc: Global, file: &Bytes) -> Result<Option<Damage>, Fail> {
+    let bytes = file.as_slice();
+    if bytes.len() < 184 {
+        return Err("is longer".into());
+    }
+    let mut places = Places::new(alloc);
+    places.add(&[Row {
+        oid: Oid(1),
+        place: 103,
+    }])?;
+    match take_one(&mut places, &bytes[184..], 184, Tid(FIRST))? {
+        Step::End => Err("goes on".into()),
+        Step::Damaged(kind) => Ok(Some(kind)),
+        Step::Right(_) => Ok(None),
+    }
+}
+
+#[test]
+fn back_pointers_are_right_and_not_plain(rt: HostRuntime) -> Result<(), Fail> {
+    let cases = [
+        (1, 103, 103, None),
+        (1, 103, 0, None),
+        (1, 103, 27, Some(Damage::BadBack)),
+        (2, 0, 103, Some(Damage::BadBack)),
+        (1, 27, 103, Some(Damage::BadPrev)),
+    ];
+    for (oid, previous, back, expected) in cases {
+        let mut records = Bytes::new(rt.alloc());
+        put_record(&mut records, oid, previous, b"", back)?;
+        let file = longer(rt.alloc(), &records)?;
+        assert_eq!(rt; step_behind(rt.alloc(), &file)?, expected);
+        assert_eq!(rt;
+            refusal(read_plain_file(rt.alloc(), file.as_slice())),
+            Some(PlainRefusal::NotPlain)
+        );
+    }
+    Ok(())
+}
