@@ -64,21 +64,10 @@ pub fn read_plain_file(alloc: Global, bytes: &[u8]) -> Result<Wholes, PlainRefus
 }
 
 // Whether the bytes begin with `FS21`.
+// Whether the bytes begin with the magic of a file.
 fn has_magic(bytes: &[u8]) -> bool
     ensures yes { result ≡ true → bytes.now ≡ magic ++ drop 4 bytes.now }
     ensures no { result ≡ false → (more : List ℕ) → bytes.now ≡ magic ++ more → ⊥ }
 {
-    if bytes.len() < 4 {
-        return false;
-    }
-    if bytes[0] != b'F' {
-        return false;
-    }
-    if bytes[1] != b'S' {
-        return false;
-    }
-    if bytes[2] != b'2' {
-        return false;
-    }
-    bytes[3] == b'1'
+    bytes.starts_with(b"FS21")
 }

@@ -1,5 +1,5 @@
 -- The first worker alone: where a run starts, what it loses, and each arm of its steps.
-use Rattle.std.proofs.Common.{◌≡◌, ℕ, ◌++◌, List, [], ◌∷◌, Option, None, refl, ap, ◌∙◌, inl, inr}
+use Rattle.std.proofs.Common.{◌≡◌, ℕ, ◌++◌, List, [], ◌∷◌, Option, refl, ap, ◌∙◌, inl, inr}
 use Rattle.std.specs.List.{enumerate_from, filter_map}
 use Rattle.zbase.specs.History.{IsHistory}
 use Rattle.zbase.specs.Values.{last, upto}

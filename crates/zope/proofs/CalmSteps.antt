@@ -1,5 +1,5 @@
 -- The lines of a step of the first worker hit no armed item.
-use Rattle.std.proofs.Common.{◌≡◌, ℕ, List, [], ◌∷◌, ◌++◌, map, Option, Some, None, refl, ap, ◌∙◌}
+use Rattle.std.proofs.Common.{◌≡◌, ℕ, List, [], ◌∷◌, ◌++◌, map, Option, Some, None, refl, ◌∙◌}
 use Rattle.evaluator.specs.declared.reply.Denial.{Denial}
 use Rattle.evaluator.specs.declared.reply.Mark.{Mark}
 use Rattle.evaluator.specs.declared.reply.Reply.{Reply}
@@ -7,7 +7,7 @@ use Rattle.evaluator.specs.declared.reply.Shown.{Shown}
 use Rattle.schedule.specs.declared.item.Item2.{Item2}
 use Rattle.schedule.specs.declared.line.Line.{Line}
 use Rattle.schedule.specs.Armed.{Queue, after_lines}
-use Rattle.schedule.specs.Causes.{by_oid, denied_line, shown_lines}
+use Rattle.schedule.specs.Causes.{by_oid, denied_line}
 use Rattle.schedule.specs.CourseLaws.{IsCalm}
 use Rattle.zope.specs.declared.step_line.StepLine.{StepLine}
 use Rattle.zope.specs.Alone.{step_lines}

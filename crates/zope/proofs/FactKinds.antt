@@ -1,5 +1,5 @@
 -- What is known of an object is a fact of it.
-use Rattle.std.proofs.Common.{◌≡◌, List, Option, Some, sym, subst}
+use Rattle.std.proofs.Common.{◌≡◌, List, Some, sym, subst}
 use Rattle.evaluator.specs.declared.ask.Ask.{Ask}
 use Rattle.evaluator.specs.declared.fact.Fact.{Fact}
 use Rattle.evaluator.specs.FactLaws.{look_asked}

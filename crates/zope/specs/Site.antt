@@ -1,7 +1,7 @@
 -- The site so far: documents without tags, in the root folder, for everyone.
 --
 -- Zope Developer's Guide, "Object Publishing": the root is traversed to an object, which is published.
-use Rattle.std.specs.Prelude.{ℕ, false, true, not, ◌&&◌, ◌||◌, ◌==◌, Bool, List, [], ◌∷◌, ◌++◌, Option, None, Some, if◌then◌else◌, codes}
+use Rattle.std.specs.Prelude.{ℕ, false, not, ◌&&◌, ◌||◌, ◌==◌, Bool, List, [], ◌∷◌, ◌++◌, Option, None, Some, if◌then◌else◌, codes}
 use Rattle.std.specs.List.{list_any}
 use Rattle.zbase.specs.Hex.{hex16_text}
 use Rattle.zbase.specs.History.{Value}
@@ -14,7 +14,6 @@ use Rattle.evaluator.specs.declared.reply.Shown.{Shown}
 use Rattle.evaluator.specs.Exec.{Eval}
 use Rattle.evaluator.specs.Replies.{one_line}
 use Rattle.zobject.specs.declared.object.Object.{Object}
-use Rattle.zobject.specs.declared.object.Child.{Child}
 use Rattle.zobject.specs.declared.object.Part2.{Part2}
 use Rattle.zobject.specs.declared.object.Part2.TheVariants.{Folder, Method, Document, UserFolder}
 use Rattle.zobject.specs.Folders.{child_of}

@@ -1,5 +1,5 @@
 -- The site keeps the laws of an evaluator.
-use Rattle.std.proofs.Common.{◌≡◌, ℕ, ◌≤◌, ◌==◌, ◌&&◌, Bool, true, false, not, List, [], ◌∷◌, ◌++◌, Option, None, Some, refl, sym, ap, ◌∙◌, subst, cond, eq-eqb, filter, length, arith, lit<, lit≤, nat_le, codes, inl, inr}
+use Rattle.std.proofs.Common.{◌≡◌, ℕ, ◌≤◌, ◌==◌, ◌&&◌, Bool, true, false, not, List, [], ◌∷◌, Option, None, Some, refl, sym, ap, ◌∙◌, subst, cond, eq-eqb, length, arith, lit<, lit≤, nat_le, codes, inl, inr}
 use Rattle.std.specs.Prelude.{◌⊎◌, ◌≢◌}
 use Rattle.std.specs.List.{list_all, AllByRecursion}
 use Rattle.std.proofs.lemmas.Bool.Decides.{nat_tests}
@@ -11,10 +11,9 @@ use Rattle.evaluator.specs.declared.fact.Fact.{Fact}
 use Rattle.evaluator.specs.declared.outcome.Outcome.{Outcome}
 use Rattle.evaluator.specs.declared.reply.Reply.{Reply}
 use Rattle.evaluator.specs.Change.{IsChange, IsReply}
-use Rattle.evaluator.specs.Exec.{exec, is_lasting, IsDecided, IsLawful, IsTrail, IsTrailFrom, most_asks}
-use Rattle.evaluator.specs.FactLaws.{look_asked, look_true}
+use Rattle.evaluator.specs.Exec.{exec, IsDecided, IsLawful, IsTrail, most_asks}
+use Rattle.evaluator.specs.FactLaws.{look_true}
 use Rattle.evaluator.specs.Facts.{fact, ask_of, look, same_ask, TrueOf}
-use Rattle.evaluator.specs.Replies.{one_line}
 use Rattle.zobject.specs.declared.object.Object.{Object}
 use Rattle.zobject.specs.declared.object.Part2.{Part2}
 use Rattle.zobject.specs.declared.object.Part2.TheVariants.{Folder, Method, Document, UserFolder}

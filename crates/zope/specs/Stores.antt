@@ -1,6 +1,6 @@
 -- An opened file: its history, and where it ends.
-use Rattle.std.specs.Prelude.{◌≡◌, ℕ, ◌==◌, List, [], ◌∷◌, map, Option, Some, None, if◌then◌else◌}
-use Rattle.zbase.specs.History.{Value, Transaction, History}
+use Rattle.std.specs.Prelude.{◌≡◌, ℕ, ◌==◌, List, [], ◌∷◌, Option, Some, None, if◌then◌else◌}
+use Rattle.zbase.specs.History.{Value, History}
 use Rattle.fs_record.specs.File.{Front, IsFile}
 
 pub record Opened : Type 0 where

@@ -1,4 +1,4 @@
-use Rattle.std.proofs.Common.{◌≡◌, ◌∷◌, [], subst}
+use Rattle.std.proofs.Common.{◌∷◌, [], subst}
 use Rattle.zbase.specs.Faults.{counts_as, counts_then}
 use Rattle.fs_scan.specs.declared.wholes.OidValue.{OidValue}
 use Rattle.schedule.specs.Explained.{record_line}

@@ -1,4 +1,3 @@
-use Rattle.std.proofs.Common.{◌∷◌, []}
 use Rattle.zbase.specs.Faults.{counts_as, counts_then}
 use Rattle.schedule.specs.Explained.{transaction_lines}
 use Rattle.fs_scan.specs.Wholes.{transaction_in}

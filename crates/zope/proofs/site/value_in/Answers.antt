@@ -1,4 +1,4 @@
-use Rattle.std.proofs.Common.{◌≡◌, ◌∙◌, Some, sym, ap, subst}
+use Rattle.std.proofs.Common.{◌∙◌, sym, ap, subst}
 use Rattle.std.specs.Option.{option_copied}
 use Rattle.evaluator.specs.Facts.{ask_of}
 use Rattle.zope.specs.Alone.{IsOfObject}

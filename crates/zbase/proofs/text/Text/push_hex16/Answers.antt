@@ -1,4 +1,4 @@
-use Rattle.std.proofs.Common.{◌≡◌, sym, subst, ◌∙◌}
+use Rattle.std.proofs.Common.{sym, subst, ◌∙◌}
 use Rattle.std.specs.Str.{IsUtf8}
 use Rattle.zbase.proofs.HexAscii.{hex16_is_utf8}
 use Rattle.zbase.proofs.text.Text.push_hex16.Goals as goal
