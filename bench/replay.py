@@ -70,7 +70,7 @@ def write_site(path, transactions, size):
         writer.transaction(first, b"", b"init", made)
         for number in range(1, transactions):
             name = names[number % 100]
-            source = (b"revision %d " % number) * (size // 16)
+            source = (b"revision %d " % number) * (size // 10)
             path_text = b"/" + name + b"/manage_edit"
             writer.transaction(first + number, b"admin", path_text, [(number % 100 + 1, document(name, source[:size]))])
 
