@@ -1,5 +1,5 @@
 -- Every course of moments is right by the history in which it ends, and by each longer one.
-use Rattle.std.proofs.Common.{List, [], ◌∷◌, refl, sym, subst}
+use Rattle.std.proofs.Common.{◌≡◌, List, [], ◌∷◌, refl, sym, subst}
 use Rattle.std.specs.List.{AllByRecursion}
 use Rattle.zbase.specs.History.{History, IsHistory, IsPrefixOf}
 use Rattle.evaluator.specs.Exec.{IsLawful}
@@ -39,17 +39,24 @@ are_right : {R : Type 0} (terms : Terms R) (ps : List (Place R)) (end : Moment R
 are_right terms [] end all = tt
 are_right terms (p ∷ ps) end all = (all.0, are_right terms ps end all.1)
 
--- What a loop has to show is the course and the faults alone: the rest follows.
+-- What a loop has to show is the course and the faults alone: the rest follows, by that course.
+pub explained_by : {R : Type 0} (terms : Terms R) (licence : List (Place R) → Type 0) (h0 : History) (ps : List (Place R)) (end : Moment R) → IsLawful terms.eval → IsHistory h0 → Course terms (start terms h0) ps end → licence ps
+    → (e : Explains terms licence h0 (items_of ps) (report h0 ps end)) × (e.trace ≡ ps) × (e.end ≡ end)
+explained_by terms licence h0 ps end lawful is c faults =
+    let run = course_is_right terms (start terms h0) ps end lawful (good_start terms h0 is) c in (
+      record {
+        trace = ps;
+        end = end;
+        items = refl;
+        lines = refl;
+        course = c;
+        first = run.grows;
+        right = are_right terms ps end (run.right end.standing run.good.history (prefix_refl end.standing));
+        faults = faults;
+      },
+      refl,
+      refl,
+    )
+
 pub explained : {R : Type 0} (terms : Terms R) (licence : List (Place R) → Type 0) (h0 : History) (ps : List (Place R)) (end : Moment R) → IsLawful terms.eval → IsHistory h0 → Course terms (start terms h0) ps end → licence ps → Explains terms licence h0 (items_of ps) (report h0 ps end)
-explained terms licence h0 ps end lawful is c faults =
-    let run = course_is_right terms (start terms h0) ps end lawful (good_start terms h0 is) c in
-    record {
-      trace = ps;
-      end = end;
-      items = refl;
-      lines = refl;
-      course = c;
-      first = run.grows;
-      right = are_right terms ps end (run.right end.standing run.good.history (prefix_refl end.standing));
-      faults = faults;
-    }
+explained terms licence h0 ps end lawful is c faults = (explained_by terms licence h0 ps end lawful is c faults).0

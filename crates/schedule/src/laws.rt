@@ -14,11 +14,12 @@ use evaluator::Evaluator;
 ///
 /// Each course of moments from the opened history, over every lawful evaluator, is a run of the requests one by
 /// one in the order of their transactions: each commit has the reply and the objects of running its request on
-/// the transactions before it, each read those of a prefix, and each restart keeps what was acknowledged.
+/// the transactions before it, each read those of a prefix, and each restart keeps what was acknowledged. It is
+/// explained by that very course.
 pub fn runs_are_serial<E: Evaluator>()
     ensures { (terms : Terms E.Request) (h0 : History) (trace : List (Place E.Request)) (end : Moment E.Request) →
         IsLawful terms.eval → IsHistory h0 → Course terms (start terms h0) trace end → IsArmed trace →
-        Explained terms h0 (items_of trace) (report h0 trace end) }
+        (e : Explained terms h0 (items_of trace) (report h0 trace end)) × (e.trace ≡ trace) × (e.end ≡ end) }
 {}
 
 /// A text spells one schedule.

@@ -1,5 +1,6 @@
 -- Files in memory as a shelf tells them.
-use Rattle.std.specs.Prelude.{List, map}
+use Rattle.std.specs.Prelude.{◌≡◌, List, All, map, nat_le, true}
+use Rattle.std.specs.List.{list_all}
 use Rattle.zio.specs.declared.memory_shelf.MemoryFile.{MemoryFile}
 use Rattle.zio.specs.Shelves.{Entry}
 
@@ -8,3 +9,10 @@ entry file = (file.name, file.bytes)
 
 abbrev pub entries : List MemoryFile → List Entry
 entries files = map entry files
+
+-- no call of a disk over the file is to fail
+abbrev pub NeverFails : MemoryFile → Type 0
+NeverFails file = list_all (λ n. nat_le n 0) file.failing.items ≡ true
+
+abbrev pub HaveSoundDisks : List MemoryFile → Type 0
+HaveSoundDisks files = All NeverFails files

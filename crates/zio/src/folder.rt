@@ -36,6 +36,8 @@ impl<R: Files> Shelf for Folder<R> {
 
     ghost counter = { λ folder. folder.faults };
 
+    ghost sound_disks = { λ _. ⊥ };
+
     fn open(&mut self, name: &str) -> Result<FileDisk<R::File>, ShelfRefusal> {
         match fs::open(&self.rt, name) {
             Ok(file) => Ok(FileDisk::new(file)),

@@ -1,8 +1,8 @@
-ghost use Rattle.std.specs.Prelude.{◌≡◌, IfOk, Some, option_map};
+ghost use Rattle.std.specs.Prelude.{◌≡◌, IfOk, IfSome, Some, option_map};
 ghost use Rattle.std.specs.Option.{option_copied};
 ghost use Rattle.std.specs.declared.option.Option.{Option};
 ghost use Rattle.zio.specs.Shelves.{file_at};
-ghost use Rattle.zio.specs.MemoryShelves.{entries};
+ghost use Rattle.zio.specs.MemoryShelves.{HaveSoundDisks, NeverFails, entries};
 
 use crate::{Shelf, ShelfRefusal};
 use std::alloc::Global;
@@ -37,6 +37,7 @@ impl MemoryShelf {
     pub fn new(alloc: Global, files: Vec<MemoryFile>, plan: FaultPlan) -> MemoryShelf
         ensures files { ⟦<MemoryShelf as Shelf>⟧.files result ≡ Some (entries files.items) }
         ensures counter { ⟦<MemoryShelf as Shelf>⟧.counter result ≡ plan }
+        ensures sound_disks { HaveSoundDisks files.items → ⟦<MemoryShelf as Shelf>⟧.sound_disks result }
     {
         MemoryShelf { files, plan, alloc }
     }
@@ -48,6 +49,8 @@ impl Shelf for MemoryShelf {
     ghost files = { λ shelf. Some (entries shelf.files.items) };
 
     ghost counter = { λ shelf. shelf.plan };
+
+    ghost sound_disks = { λ shelf. HaveSoundDisks shelf.files.items };
 
     fn open(&mut self, name: &str) -> Result<MemoryDisk, ShelfRefusal> {
         let Some(file) = find_file(&self.files, name) else {
@@ -62,7 +65,8 @@ impl Shelf for MemoryShelf {
 
 /// The first file of that name.
 fn find_file<'a>(files: &'a [MemoryFile], name: &str) -> Option<&'a MemoryFile>
-    ensures { option_map (λ file. file.bytes) (option_copied result) ≡ file_at (entries files.now) name.now }
+    ensures bytes { option_map (λ file. file.bytes) (option_copied result) ≡ file_at (entries files.now) name.now }
+    ensures sound { HaveSoundDisks files.now → IfSome result (λ file. NeverFails file.now) }
 {
     for file in files {
         if file.name.as_str() == name {

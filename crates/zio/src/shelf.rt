@@ -1,6 +1,6 @@
 ghost use Rattle.std.specs.Prelude.{◌≡◌, ◌⊎◌, List, ℕ, None, Some, IfOk, IfSome, IsErrOf, option_map};
 ghost use Rattle.std.specs.declared.option.Option.{Option};
-ghost use Rattle.zbase.specs.Faults.{Counter, Counts};
+ghost use Rattle.zbase.specs.Faults.{Counter, Counts, IsFaultless};
 ghost use Rattle.zdisk.specs.Disk.{synced};
 ghost use Rattle.zio.specs.Shelves.{Entry, file_at};
 
@@ -17,6 +17,9 @@ pub trait Shelf {
     /// How often the shelf has failed.
     ghost counter: { Self → Counter };
 
+    /// No disk over a file of the shelf can fail.
+    ghost sound_disks: { Self → Type 0 };
+
     /// A disk over the file of that name.
     ///
     /// `Missing` comes exactly where the shelf, if it tells, has no such file, want of memory aside.
@@ -25,6 +28,8 @@ pub trait Shelf {
         ensures there { IfOk result (λ disk. IfSome (files self.old) (λ all. file_at all name.now ≡ None → ⊥)) }
         ensures missing { IsErrOf result ShelfRefusal.Missing → IfSome (files self.old) (λ all. file_at all name.now ≡ None) }
         ensures absent { IfSome (files self.old) (λ all. file_at all name.now ≡ None → IsErrOf result ShelfRefusal.Missing ⊎ IsErrOf result ShelfRefusal.Memory) }
+        ensures sound { sound_disks self.old → IfOk result (λ disk. IsFaultless (Self.D.counter disk)) }
+        ensures stays_sound { sound_disks self.old → sound_disks self.new }
         ensures same { files self.new ≡ files self.old }
         ensures counts { Counts (counter self.old) (counter self.new) (IsErrOf result ShelfRefusal.Failed) };
 }

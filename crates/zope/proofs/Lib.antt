@@ -5,6 +5,9 @@ pub mod Alones
 pub mod CalmSteps
 pub mod PrintSteps
 pub mod WholeReport
+pub mod BreakingOff
 pub mod Refusals
 pub mod FactKinds
+pub mod FileCauses
+pub mod LastLines
 pub mod Newest

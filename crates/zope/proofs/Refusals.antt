@@ -1,12 +1,10 @@
--- A fault that is handed on under another name: it is told exactly where it was told below.
-use Rattle.std.proofs.Common.{◌≡◌, Result, Ok, Err, ap}
-use Rattle.std.specs.Prelude.{◌↔◌, IsErrAnd, IsErrOf}
-use Rattle.zbase.specs.Faults.{Counter, Counts, counts_as}
+-- A refusal of the outside names no line.
+use Rattle.std.proofs.Common.{◌≡◌, ℕ, Result, Err}
+use Rattle.std.specs.Prelude.{IsErrOf}
+use Rattle.zio.specs.declared.refusal.OutsideRefusal.{OutsideRefusal}
+use Rattle.zope.specs.declared.refusal.RunRefusal.{RunRefusal}
+use Rattle.zope.specs.Causes.{of_outside}
 
-pub handed_on : {T U A B : Type 0} {old new : Counter} (a fault : A) (r : Result U B) (named : B) (P : B → Type 0)
-    → ((b : B) → P b → (b ≡ named) ↔ (a ≡ fault)) → IsErrAnd r P → Counts old new (IsErrOf {T = T} (Err a) fault) → Counts old new (IsErrOf r named)
-handed_on a fault (Ok x) named P same is counts = absurd is
-handed_on a fault (Err b) named P same is counts =
-    counts_as counts
-    (λ e. let below : a ≡ fault = cc in ap (λ (k : _). Err k) ((same b is).1 below))
-    (λ e. let above : b ≡ named = cc in ap (λ (k : _). Err k) ((same b is).0 above))
+pub no_line : {T : Type 0} (r : Result T RunRefusal) (e : RunRefusal) (o : OutsideRefusal) (n : ℕ) → r ≡ Err e → e ≡ of_outside o → IsErrOf r (RunRefusal.BadLine n) → ⊥
+no_line r e OutsideRefusal.Failed n p q is = cc
+no_line r e OutsideRefusal.Memory n p q is = cc

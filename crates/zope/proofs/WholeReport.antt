@@ -17,7 +17,7 @@ use Rattle.zope.proofs.PrintSteps.{prints_then}
 
 -- what the run law says
 abbrev pub RunLaw : Type 0 → Type 0
-RunLaw R = (terms : Terms R) (h0 : History) (trace : List (Place R)) (end : Moment R) → IsLawful terms.eval → IsHistory h0 → Course terms (start terms h0) trace end → IsArmed trace → Explained terms h0 (items_of trace) (report h0 trace end)
+RunLaw R = (terms : Terms R) (h0 : History) (trace : List (Place R)) (end : Moment R) → IsLawful terms.eval → IsHistory h0 → Course terms (start terms h0) trace end → IsArmed trace → (e : Explained terms h0 (items_of trace) (report h0 trace end)) × (e.trace ≡ trace) × (e.end ≡ end)
 
 pub whole : {R : Type 0} (takes : List ℕ → Option R) (eval : Eval R) (s : Opened) (items : List Item2) (lines : List Line) (d : Doing R) (old mid new : Option (List ℕ))
     → RunLaw R → IsLawful eval → IsHistory s.history → RanCalm (terms_of takes eval s.end) (alone s Free) items lines (alone s d) → Prints old mid (opening s ++ lines) → Prints mid new (closing (alone s d)) → PrintsReport (terms_of takes eval s.end) s.history items old new
@@ -28,7 +28,7 @@ whole {R} takes eval s items lines d old mid new law lawful history ran so_far c
     let behind = history_lines end.standing in
     let course : Course terms (start terms s.history) ran.trace end = subst (λ m. Course terms m ran.trace end) (sym (alone_starts takes eval s)) ran.course in
     let armed : IsArmed ran.trace = subst (λ (k : Option Queue). IsSome k) (sym ran.calm) refl in
-    let explained = law terms s.history ran.trace end lawful history course armed in
+    let explained = (law terms s.history ran.trace end lawful history course armed).0 in
     let grouped : lines ++ (lost ++ behind ++ Line.End ∷ []) ≡ lines ++ lost ++ behind ++ Line.End ∷ [] = sym (append_assoc (lines ++ lost) behind (Line.End ∷ []) ∙ append_assoc lines lost (behind ++ Line.End ∷ []) ∙ ap (λ xs. lines ++ xs) (sym (append_assoc lost behind (Line.End ∷ [])))) in
     let all : (opening s ++ lines) ++ closing end ≡ report s.history ran.trace end =
     ap (λ xs. opening s ++ xs) (grouped ∙ ap (λ xs. xs ++ lost ++ behind ++ Line.End ∷ []) (sym ran.all_lines)) in (

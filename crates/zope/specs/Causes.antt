@@ -1,10 +1,131 @@
--- What a refusal of the program comes from.
-use Rattle.std.specs.Prelude.{◌≡◌, ◌↔◌}
+-- Why a replay did not end well, and what it wrote before its last line.
+--
+-- The order of looking is: the words; the input whole, its size, its grammar; the shelf; the file's size; its
+-- reading; the run.
+use Rattle.std.specs.Prelude.{◌≡◌, ◌⊎◌, ℕ, ◌≤◌, ◌<◌, List, [], ◌∷◌, ◌++◌, length, drop, IfSome, Option, None, Some, codes, decimal}
+use Rattle.std.specs.Io.KnownBytes.{append_known}
+use Rattle.std.specs.Option.{option_map}
+use Rattle.zio.specs.declared.refusal.OutsideRefusal.{OutsideRefusal}
+use Rattle.zio.specs.Shelves.{Entry, file_at}
+use Rattle.fs_record.specs.File.{Front, magic}
+use Rattle.fs_scan.specs.Plain.{IsPlainFile}
+use Rattle.schedule.specs.declared.item.Item2.{Item2}
+use Rattle.schedule.specs.Items.{AreOfFirstWorker, IsSchedule}
+use Rattle.schedule.specs.declared.reader.ScheduleRefusal.{ScheduleRefusal}
+use Rattle.zope.specs.declared.refusal.FileRefusal.{FileRefusal}
+use Rattle.zope.specs.declared.refusal.InputRefusal.{InputRefusal}
 use Rattle.zope.specs.declared.refusal.Refusal.{Refusal}
-use Rattle.zope.specs.declared.refusal.Refusal.TheVariants.{Usage, Input, Output}
+use Rattle.zope.specs.declared.refusal.RunRefusal.{RunRefusal}
+use Rattle.zope.specs.Shelved.{HasFile}
+use Rattle.zope.specs.Words.{IsReplay, IsReplayOf}
 
--- It isn't Usage, and Input and Output come exactly so.
-pub record ComesFrom (e : Refusal) (in_case out_case : Type 0) : Type 0 where
-  pub usage : e ≡ Usage → ⊥
-  pub input : (e ≡ Input) ↔ in_case
-  pub output : (e ≡ Output) ↔ out_case
+-- the most bytes of a schedule, and of a file
+abbrev pub most_input : ℕ
+most_input = 67108864
+
+abbrev pub most_file : ℕ
+most_file = 268435456
+
+-- where the shelf tells, its file of that name has so many bytes
+abbrev pub IsLength : Option (List Entry) → List ℕ → ℕ → Type 0
+IsLength files name n = IfSome files (λ all. option_map length (file_at all name) ≡ Some n)
+
+-- where the source tells, all of the input is a schedule that the first worker can run
+pub record Scheduled (input : Option (List ℕ)) (items : List Item2) : Type 0 where
+  pub within : IfSome input (λ text. length text ≤ most_input)
+  pub spells : IfSome input (λ text. IsSchedule text items)
+  pub first : AreOfFirstWorker items
+
+-- where the shelf tells, its file of that name has these bytes, and not too many
+pub record Stored (files : Option (List Entry)) (name bytes : List ℕ) : Type 0 where
+  pub has : HasFile files name bytes
+  pub within : length bytes ≤ most_file
+
+-- what the input is refused for; a source that failed has its count
+abbrev pub InputCause : Option (List ℕ) → Type 0 → Refusal → Type 0
+InputCause input failed Refusal.Input = failed
+InputCause input failed Refusal.InputTooLarge = IfSome input (λ text. most_input < length text)
+InputCause input failed (Refusal.BadLine n) = Unit {0}
+InputCause input failed Refusal.Memory = Unit {0}
+InputCause input failed _ = ⊥
+
+-- what the file is refused for
+abbrev pub FileCause : Option (List Entry) → List ℕ → Type 0 → Refusal → Type 0
+FileCause files name failed Refusal.Missing = IfSome files (λ all. file_at all name ≡ None)
+FileCause files name failed (Refusal.FileTooLarge n) = (most_file < n) × IsLength files name n
+FileCause files name failed Refusal.Disk = failed
+FileCause files name failed Refusal.Damaged = (bytes : List ℕ) × Stored files name bytes × ((more : List ℕ) → bytes ≡ magic ++ more → ⊥)
+FileCause files name failed Refusal.NotYet = (bytes : List ℕ) × Stored files name bytes × (bytes ≡ magic ++ drop 4 bytes) × ((front : Front) → IsPlainFile bytes front → ⊥)
+FileCause files name failed Refusal.Memory = Unit {0}
+FileCause files name failed _ = ⊥
+
+-- what bytes that were read may be refused for
+abbrev pub IsOfReading : Refusal → Type 0
+IsOfReading Refusal.Damaged = Unit {0}
+IsOfReading Refusal.NotYet = Unit {0}
+IsOfReading Refusal.Memory = Unit {0}
+IsOfReading _ = ⊥
+
+-- what the run is broken off for
+abbrev pub RunCause : Type 0 → Refusal → Type 0
+RunCause failed Refusal.Output = failed
+RunCause failed (Refusal.BadLine n) = Unit {0}
+RunCause failed Refusal.Memory = Unit {0}
+RunCause failed _ = ⊥
+
+-- The cause of a refusal: of the words, of the input, of the file, or of the run. Until the run nothing is
+-- written.
+abbrev pub Cause : (words : List (List ℕ)) (files : Option (List Entry)) (input : Option (List ℕ)) (source sink disk : Type 0) (old new : Option (List ℕ)) → Refusal → Type 0
+Cause words files input source sink disk old new e =
+    ((e ≡ Refusal.Usage) × (IsReplay words → ⊥) × (new ≡ old))
+    ⊎ ((IsReplay words × InputCause input source e × (new ≡ old))
+    ⊎ (((name : List ℕ) × (items : List Item2) × IsReplayOf words name × Scheduled input items × FileCause files name disk e × (new ≡ old))
+    ⊎ ((name : List ℕ) × (items : List Item2) × IsReplayOf words name × Scheduled input items × RunCause sink e)))
+
+-- the last line, which names the cause
+abbrev pub last_line : List ℕ → Refusal → List ℕ
+last_line name Refusal.NotYet = codes "not yet" ++ 10 ∷ []
+last_line name Refusal.Usage = codes "usage" ++ 10 ∷ []
+last_line name Refusal.Damaged = codes "damaged 9 at 0" ++ 10 ∷ []
+last_line name (Refusal.BadLine n) = codes "bad line " ++ decimal n ++ 10 ∷ []
+last_line name Refusal.Disk = codes "disk fault" ++ 10 ∷ []
+last_line name Refusal.Input = codes "input fault" ++ 10 ∷ []
+last_line name Refusal.Output = []
+last_line name Refusal.Memory = codes "out of memory" ++ 10 ∷ []
+last_line name Refusal.Missing = codes "missing " ++ name ++ 10 ∷ []
+last_line name Refusal.InputTooLarge = codes "too large 67108864" ++ 10 ∷ []
+last_line name (Refusal.FileTooLarge n) = codes "too large " ++ decimal n ++ 10 ∷ []
+
+-- the last line was written; only `missing` names the file
+abbrev pub Names : List (List ℕ) → Refusal → Option (List ℕ) → Option (List ℕ) → Type 0
+Names words e mid new = (name : List ℕ) × (IsReplayOf words name ⊎ (IsReplay words → ⊥)) × (new ≡ append_known mid (last_line name e))
+
+-- the refusal has its cause, and was named in the last line
+abbrev pub Comes : (words : List (List ℕ)) (files : Option (List Entry)) (input : Option (List ℕ)) (source sink disk : Type 0) (old new : Option (List ℕ)) → Refusal → Type 0
+Comes words files input source sink disk old new e = (mid : Option (List ℕ)) × Cause words files input source sink disk old mid e × Names words e mid new
+
+-- a refusal of a part, as one of the command
+
+abbrev pub of_input : InputRefusal → Refusal
+of_input InputRefusal.TooLarge = Refusal.InputTooLarge
+of_input InputRefusal.Failed = Refusal.Input
+of_input InputRefusal.Memory = Refusal.Memory
+
+abbrev pub of_schedule : ScheduleRefusal → Refusal
+of_schedule (ScheduleRefusal.BadLine n) = Refusal.BadLine n
+of_schedule ScheduleRefusal.Memory = Refusal.Memory
+
+abbrev pub of_file : FileRefusal → Refusal
+of_file FileRefusal.Missing = Refusal.Missing
+of_file (FileRefusal.TooLarge n) = Refusal.FileTooLarge n
+of_file FileRefusal.Disk = Refusal.Disk
+of_file FileRefusal.Memory = Refusal.Memory
+
+abbrev pub of_run : RunRefusal → Refusal
+of_run (RunRefusal.BadLine n) = Refusal.BadLine n
+of_run RunRefusal.Output = Refusal.Output
+of_run RunRefusal.Memory = Refusal.Memory
+
+abbrev pub of_outside : OutsideRefusal → RunRefusal
+of_outside OutsideRefusal.Failed = RunRefusal.Output
+of_outside OutsideRefusal.Memory = RunRefusal.Memory

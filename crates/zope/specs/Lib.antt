@@ -9,4 +9,5 @@ pub mod Stores
 pub mod Tasks
 pub mod Printed
 pub mod Replayed
+pub mod BrokenOff
 pub mod Causes

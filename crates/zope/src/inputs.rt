@@ -1,6 +1,8 @@
-ghost use Rattle.std.specs.Prelude.{◌≡◌, ◌≤◌, ◌<◌, List, ℕ, map, IfOk, IfSome, IsErr, IsErrOf, MatchOption, string_bytes};
-ghost use Rattle.zbase.specs.Faults.{Counts};
+ghost use Rattle.std.specs.Prelude.{◌≡◌, ◌⊎◌, ◌≤◌, ◌<◌, ℕ, length, map, IfOk, IfSome, IsErrOf, MatchOption, None, string_bytes};
+ghost use Rattle.zbase.specs.Faults.{Counts, Rose};
 ghost use Rattle.zdisk.specs.Disk.{content};
+ghost use Rattle.zio.specs.Shelves.{file_at};
+ghost use Rattle.zope.specs.Causes.{IsLength, most_file, most_input};
 ghost use Rattle.zope.specs.Shelved.{HasFile};
 ghost use Rattle.zope.specs.Words.{IsReplay, IsReplayOf};
 
@@ -28,6 +30,8 @@ pub fn file_name(words: &[String]) -> Option<&str>
 /// All of the input.
 pub fn read_input<S: Source>(alloc: Global, input: &mut S) -> Result<Vec<u8>, InputRefusal>
     ensures all { IfOk result (λ text. IfSome (S.left input.old) (λ bytes. text.items ≡ bytes)) }
+    ensures within { IfOk result (λ text. length text.items ≤ most_input) }
+    ensures too_large { IsErrOf result InputRefusal.TooLarge → IfSome (S.left input.old) (λ bytes. most_input < length bytes) }
     ensures counts { Counts (S.counter input.old) (S.counter input.new) (IsErrOf result InputRefusal.Failed) }
 {
     let mut text = Vec::new(alloc);
@@ -44,7 +48,11 @@ pub fn read_input<S: Source>(alloc: Global, input: &mut S) -> Result<Vec<u8>, In
 
 // All bytes of a disk.
 fn read_disk<D: Disk>(alloc: Global, disk: &mut D) -> Result<Vec<u8>, FileRefusal>
-    ensures { IfOk result (λ bytes. IfSome (D.told disk.old) (λ told. content told ≡ bytes.items)) }
+    ensures all { IfOk result (λ bytes. IfSome (D.told disk.old) (λ told. content told ≡ bytes.items)) }
+    ensures within { IfOk result (λ bytes. length bytes.items ≤ most_file) }
+    ensures too_large { (n : ℕ) → IsErrOf result (FileRefusal.TooLarge n) → (most_file < n) × IfSome (D.told disk.old) (λ told. n ≡ length (content told)) }
+    ensures present { IsErrOf result FileRefusal.Missing → ⊥ }
+    ensures counts { Counts (D.counter disk.old) (D.counter disk.new) (IsErrOf result FileRefusal.Disk) }
 {
     let len = disk.len().map_err(|_| FileRefusal::Disk)?;
     if len > MAX_FILE {
@@ -58,6 +66,11 @@ fn read_disk<D: Disk>(alloc: Global, disk: &mut D) -> Result<Vec<u8>, FileRefusa
 /// All bytes of the file of that name.
 pub fn read_file<F: Shelf>(alloc: Global, files: &mut F, name: &str) -> Result<Vec<u8>, FileRefusal>
     ensures found { IfOk result (λ bytes. HasFile (F.files files.old) name.now bytes.items) }
+    ensures within { IfOk result (λ bytes. length bytes.items ≤ most_file) }
+    ensures missing { IsErrOf result FileRefusal.Missing → IfSome (F.files files.old) (λ all. file_at all name.now ≡ None) }
+    ensures too_large { (n : ℕ) → IsErrOf result (FileRefusal.TooLarge n) → (most_file < n) × IsLength (F.files files.old) name.now n }
+    ensures disk { IsErrOf result FileRefusal.Disk → Rose (F.counter files.old) (F.counter files.new) ⊎ (F.sound_disks files.old → ⊥) }
+    ensures count { (F.counter files.old).count ≤ (F.counter files.new).count }
 {
     match files.open(name) {
         Ok(mut disk) => read_disk(alloc, &mut disk),

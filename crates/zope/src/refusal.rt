@@ -1,9 +1,7 @@
-ghost use Rattle.std.specs.Prelude.{◌≡◌, ◌↔◌};
-ghost use Rattle.zio.specs.declared.refusal.OutsideRefusal.TheVariants.{Failed as OutsideFailed};
-ghost use Rattle.zope.specs.Causes.{ComesFrom};
+ghost use Rattle.std.specs.Prelude.{◌≡◌};
+ghost use Rattle.zope.specs.Causes.{of_file, of_input, of_outside, of_run, of_schedule};
 ghost use Rattle.zope.specs.declared.refusal.FileRefusal.TheVariants.{Memory as FileMemory};
-ghost use Rattle.zope.specs.declared.refusal.InputRefusal.TheVariants.{Failed, Memory as InputMemory};
-ghost use Rattle.zope.specs.declared.refusal.RunRefusal.TheVariants.{Output as RunOutput};
+ghost use Rattle.zope.specs.declared.refusal.InputRefusal.TheVariants.{Memory as InputMemory};
 
 use schedule::ScheduleRefusal;
 use std::alloc::{AllocError, AllocFailed};
@@ -30,8 +28,10 @@ pub enum Refusal {
     Memory,
     /// The shelf has no such file.
     Missing,
-    /// The file of this size, or the schedule beyond this limit, is too large; in bytes.
-    TooLarge(u64),
+    /// The schedule has more than 67,108,864 bytes.
+    InputTooLarge,
+    /// The file has so many bytes, which are too many.
+    FileTooLarge(u64),
 }
 
 /// Why the input was not read.
@@ -94,7 +94,7 @@ impl<T: Drop> From<AllocFailed<T>> for FileRefusal {
 }
 
 impl From<OutsideRefusal> for RunRefusal {
-    ghost from_gives = { λ refusal e. (e ≡ RunOutput) ↔ (refusal ≡ OutsideFailed) };
+    ghost from_gives = { λ refusal e. e ≡ of_outside refusal };
 
     fn from(refusal: OutsideRefusal) -> RunRefusal {
         match refusal {
@@ -105,11 +105,11 @@ impl From<OutsideRefusal> for RunRefusal {
 }
 
 impl From<InputRefusal> for Refusal {
-    ghost from_gives = { λ refusal e. ComesFrom e (refusal ≡ Failed) ⊥ };
+    ghost from_gives = { λ refusal e. e ≡ of_input refusal };
 
     fn from(refusal: InputRefusal) -> Refusal {
         match refusal {
-            InputRefusal::TooLarge => Refusal::TooLarge(67_108_864),
+            InputRefusal::TooLarge => Refusal::InputTooLarge,
             InputRefusal::Failed => Refusal::Input,
             InputRefusal::Memory => Refusal::Memory,
         }
@@ -117,7 +117,7 @@ impl From<InputRefusal> for Refusal {
 }
 
 impl From<ScheduleRefusal> for Refusal {
-    ghost from_gives = { λ _ e. ComesFrom e ⊥ ⊥ };
+    ghost from_gives = { λ refusal e. e ≡ of_schedule refusal };
 
     fn from(refusal: ScheduleRefusal) -> Refusal {
         match refusal {
@@ -128,12 +128,12 @@ impl From<ScheduleRefusal> for Refusal {
 }
 
 impl From<FileRefusal> for Refusal {
-    ghost from_gives = { λ _ e. ComesFrom e ⊥ ⊥ };
+    ghost from_gives = { λ refusal e. e ≡ of_file refusal };
 
     fn from(refusal: FileRefusal) -> Refusal {
         match refusal {
             FileRefusal::Missing => Refusal::Missing,
-            FileRefusal::TooLarge(size) => Refusal::TooLarge(size),
+            FileRefusal::TooLarge(size) => Refusal::FileTooLarge(size),
             FileRefusal::Disk => Refusal::Disk,
             FileRefusal::Memory => Refusal::Memory,
         }
@@ -141,7 +141,7 @@ impl From<FileRefusal> for Refusal {
 }
 
 impl From<RunRefusal> for Refusal {
-    ghost from_gives = { λ refusal e. ComesFrom e ⊥ (refusal ≡ RunOutput) };
+    ghost from_gives = { λ refusal e. e ≡ of_run refusal };
 
     fn from(refusal: RunRefusal) -> Refusal {
         match refusal {

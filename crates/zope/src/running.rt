@@ -1,10 +1,11 @@
-ghost use Rattle.std.specs.Prelude.{◌≡◌, ◌++◌, ◌∷◌, ℕ, [], true, IfOk, OnOk, IsErrOf};
+ghost use Rattle.std.specs.Prelude.{◌≡◌, ◌⊎◌, ◌++◌, ◌∷◌, ℕ, [], None, false, true, IfOk, OnOk, IsErrOf};
 ghost use Rattle.zbase.specs.Faults.{Counts};
 ghost use Rattle.zbase.specs.Values.{last};
 ghost use Rattle.schedule.specs.Courses.{Happens};
-ghost use Rattle.schedule.specs.Moments.{Terms, lost_lines};
+ghost use Rattle.schedule.specs.Moments.{Free, Terms, lost_lines};
 ghost use Rattle.schedule.specs.declared.item.Item2.{Item2};
 ghost use Rattle.zope.specs.Alone.{IsAt, OnlyAnswers};
+ghost use Rattle.zope.specs.BrokenOff.{BrokenOff, CannotRun};
 ghost use Rattle.zope.specs.Printed.{HappensPrinted, Prints, PrintsReport, closing, terms_of};
 ghost use Rattle.zope.specs.Stores.{Opened};
 ghost use Rattle.zope.specs.Tasks.{doing_of, moment_of};
@@ -27,6 +28,7 @@ const FIRST_WORKER: u32 = 0;
 // Gives the first worker a request; false where it has one, or the bytes aren't one message.
 fn give<E: Evaluator>(task: &mut Task<E>, evaluator: &E, bytes: &Bytes) -> Result<bool, Memory>
     ensures snapshot { (t : ℕ) → IsAt t (doing_of task.old) → IsAt t (doing_of task.new) }
+    ensures refused { IfOk result (λ given. given ≡ false → (E.takes bytes.now ≡ None) ⊎ (doing_of task.old ≡ Free → ⊥)) }
     ensures given { IfOk result (λ given. given ≡ true → (s : Opened) (terms : Terms E.Request) → terms.takes ≡ E.takes →
         Happens terms (moment_of s task.old) (Item2.Request 0 bytes.now) [] (moment_of s task.new)) }
 {
@@ -54,6 +56,7 @@ fn run_item<E: Evaluator, K: Sink>(
     requires snapshot { IsAt (last store.now.history) (doing_of task.old) }
     ensures snapshot { IsAt (last store.now.history) (doing_of task.new) }
     ensures ok { OnOk result (HappensPrinted (terms_of E.takes E.meaning store.now.end) (moment_of store.now task.old) item.now (moment_of store.now task.new) (K.written out.old) (K.written out.new)) }
+    ensures bad_line { (n : ℕ) → IsErrOf result (RunRefusal.BadLine n) → (n ≡ number) × CannotRun (terms_of E.takes E.meaning store.now.end) (moment_of store.now task.old) item.now × (K.written out.new ≡ K.written out.old) }
     ensures counts { Counts (K.counter out.old) (K.counter out.new) (IsErrOf result RunRefusal.Output) }
 {
     match item {
@@ -120,8 +123,10 @@ pub fn replay<E: Evaluator, K: Sink>(
 ) -> Result<(), RunRefusal>
     requires { OnlyAnswers E.meaning }
     ensures explained { OnOk result (PrintsReport (terms_of E.takes E.meaning store.now.end) store.now.history items.now (K.written out.old) (K.written out.new)) }
+    ensures bad_line { (n : ℕ) → IsErrOf result (RunRefusal.BadLine n) → BrokenOff (terms_of E.takes E.meaning store.now.end) store.now.history items.now n (K.written out.old) (K.written out.new) }
     ensures counts { Counts (K.counter out.old) (K.counter out.new) (IsErrOf result RunRefusal.Output) }
 {
+    runs_are_serial::<E>();
     put_line(alloc, &Line::Head, out)?;
     put_line(alloc, &Line::Opened(store.last(), store.len() as u64), out)?;
     let mut task = Task::Free;
@@ -131,6 +136,5 @@ pub fn replay<E: Evaluator, K: Sink>(
         number = number.saturating_add(1);
     }
     close(alloc, store, &task, out)?;
-    runs_are_serial::<E>();
     Ok(())
 }

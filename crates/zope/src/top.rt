@@ -1,5 +1,7 @@
-ghost use Rattle.std.specs.Prelude.{◌≡◌, ◌≤◌, ◌⊎◌, IsErrOf, map, string_bytes};
+ghost use Rattle.std.specs.Prelude.{◌≡◌, ◌≤◌, ◌⊎◌, ℕ, IsErrOf, MatchResult, OnOk, map, string_bytes};
+ghost use Rattle.std.specs.Io.KnownBytes.{append_known};
 ghost use Rattle.zbase.specs.Faults.{Counts, Rose};
+ghost use Rattle.zope.specs.Causes.{Comes, Names, last_line};
 ghost use Rattle.zope.specs.Replayed.{Replayed};
 ghost use Rattle.zope.specs.Words.{IsReplay};
 
@@ -16,9 +18,16 @@ pub struct Status(pub u8);
 // The status of a refusal.
 fn status_of(refusal: Refusal) -> Status
     ensures ended { result.0 ≡ 0 → ⊥ }
+    ensures not_yet { result.0 ≡ 1 → refusal ≡ Refusal.NotYet }
     ensures usage { result.0 ≡ 2 → refusal ≡ Refusal.Usage }
     ensures used { refusal ≡ Refusal.Usage → result.0 ≡ 2 }
+    ensures damaged { result.0 ≡ 3 → refusal ≡ Refusal.Damaged }
+    ensures bad_line { result.0 ≡ 4 → (n : ℕ) × (refusal ≡ Refusal.BadLine n) }
+    ensures disk { result.0 ≡ 5 → refusal ≡ Refusal.Disk }
     ensures input_output { result.0 ≡ 6 → (refusal ≡ Refusal.Input) ⊎ (refusal ≡ Refusal.Output) }
+    ensures missing { result.0 ≡ 8 → refusal ≡ Refusal.Missing }
+    ensures too_large { result.0 ≡ 9 → (refusal ≡ Refusal.InputTooLarge) ⊎ ((n : ℕ) × (refusal ≡ Refusal.FileTooLarge n)) }
+    ensures known { result.0 ≤ 9 }
 {
     match refusal {
         Refusal::NotYet => Status(1),
@@ -30,7 +39,8 @@ fn status_of(refusal: Refusal) -> Status
         Refusal::Output => Status(6),
         Refusal::Memory => Status(7),
         Refusal::Missing => Status(8),
-        Refusal::TooLarge(_) => Status(9),
+        Refusal::InputTooLarge => Status(9),
+        Refusal::FileTooLarge(_) => Status(9),
     }
 }
 
@@ -38,10 +48,11 @@ fn status_of(refusal: Refusal) -> Status
 fn put_last_line<K: Sink>(
     alloc: Global,
     refusal: Refusal,
-    words: &[String],
+    name: &str,
     out: &mut K,
 ) -> Result<(), OutsideRefusal>
-    ensures { Counts (K.counter out.old) (K.counter out.new) (IsErrOf result OutsideRefusal.Failed) }
+    ensures ok { OnOk result (K.written out.new ≡ append_known (K.written out.old) (last_line name.now refusal)) }
+    ensures counts { Counts (K.counter out.old) (K.counter out.new) (IsErrOf result OutsideRefusal.Failed) }
 {
     match refusal {
         Refusal::NotYet => out.write_all(b"not yet\n"),
@@ -52,16 +63,15 @@ fn put_last_line<K: Sink>(
         Refusal::Input => out.write_all(b"input fault\n"),
         Refusal::Output => Ok(()),
         Refusal::Memory => out.write_all(b"out of memory\n"),
-        Refusal::Missing => {
-            let name = file_name(words).unwrap_or("");
-            put_text(format!(in alloc; "missing {name}\n"), out)
-        }
-        Refusal::TooLarge(size) => put_text(format!(in alloc; "too large {size}\n"), out),
+        Refusal::Missing => put_text(format!(in alloc; "missing {name}\n"), out),
+        Refusal::InputTooLarge => out.write_all(b"too large 67108864\n"),
+        Refusal::FileTooLarge(size) => put_text(format!(in alloc; "too large {size}\n"), out),
     }
 }
 
 fn put_text<K: Sink>(text: Result<String, AllocError>, out: &mut K) -> Result<(), OutsideRefusal>
-    ensures { Counts (K.counter out.old) (K.counter out.new) (IsErrOf result OutsideRefusal.Failed) }
+    ensures ok { OnOk result (MatchResult text (λ line. K.written out.new ≡ append_known (K.written out.old) (string_bytes line)) (λ _. ⊥)) }
+    ensures counts { Counts (K.counter out.old) (K.counter out.new) (IsErrOf result OutsideRefusal.Failed) }
 {
     match text {
         Ok(text) => out.write_all(text.as_bytes()),
@@ -69,15 +79,38 @@ fn put_text<K: Sink>(text: Result<String, AllocError>, out: &mut K) -> Result<()
     }
 }
 
-// Says why a command did not end well. Where the sink fails in this, that is the status.
+// Says why a command did not end well, in the words that were given.
+fn put_cause<K: Sink>(
+    alloc: Global,
+    refusal: Refusal,
+    words: &[String],
+    out: &mut K,
+) -> Result<(), OutsideRefusal>
+    ensures ok { OnOk result (Names (map string_bytes words.now) refusal (K.written out.old) (K.written out.new)) }
+    ensures counts { Counts (K.counter out.old) (K.counter out.new) (IsErrOf result OutsideRefusal.Failed) }
+{
+    match file_name(words) {
+        Some(name) => put_last_line(alloc, refusal, name, out),
+        None => put_last_line(alloc, refusal, "", out),
+    }
+}
+
+// The status of a refusal that was named: where the sink fails in this, that is the status.
 fn refuse<K: Sink>(alloc: Global, refusal: Refusal, words: &[String], out: &mut K) -> Status
     ensures ended { result.0 ≡ 0 → ⊥ }
-    ensures usage { result.0 ≡ 2 → refusal ≡ Refusal.Usage }
+    ensures not_yet { result.0 ≡ 1 → (refusal ≡ Refusal.NotYet) × Names (map string_bytes words.now) refusal (K.written out.old) (K.written out.new) }
+    ensures usage { result.0 ≡ 2 → (refusal ≡ Refusal.Usage) × Names (map string_bytes words.now) refusal (K.written out.old) (K.written out.new) }
     ensures used { refusal ≡ Refusal.Usage → (result.0 ≡ 2) ⊎ (result.0 ≡ 6) ⊎ (result.0 ≡ 7) }
-    ensures input_output { result.0 ≡ 6 → (refusal ≡ Refusal.Input) ⊎ (refusal ≡ Refusal.Output) ⊎ Rose (K.counter out.old) (K.counter out.new) }
+    ensures damaged { result.0 ≡ 3 → (refusal ≡ Refusal.Damaged) × Names (map string_bytes words.now) refusal (K.written out.old) (K.written out.new) }
+    ensures bad_line { result.0 ≡ 4 → ((n : ℕ) × (refusal ≡ Refusal.BadLine n)) × Names (map string_bytes words.now) refusal (K.written out.old) (K.written out.new) }
+    ensures disk { result.0 ≡ 5 → (refusal ≡ Refusal.Disk) × Names (map string_bytes words.now) refusal (K.written out.old) (K.written out.new) }
+    ensures input_output { result.0 ≡ 6 → ((refusal ≡ Refusal.Input) × Names (map string_bytes words.now) refusal (K.written out.old) (K.written out.new)) ⊎ (refusal ≡ Refusal.Output) ⊎ Rose (K.counter out.old) (K.counter out.new) }
+    ensures missing { result.0 ≡ 8 → (refusal ≡ Refusal.Missing) × Names (map string_bytes words.now) refusal (K.written out.old) (K.written out.new) }
+    ensures too_large { result.0 ≡ 9 → ((refusal ≡ Refusal.InputTooLarge) ⊎ ((n : ℕ) × (refusal ≡ Refusal.FileTooLarge n))) × Names (map string_bytes words.now) refusal (K.written out.old) (K.written out.new) }
+    ensures known { result.0 ≤ 9 }
     ensures count { (K.counter out.old).count ≤ (K.counter out.new).count }
 {
-    match put_last_line(alloc, refusal, words, out) {
+    match put_cause(alloc, refusal, words, out) {
         Ok(()) => status_of(refusal),
         Err(OutsideRefusal::Failed) => Status(6),
         Err(OutsideRefusal::Memory) => Status(7),
@@ -100,12 +133,23 @@ pub fn run<F: Shelf, S: Source, K: Sink, H: Hub, C: Clock>(
 ) -> Status
     // The words are `replay FILE`, and the report that was written explains the schedule.
     ensures replayed { result.0 ≡ 0 → Replayed (map string_bytes words.now) (F.files files.old) (S.left input.old) (K.written out.old) (K.written out.new) }
-    // Only where the words are none of the program's; and there always, but for a fault of the sink and want of
-    // memory.
-    ensures usage { result.0 ≡ 2 → IsReplay (map string_bytes words.now) → ⊥ }
+    // The file begins as one, and isn't of whole committed transactions that hold their data.
+    ensures not_yet { result.0 ≡ 1 → Comes (map string_bytes words.now) (F.files files.old) (S.left input.old) (Rose (S.counter input.old) (S.counter input.new)) (Rose (K.counter out.old) (K.counter out.new)) (Rose (F.counter files.old) (F.counter files.new) ⊎ (F.sound_disks files.old → ⊥)) (K.written out.old) (K.written out.new) Refusal.NotYet }
+    // The words are none of the program's; and there always, but for a fault of the sink and want of memory.
+    ensures usage { result.0 ≡ 2 → Comes (map string_bytes words.now) (F.files files.old) (S.left input.old) (Rose (S.counter input.old) (S.counter input.new)) (Rose (K.counter out.old) (K.counter out.new)) (Rose (F.counter files.old) (F.counter files.new) ⊎ (F.sound_disks files.old → ⊥)) (K.written out.old) (K.written out.new) Refusal.Usage }
     ensures used { (IsReplay (map string_bytes words.now) → ⊥) → (result.0 ≡ 2) ⊎ (result.0 ≡ 6) ⊎ (result.0 ≡ 7) }
-    // Only where the source or the sink failed.
-    ensures input_output { result.0 ≡ 6 → Rose (S.counter input.old) (S.counter input.new) ⊎ Rose (K.counter out.old) (K.counter out.new) }
+    // The file doesn't begin with the magic.
+    ensures damaged { result.0 ≡ 3 → Comes (map string_bytes words.now) (F.files files.old) (S.left input.old) (Rose (S.counter input.old) (S.counter input.new)) (Rose (K.counter out.old) (K.counter out.new)) (Rose (F.counter files.old) (F.counter files.new) ⊎ (F.sound_disks files.old → ⊥)) (K.written out.old) (K.written out.new) Refusal.Damaged }
+    ensures bad_line { result.0 ≡ 4 → (n : ℕ) × Comes (map string_bytes words.now) (F.files files.old) (S.left input.old) (Rose (S.counter input.old) (S.counter input.new)) (Rose (K.counter out.old) (K.counter out.new)) (Rose (F.counter files.old) (F.counter files.new) ⊎ (F.sound_disks files.old → ⊥)) (K.written out.old) (K.written out.new) (Refusal.BadLine n) }
+    // The shelf's count rose, or that of the disk which it handed out.
+    ensures disk { result.0 ≡ 5 → Comes (map string_bytes words.now) (F.files files.old) (S.left input.old) (Rose (S.counter input.old) (S.counter input.new)) (Rose (K.counter out.old) (K.counter out.new)) (Rose (F.counter files.old) (F.counter files.new) ⊎ (F.sound_disks files.old → ⊥)) (K.written out.old) (K.written out.new) Refusal.Disk }
+    // The source failed, or the sink did, also in a last line.
+    ensures input_output { result.0 ≡ 6 → Comes (map string_bytes words.now) (F.files files.old) (S.left input.old) (Rose (S.counter input.old) (S.counter input.new)) (Rose (K.counter out.old) (K.counter out.new)) (Rose (F.counter files.old) (F.counter files.new) ⊎ (F.sound_disks files.old → ⊥)) (K.written out.old) (K.written out.new) Refusal.Input ⊎ Rose (K.counter out.old) (K.counter out.new) }
+    // The shelf has no such file.
+    ensures missing { result.0 ≡ 8 → Comes (map string_bytes words.now) (F.files files.old) (S.left input.old) (Rose (S.counter input.old) (S.counter input.new)) (Rose (K.counter out.old) (K.counter out.new)) (Rose (F.counter files.old) (F.counter files.new) ⊎ (F.sound_disks files.old → ⊥)) (K.written out.old) (K.written out.new) Refusal.Missing }
+    // The schedule is longer than its limit, or the file than its own.
+    ensures too_large { result.0 ≡ 9 → Comes (map string_bytes words.now) (F.files files.old) (S.left input.old) (Rose (S.counter input.old) (S.counter input.new)) (Rose (K.counter out.old) (K.counter out.new)) (Rose (F.counter files.old) (F.counter files.new) ⊎ (F.sound_disks files.old → ⊥)) (K.written out.old) (K.written out.new) Refusal.InputTooLarge ⊎ ((n : ℕ) × Comes (map string_bytes words.now) (F.files files.old) (S.left input.old) (Rose (S.counter input.old) (S.counter input.new)) (Rose (K.counter out.old) (K.counter out.new)) (Rose (F.counter files.old) (F.counter files.new) ⊎ (F.sound_disks files.old → ⊥)) (K.written out.old) (K.written out.new) (Refusal.FileTooLarge n)) }
+    ensures known { result.0 ≤ 9 }
 {
     match replay_command(alloc, words, files, input, out) {
         Ok(()) => Status(0),

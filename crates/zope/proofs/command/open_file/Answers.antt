@@ -1,4 +1,4 @@
-use Rattle.std.proofs.Common.{◌∙◌, sym, subst}
+use Rattle.std.proofs.Common.{◌∙◌, Err, ap, sym, subst}
 use Rattle.zbase.specs.History.{IsHistory}
 use Rattle.fs_record.specs.FileLaws.{file_history, file_place}
 use Rattle.zope.proofs.command.open_file.Goals as goal
@@ -17,3 +17,8 @@ returns-in-Ok-clause-opens c =
       history = c.new.ensures.history ∙ sym says.history;
       end = c.new.ensures.end ∙ sym (file_place c.args.bytes.now says.front says.plain.file);
     }
+
+pub returns-in-Err-NotPlain-clause-not_yet : goal.returns-in-Err-NotPlain-clause-not_yet
+returns-in-Err-NotPlain-clause-not_yet c is =
+    let refused = ap (λ (k : _). Err k) c.in-Err-NotPlain.field-0-is in
+    (c.in-Err-NotPlain.ensures.has_magic refused, c.in-Err-NotPlain.ensures.not_plain refused)

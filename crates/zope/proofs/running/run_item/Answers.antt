@@ -8,6 +8,8 @@ use Rattle.zope.specs.Alone.{step_lines}
 use Rattle.zope.specs.Replies.{answer}
 use Rattle.zope.proofs.CalmSteps.{step_is_calm}
 use Rattle.zope.proofs.PrintSteps.{prints_none}
+use Rattle.std.proofs.lemmas.Result.{err_from_is_err_and}
+use Rattle.zope.proofs.Refusals.{no_line}
 use Rattle.zope.proofs.running.run_item.Goals as goal
 
 pub returns-in-Ok-true-clause-ok : goal.returns-in-Ok-true-clause-ok
@@ -39,3 +41,8 @@ returns-in_ok-put_step-in-Step-clause-ok g c =
       subst (λ i. IsCalm i lines) (sym item) (step_is_calm answer c.step-line.result),
       c.in_ok-put_step-in-Step.ensures.ok,
     )
+
+pub returns-in_err-put_step-in-Step-clause-bad_line : goal.returns-in_err-put_step-in-Step-clause-bad_line
+returns-in_err-put_step-in-Step-clause-bad_line g c n is =
+    let p = err_from_is_err_and c.from_residual.result c.from_residual.ensures.1 in
+    absurd (no_line c.from_residual.result _ c.in_err-put_step-in-Step.field-0.0 n p.1 p.2 is)

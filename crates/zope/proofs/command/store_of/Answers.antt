@@ -1,0 +1,15 @@
+use Rattle.std.proofs.Common.{◌≡◌, sym, subst}
+use Rattle.std.proofs.lemmas.Result.{err_from_is_err_and}
+use Rattle.zope.proofs.FileCauses.{unopened, unread}
+use Rattle.zope.proofs.command.store_of.Goals as goal
+
+pub returns-in_err-bytes-clause-cause : goal.returns-in_err-bytes-clause-cause
+returns-in_err-bytes-clause-cause g c =
+    let p = err_from_is_err_and c.from_residual.result c.from_residual.ensures.1 in
+    rw (p.1, p.2) (unread (g.F.Shelf.files c.args.files.now) c.args.name.now _ c.in_err-bytes.field-0.0 c.in_err-bytes.ensures.missing c.in_err-bytes.ensures.too_large c.in_err-bytes.ensures.disk)
+
+pub returns-clause-cause : goal.returns-clause-cause
+returns-clause-cause g c =
+    unopened (g.F.Shelf.files c.args.files.now) c.args.name.now c.as_slice.result.now _ c.open_file.result
+    (rw c.as_slice.ensures.value (record { has = c.in_ok-bytes.ensures.found; within = c.in_ok-bytes.ensures.within }))
+    c.open_file.ensures.damaged c.open_file.ensures.not_yet c.open_file.ensures.others

@@ -1,0 +1,19 @@
+use Rattle.std.proofs.Common.{◌≡◌, rules}
+use Rattle.std.specs.Prelude.{string_bytes}
+use Rattle.zope.proofs.LastLines.{put_is}
+use Rattle.zope.proofs.top.put_last_line.Goals as goal
+
+pub returns-in-BadLine-clause-ok : goal.returns-in-BadLine-clause-ok
+returns-in-BadLine-clause-ok g c = rw c.in-BadLine.is (put_is c.put_text.result c.format.result string_bytes _ _ _ c.put_text.ensures.ok c.format.ensures.ok)
+
+pub returns-in-Memory-clause-ok : goal.returns-in-Memory-clause-ok
+returns-in-Memory-clause-ok g c = rw c.in-Memory.is c.write_all-in-Memory.ensures.ok
+
+pub returns-in-Missing-clause-ok : goal.returns-in-Missing-clause-ok
+returns-in-Missing-clause-ok g c = rw c.in-Missing.is (put_is c.put_text-in-Missing.result c.format-in-Missing.result string_bytes _ _ _ c.put_text-in-Missing.ensures.ok c.format-in-Missing.ensures.ok)
+
+pub returns-in-InputTooLarge-clause-ok : goal.returns-in-InputTooLarge-clause-ok
+returns-in-InputTooLarge-clause-ok g c = rw c.in-InputTooLarge.is c.write_all-in-InputTooLarge.ensures.ok
+
+pub returns-in-FileTooLarge-clause-ok : goal.returns-in-FileTooLarge-clause-ok
+returns-in-FileTooLarge-clause-ok g c = rw c.in-FileTooLarge.is (put_is c.put_text-in-FileTooLarge.result c.format-in-FileTooLarge.result string_bytes _ _ _ c.put_text-in-FileTooLarge.ensures.ok c.format-in-FileTooLarge.ensures.ok)
