@@ -9,3 +9,6 @@ pub mod Plain
 pub mod WorkedReports
 pub mod WrongReports
 pub mod OneSchedule
+pub mod Fronts
+pub mod BadItems
+pub mod BadLineLaws

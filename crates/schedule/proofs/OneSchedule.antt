@@ -26,7 +26,7 @@ digits_end (x ∷ xs) (y ∷ ys) c d r s p q f g e =
     (cc, rest.1)
 
 -- a number ends at a space or LF
-number_ends : (m n c : ℕ) (r s : List ℕ) → m < 2 ^ 64 → n < 2 ^ 64 → 10 ≤ digit_value c → decimal m ++ c ∷ r ≡ decimal n ++ c ∷ s → (m ≡ n) × (r ≡ s)
+pub number_ends : (m n c : ℕ) (r s : List ℕ) → m < 2 ^ 64 → n < 2 ^ 64 → 10 ≤ digit_value c → decimal m ++ c ∷ r ≡ decimal n ++ c ∷ s → (m ≡ n) × (r ≡ s)
 number_ends m n c r s fm fn f e =
     let both = digits_end (decimal m) (decimal n) c c r s (decimal_is_IsNumeral m fm).0.1 (decimal_is_IsNumeral n fn).0.1 f f e in
     let rest : c ∷ r ≡ c ∷ s = both.1 in
@@ -51,7 +51,7 @@ one_clock t u r s ft fu e =
     let rest : 10 ∷ r ≡ 10 ∷ s = parts.1 in
     (hex16_text_injective t u ft fu parts.0, cc)
 
-regroup_request : (w : ℕ) (bytes r : List ℕ) → item_text (Item2.Request w bytes) ++ r ≡ codes "request " ++ (decimal w ++ 32 ∷ (decimal (length bytes) ++ 10 ∷ (bytes ++ 10 ∷ r)))
+pub regroup_request : (w : ℕ) (bytes r : List ℕ) → item_text (Item2.Request w bytes) ++ r ≡ codes "request " ++ (decimal w ++ 32 ∷ (decimal (length bytes) ++ 10 ∷ (bytes ++ 10 ∷ r)))
 regroup_request w bytes r = simp append_assoc
 
 one_request : (w v : ℕ) (xs ys r s : List ℕ) → w < 2 ^ 64 → v < 2 ^ 64 → length xs < 2 ^ 64 → length ys < 2 ^ 64 → item_text (Item2.Request w xs) ++ r ≡ item_text (Item2.Request v ys) ++ s → (w ≡ v) × (xs ≡ ys) × (r ≡ s)
@@ -95,7 +95,7 @@ one_item x Item2.End r s p q e = absurd q
 one_item x y r s p q e = (let differ = ap sort e in absurd (omega (arith, differ)))
 
 -- an item's text is no end of a schedule
-not_end : (x : Item2) (r s : List ℕ) → HasLine x → item_text x ++ r ≡ item_text Item2.End ++ s → ⊥
+pub not_end : (x : Item2) (r s : List ℕ) → HasLine x → item_text x ++ r ≡ item_text Item2.End ++ s → ⊥
 not_end Item2.End r s p e = p
 not_end x r s p e = (let differ = ap sort e in omega (arith, differ))
 

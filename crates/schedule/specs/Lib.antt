@@ -1,6 +1,7 @@
 pub mod Rows
 pub mod Fields
 pub mod Items
+pub mod BadLines
 pub mod Lines
 pub mod Moments
 pub mod Causes

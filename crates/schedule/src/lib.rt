@@ -17,7 +17,7 @@ mod worked;
 mod writer;
 
 pub use item::{Item2, Schedule};
-pub use laws::{one_schedule, runs_are_serial};
+pub use laws::{one_bad_line, one_schedule, runs_are_serial};
 pub use line::Line;
 pub use reader::{ScheduleRefusal, read_schedule};
 pub use worked::{

@@ -1,6 +1,10 @@
-ghost use Rattle.std.specs.Prelude.{◌≡◌, ◌≢◌, ◌++◌, ◌∷◌, ◌<◌, ℕ, List, decimal, IfOk, IfSome, MatchOption};
+ghost use Rattle.std.specs.Prelude.{◌≡◌, ◌≢◌, ◌++◌, ◌∷◌, ◌<◌, ◌≤◌, ◌^◌, ℕ, List, Err, codes, decimal, IfOk, IfSome, MatchOption};
+ghost use Rattle.std.specs.Char.{digit_value};
+ghost use Rattle.schedule.specs.Rows.{Lacks};
 ghost use Rattle.schedule.specs.Items.{HasLine, IsOfFirstWorker, AreOfFirstWorker, IsSchedule, item_text};
-ghost use Rattle.schedule.specs.declared.reader.Stop.TheVariants.{Memory};
+ghost use Rattle.schedule.specs.BadLines.{BeginsItem, IsBadAt};
+ghost use Rattle.schedule.specs.declared.reader.Stop.TheVariants.{Bad, Memory};
+ghost use Rattle.schedule.specs.declared.reader.ScheduleRefusal.TheVariants.{BadLine};
 
 use crate::{Item2, Schedule};
 use std::alloc::{AllocError, Global};
@@ -40,9 +44,10 @@ impl From<NoMemory> for Stop {
     }
 }
 
-// What is before a byte, and what is behind it.
+// What is before the first such byte, and what is behind it.
 fn split_byte(bytes: &[u8], byte: u8) -> Option<(&[u8], &[u8])>
-    ensures { IfSome result (λ parts. bytes.now ≡ parts.0.now ++ byte ∷ parts.1.now) }
+    ensures parts { MatchOption result (Lacks byte bytes.now) (λ parts. bytes.now ≡ parts.0.now ++ byte ∷ parts.1.now) }
+    ensures first { IfSome result (λ parts. Lacks byte parts.0.now) }
 {
     let at = bytes.iter().position(|b| *b == byte)?;
     Some((&bytes[..at], &bytes[at + 1..]))
@@ -58,7 +63,8 @@ fn after<'a>(bytes: &'a [u8], front: &[u8]) -> Option<&'a [u8]>
 // The number whose decimal form the text is. It is read, printed again and compared, so that leading zeros,
 // signs and spaces are refused.
 fn read_decimal(alloc: Global, text: &[u8]) -> Result<u64, Stop>
-    ensures { IfOk result (λ n. text.now ≡ decimal n) }
+    ensures number { IfOk result (λ n. text.now ≡ decimal n) }
+    ensures bad { result ≡ Err Bad → (n : ℕ) → n < 2 ^ 64 → text.now ≢ decimal n }
 {
     let digits = std::str::from_utf8(text).ok().ok_or(Stop::Bad)?;
     let n: u64 = digits.parse().ok().ok_or(Stop::Bad)?;
@@ -69,30 +75,39 @@ fn read_decimal(alloc: Global, text: &[u8]) -> Result<u64, Stop>
     Ok(n)
 }
 
-// The number of the one worker that schedules name so far.
-fn read_worker(alloc: Global, text: &[u8]) -> Result<u32, Stop>
-    ensures { IfOk result (λ w. (w ≡ 0) × (text.now ≡ decimal w)) }
+// The number at the front and the byte that ends it, and what is behind them.
+fn number_at(alloc: Global, bytes: &[u8], end: u8) -> Result<(u64, &[u8]), Stop>
+    requires no_digit { 10 ≤ digit_value end }
+    ensures number { IfOk result (λ read. bytes.now ≡ decimal read.0 ++ end ∷ read.1.now) }
+    ensures bad { result ≡ Err Bad → (n : ℕ) (rest : List ℕ) → n < 2 ^ 64 → bytes.now ≢ decimal n ++ end ∷ rest }
 {
-    match read_decimal(alloc, text)? {
-        0 => Ok(0),
-        _ => Err(Stop::Bad),
-    }
+    let (number, rest) = split_byte(bytes, end).ok_or(Stop::Bad)?;
+    Ok((read_decimal(alloc, number)?, rest))
 }
 
-// The item at the front, and what is behind it.
-fn item_at(alloc: Global, bytes: &[u8]) -> Result<(Item2, &[u8]), Stop>
-    ensures text { IfOk result (λ read. bytes.now ≡ item_text read.0 ++ read.1.now) }
+// The number of the one worker that schedules name so far and the byte that ends it, and what is behind them.
+fn worker_at(alloc: Global, bytes: &[u8], end: u8) -> Result<(u32, &[u8]), Stop>
+    requires no_digit { 10 ≤ digit_value end }
+    ensures first { IfOk result (λ read. (read.0 ≡ 0) × (bytes.now ≡ decimal 0 ++ end ∷ read.1.now)) }
+    ensures bad { result ≡ Err Bad → (rest : List ℕ) → bytes.now ≢ decimal 0 ++ end ∷ rest }
+{
+    let (number, rest) = number_at(alloc, bytes, end)?;
+    if number != 0 {
+        return Err(Stop::Bad);
+    }
+    Ok((0, rest))
+}
+
+// The request whose line goes on here behind its word, and what is behind it.
+fn request_at(alloc: Global, fields: &[u8]) -> Result<(Item2, &[u8]), Stop>
+    ensures text { IfOk result (λ read. codes "request " ++ fields.now ≡ item_text read.0 ++ read.1.now) }
     ensures line { IfOk result (λ read. HasLine read.0) }
     ensures first { IfOk result (λ read. IsOfFirstWorker read.0) }
+    ensures bad { result ≡ Err Bad → BeginsItem (codes "request " ++ fields.now) → ⊥ }
 {
-    let (line, rest) = split_byte(bytes, b'\n').ok_or(Stop::Bad)?;
-    if let Some(number) = after(line, b"step ") {
-        return Ok((Item2::Step(read_worker(alloc, number)?), rest));
-    }
-    let fields = after(line, b"request ").ok_or(Stop::Bad)?;
-    let (worker, len) = split_byte(fields, b' ').ok_or(Stop::Bad)?;
-    let worker = read_worker(alloc, worker)?;
-    let len = read_decimal(alloc, len)? as usize;
+    let (worker, rest) = worker_at(alloc, fields, b' ')?;
+    let (len, rest) = number_at(alloc, rest, b'\n')?;
+    let len = len as usize;
     if rest.len() < len {
         return Err(Stop::Bad);
     }
@@ -104,12 +119,28 @@ fn item_at(alloc: Global, bytes: &[u8]) -> Result<(Item2, &[u8]), Stop>
     ))
 }
 
+// The item at the front, and what is behind it.
+fn item_at(alloc: Global, bytes: &[u8]) -> Result<(Item2, &[u8]), Stop>
+    ensures text { IfOk result (λ read. bytes.now ≡ item_text read.0 ++ read.1.now) }
+    ensures line { IfOk result (λ read. HasLine read.0) }
+    ensures first { IfOk result (λ read. IsOfFirstWorker read.0) }
+    ensures bad { result ≡ Err Bad → BeginsItem bytes.now → ⊥ }
+{
+    if let Some(fields) = after(bytes, b"step ") {
+        let (worker, rest) = worker_at(alloc, fields, b'\n')?;
+        return Ok((Item2::Step(worker), rest));
+    }
+    let fields = after(bytes, b"request ").ok_or(Stop::Bad)?;
+    request_at(alloc, fields)
+}
+
 /// The schedule that the bytes spell, all of them.
 ///
 /// So far the lines of schedules are `request 0 LEN`, `step 0` and `end`; any other line is bad.
 pub fn read_schedule(alloc: Global, bytes: &[u8]) -> Result<Schedule, ScheduleRefusal>
     ensures schedule { IfOk result (λ items. IsSchedule bytes.now items) }
     ensures first_worker { IfOk result AreOfFirstWorker }
+    ensures bad_line { (n : ℕ) → result ≡ Err (BadLine n) → IsBadAt bytes.now n }
 {
     let mut items = Schedule::new(alloc);
     let Some(mut rest) = after(bytes, b"zope schedule 1\n") else {

@@ -175,6 +175,8 @@ fn a_bad_line_has_its_number(rt: HostRuntime) {
         ("zope schedule 1\nend", 2),
         ("zope schedule 1\nEND\n", 2),
         ("zope schedule 1\nstep 0\n", 3),
+        ("zope schedule 1\nstep 0\nste", 3),
+        ("zope schedule 1\nstep 0\nstep 0", 3),
         ("zope schedule 1\nend\nstep 0\n", 3),
         ("zope schedule 1\nend\n\n", 3),
         ("zope schedule 1\nstep 1\nend\n", 2),
@@ -193,7 +195,19 @@ fn a_bad_line_has_its_number(rt: HostRuntime) {
             "zope schedule 1\nrequest 0 99999999999999999999\nx\nend\n",
             2,
         ),
+        (
+            "zope schedule 1\nrequest 0 000000000000000000001\nx\nend\n",
+            2,
+        ),
+        (
+            "zope schedule 1\nstep 0\nstep 100000000000000000000\nend\n",
+            3,
+        ),
+        ("zope schedule 1\nrequest 1 1\nx\nend\n", 2),
         ("zope schedule 1\nrequest 0 9\nx\n", 2),
+        ("zope schedule 1\nrequest 0 1\nx", 2),
+        ("zope schedule 1\nrequest 0 1\nx\n", 3),
+        ("zope schedule 1\nrequest 0 1\nx\nend\nend\n", 4),
         (
             "zope schedule 1\nrequest 0 1\nx\nstep 0\nrequest 0 1\nxy\nend\n",
             4,

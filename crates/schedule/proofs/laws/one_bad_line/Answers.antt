@@ -1,0 +1,8 @@
+use Rattle.schedule.proofs.BadLineLaws.{one_number, schedule_or_bad}
+use Rattle.schedule.proofs.laws.one_bad_line.Goals as goal
+
+pub returns-clause-number : goal.returns-clause-number
+returns-clause-number c = one_number
+
+pub returns-clause-not_both : goal.returns-clause-not_both
+returns-clause-not_both c = schedule_or_bad
