@@ -9,5 +9,6 @@ pub mod BreakingOff
 pub mod Refusals
 pub mod FactKinds
 pub mod FileCauses
+pub mod InputCauses
 pub mod LastLines
 pub mod Newest

@@ -10,13 +10,19 @@ use Rattle.zio.specs.Shelves.{Entry, file_at}
 use Rattle.fs_record.specs.File.{Front, magic}
 use Rattle.fs_scan.specs.Plain.{IsPlainFile}
 use Rattle.schedule.specs.declared.item.Item2.{Item2}
+use Rattle.schedule.specs.BadLines.{IsBadAt}
 use Rattle.schedule.specs.Items.{AreOfFirstWorker, IsSchedule}
 use Rattle.schedule.specs.declared.reader.ScheduleRefusal.{ScheduleRefusal}
 use Rattle.zope.specs.declared.refusal.FileRefusal.{FileRefusal}
 use Rattle.zope.specs.declared.refusal.InputRefusal.{InputRefusal}
 use Rattle.zope.specs.declared.refusal.Refusal.{Refusal}
 use Rattle.zope.specs.declared.refusal.RunRefusal.{RunRefusal}
+use Rattle.zope.specs.BrokenOff.{BrokenOff}
+use Rattle.zope.specs.Messages.{message_of}
+use Rattle.zope.specs.Printed.{terms_of}
 use Rattle.zope.specs.Shelved.{HasFile}
+use Rattle.zope.specs.Site.{page}
+use Rattle.zope.specs.Stores.{Opened, Opens}
 use Rattle.zope.specs.Words.{IsReplay, IsReplayOf}
 
 -- the most bytes of a schedule, and of a file
@@ -45,7 +51,7 @@ pub record Stored (files : Option (List Entry)) (name bytes : List ℕ) : Type 0
 abbrev pub InputCause : Option (List ℕ) → Type 0 → Refusal → Type 0
 InputCause input failed Refusal.Input = failed
 InputCause input failed Refusal.InputTooLarge = IfSome input (λ text. most_input < length text)
-InputCause input failed (Refusal.BadLine n) = Unit {0}
+InputCause input failed (Refusal.BadLine n) = IfSome input (λ text. (length text ≤ most_input) × IsBadAt text n)
 InputCause input failed Refusal.Memory = Unit {0}
 InputCause input failed _ = ⊥
 
@@ -67,11 +73,15 @@ IsOfReading Refusal.Memory = Unit {0}
 IsOfReading _ = ⊥
 
 -- what the run is broken off for
-abbrev pub RunCause : Type 0 → Refusal → Type 0
-RunCause failed Refusal.Output = failed
-RunCause failed (Refusal.BadLine n) = Unit {0}
-RunCause failed Refusal.Memory = Unit {0}
-RunCause failed _ = ⊥
+abbrev pub RunCause : (ℕ → Type 0) → Type 0 → Refusal → Type 0
+RunCause broken failed Refusal.Output = failed
+RunCause broken failed (Refusal.BadLine n) = broken n
+RunCause broken failed Refusal.Memory = Unit {0}
+RunCause broken failed _ = ⊥
+
+-- the run over that file was broken off at the line of that number
+abbrev pub Broke : Opened → List Item2 → Option (List ℕ) → Option (List ℕ) → ℕ → Type 0
+Broke s items old new n = BrokenOff (terms_of message_of page s.end) s.history items n old new
 
 -- The cause of a refusal: of the words, of the input, of the file, or of the run. Until the run nothing is
 -- written.
@@ -80,7 +90,7 @@ Cause words files input source sink disk old new e =
     ((e ≡ Refusal.Usage) × (IsReplay words → ⊥) × (new ≡ old))
     ⊎ ((IsReplay words × InputCause input source e × (new ≡ old))
     ⊎ (((name : List ℕ) × (items : List Item2) × IsReplayOf words name × Scheduled input items × FileCause files name disk e × (new ≡ old))
-    ⊎ ((name : List ℕ) × (items : List Item2) × IsReplayOf words name × Scheduled input items × RunCause sink e)))
+    ⊎ ((name : List ℕ) × (items : List Item2) × IsReplayOf words name × Scheduled input items × (bytes : List ℕ) × (s : Opened) × Stored files name bytes × Opens bytes s × RunCause (Broke s items old new) sink e)))
 
 -- the last line, which names the cause
 abbrev pub last_line : List ℕ → Refusal → List ℕ

@@ -2,7 +2,7 @@ ghost use Rattle.std.specs.Prelude.{◌≡◌, ◌++◌, ◌⊎◌, ◌≤◌, �
 ghost use Rattle.zbase.specs.Faults.{Counts, Rose};
 ghost use Rattle.fs_record.specs.File.{Front, magic};
 ghost use Rattle.fs_scan.specs.Plain.{IsPlainFile};
-ghost use Rattle.zope.specs.Causes.{Cause, FileCause, InputCause, IsOfReading, RunCause, Scheduled, Stored};
+ghost use Rattle.zope.specs.Causes.{Broke, Cause, FileCause, InputCause, IsOfReading, RunCause, Scheduled, Stored};
 ghost use Rattle.zope.specs.Messages.{message_of};
 ghost use Rattle.zope.specs.Printed.{PrintsReport, terms_of};
 ghost use Rattle.zope.specs.Replayed.{Replayed};
@@ -62,7 +62,7 @@ fn run_over<K: Sink>(
     out: &mut K,
 ) -> Result<(), Refusal>
     ensures printed { OnOk result (PrintsReport (terms_of message_of page store.now.end) store.now.history items.now (K.written out.old) (K.written out.new)) }
-    ensures cause { IfErr result (RunCause (Rose (K.counter out.old) (K.counter out.new))) }
+    ensures cause { IfErr result (RunCause (Broke store.now items.now (K.written out.old) (K.written out.new)) (Rose (K.counter out.old) (K.counter out.new))) }
     ensures counts { Counts (K.counter out.old) (K.counter out.new) (IsErrOf result Refusal.Output) }
 {
     Ok(replay(alloc, store, items, Site::new(alloc), out)?)
