@@ -10,5 +10,6 @@ pub mod Refusals
 pub mod FactKinds
 pub mod FileCauses
 pub mod InputCauses
+pub mod NoCauses
 pub mod LastLines
 pub mod Newest

@@ -139,3 +139,26 @@ of_run RunRefusal.Memory = Refusal.Memory
 abbrev pub of_outside : OutsideRefusal → RunRefusal
 of_outside OutsideRefusal.Failed = RunRefusal.Output
 of_outside OutsideRefusal.Memory = RunRefusal.Memory
+
+-- Nothing that is looked at is a cause: the words name a file that is there, is plain and isn't too long; the input
+-- spells a schedule that isn't too long, each line of which can be run; and no count rose.
+pub record NoCause (words : List (List ℕ)) (files : Option (List Entry)) (input : Option (List ℕ)) (source sink disk : Type 0) : Type 0 where
+  pub name : List ℕ
+  pub command : IsReplayOf words name
+  pub entries : List Entry
+  pub shelf : files ≡ Some entries
+  pub bytes : List ℕ
+  pub there : file_at entries name ≡ Some bytes
+  pub fits : length bytes ≤ most_file
+  pub front : Front
+  pub plain : IsPlainFile bytes front
+  pub text : List ℕ
+  pub given : input ≡ Some text
+  pub within : length text ≤ most_input
+  pub items : List Item2
+  pub spells : IsSchedule text items
+  pub first : AreOfFirstWorker items
+  pub runs : (s : Opened) (n : ℕ) (old new : Option (List ℕ)) → Opens bytes s → Broke s items old new n → ⊥
+  pub source_calm : source → ⊥
+  pub sink_calm : sink → ⊥
+  pub disk_calm : disk → ⊥

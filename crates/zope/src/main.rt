@@ -2,6 +2,8 @@
 #![tactic(auto)]
 
 mod active;
+#[cfg(test)]
+mod cause_tests;
 mod command;
 mod history_out;
 mod http_out;

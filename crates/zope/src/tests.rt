@@ -267,6 +267,16 @@ fn a_fault_of_the_outside_has_its_status(rt: HostRuntime) -> Result<(), Fail> {
         (Failing { output: 1, ..NONE }, 6, ""),
         (Failing { output: 2, ..NONE }, 6, "zope report 1\n"),
         (
+            Failing { output: 3, ..NONE },
+            6,
+            "zope report 1\nopen 0000000000000000 0\n",
+        ),
+        (
+            Failing { output: 4, ..NONE },
+            6,
+            "zope report 1\nopen 0000000000000000 0\nidle 0\n",
+        ),
+        (
             Failing { output: 5, ..NONE },
             6,
             "zope report 1\nopen 0000000000000000 0\nidle 0\nhistory 0\n",

@@ -1,13 +1,14 @@
 ghost use Rattle.std.specs.Prelude.{◌≡◌, ◌≤◌, ◌⊎◌, ℕ, IsErrOf, MatchResult, OnOk, map, string_bytes};
 ghost use Rattle.std.specs.Io.KnownBytes.{append_known};
 ghost use Rattle.zbase.specs.Faults.{Counts, Rose};
-ghost use Rattle.zope.specs.Causes.{Comes, Names, last_line};
+ghost use Rattle.zope.specs.Causes.{Comes, Names, NoCause, last_line};
 ghost use Rattle.zope.specs.Replayed.{Replayed};
 ghost use Rattle.zope.specs.Words.{IsReplay};
 
 use crate::command::replay_command;
 use crate::inputs::file_name;
 use crate::refusal::Refusal;
+use schedule::{one_bad_line, one_schedule};
 use std::alloc::{AllocError, Global};
 use zio::{Clock, Hub, OutsideRefusal, Shelf, Sink, Source};
 
@@ -27,6 +28,7 @@ fn status_of(refusal: Refusal) -> Status
     ensures input_output { result.0 ≡ 6 → (refusal ≡ Refusal.Input) ⊎ (refusal ≡ Refusal.Output) }
     ensures missing { result.0 ≡ 8 → refusal ≡ Refusal.Missing }
     ensures too_large { result.0 ≡ 9 → (refusal ≡ Refusal.InputTooLarge) ⊎ ((n : ℕ) × (refusal ≡ Refusal.FileTooLarge n)) }
+    ensures memory { refusal ≡ Refusal.Memory → result.0 ≡ 7 }
     ensures known { result.0 ≤ 9 }
 {
     match refusal {
@@ -107,6 +109,7 @@ fn refuse<K: Sink>(alloc: Global, refusal: Refusal, words: &[String], out: &mut 
     ensures input_output { result.0 ≡ 6 → ((refusal ≡ Refusal.Input) × Names (map string_bytes words.now) refusal (K.written out.old) (K.written out.new)) ⊎ (refusal ≡ Refusal.Output) ⊎ Rose (K.counter out.old) (K.counter out.new) }
     ensures missing { result.0 ≡ 8 → (refusal ≡ Refusal.Missing) × Names (map string_bytes words.now) refusal (K.written out.old) (K.written out.new) }
     ensures too_large { result.0 ≡ 9 → ((refusal ≡ Refusal.InputTooLarge) ⊎ ((n : ℕ) × (refusal ≡ Refusal.FileTooLarge n))) × Names (map string_bytes words.now) refusal (K.written out.old) (K.written out.new) }
+    ensures memory { refusal ≡ Refusal.Memory → (result.0 ≡ 7) ⊎ Rose (K.counter out.old) (K.counter out.new) }
     ensures known { result.0 ≤ 9 }
     ensures count { (K.counter out.old).count ≤ (K.counter out.new).count }
 {
@@ -150,7 +153,11 @@ pub fn run<F: Shelf, S: Source, K: Sink, H: Hub, C: Clock>(
     // The schedule is longer than its limit, or the file than its own.
     ensures too_large { result.0 ≡ 9 → Comes (map string_bytes words.now) (F.files files.old) (S.left input.old) (Rose (S.counter input.old) (S.counter input.new)) (Rose (K.counter out.old) (K.counter out.new)) (Rose (F.counter files.old) (F.counter files.new) ⊎ (F.sound_disks files.old → ⊥)) (K.written out.old) (K.written out.new) Refusal.InputTooLarge ⊎ ((n : ℕ) × Comes (map string_bytes words.now) (F.files files.old) (S.left input.old) (Rose (S.counter input.old) (S.counter input.new)) (Rose (K.counter out.old) (K.counter out.new)) (Rose (F.counter files.old) (F.counter files.new) ⊎ (F.sound_disks files.old → ⊥)) (K.written out.old) (K.written out.new) (Refusal.FileTooLarge n)) }
     ensures known { result.0 ≤ 9 }
+    // Where there is no cause, the run ends well, or for want of memory.
+    ensures complete { NoCause (map string_bytes words.now) (F.files files.old) (S.left input.old) (Rose (S.counter input.old) (S.counter input.new)) (Rose (K.counter out.old) (K.counter out.new)) (Rose (F.counter files.old) (F.counter files.new) ⊎ (F.sound_disks files.old → ⊥)) → (result.0 ≡ 0) ⊎ (result.0 ≡ 7) }
 {
+    one_schedule();
+    one_bad_line();
     match replay_command(alloc, words, files, input, out) {
         Ok(()) => Status(0),
         Err(refusal) => refuse(alloc, refusal, words, out),
