@@ -27,7 +27,7 @@ pub fn one_schedule()
     ensures { (text : List ℕ) (a b : List Item2) → IsSchedule text a → IsSchedule text b → a ≡ b }
 {}
 
-/// A text is a schedule of the first worker or has one first bad line, and never both.
+/// A text has at most one first bad line, and a schedule of the first worker has none.
 pub fn one_bad_line()
     ensures number { (text : List ℕ) (m n : ℕ) → IsBadAt text m → IsBadAt text n → m ≡ n }
     ensures not_both { (text : List ℕ) (items : List Item2) (n : ℕ) → IsSchedule text items → AreOfFirstWorker items → IsBadAt text n → ⊥ }
