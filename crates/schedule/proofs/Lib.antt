@@ -12,3 +12,4 @@ pub mod OneSchedule
 pub mod Fronts
 pub mod BadItems
 pub mod BadLineLaws
+pub mod ReadOrBad

@@ -1,4 +1,4 @@
-ghost use Rattle.std.specs.Prelude.{◌≡◌, ℕ, List};
+ghost use Rattle.std.specs.Prelude.{◌≡◌, ◌⊎◌, ℕ, List};
 ghost use Rattle.zbase.specs.History.{History, IsHistory};
 ghost use Rattle.evaluator.specs.Exec.{IsLawful};
 ghost use Rattle.schedule.specs.declared.item.Item2.{Item2};
@@ -30,6 +30,7 @@ pub fn one_schedule()
 
 /// A text is a schedule of the first worker or has one first bad line, and never both.
 pub fn one_bad_line()
-    ensures number { (text : List ℕ) (m n : ℕ) → IsBadAt text m → IsBadAt text n → m ≡ n }
+    ensures either { (text : List ℕ) → ((items : List Item2) × IsSchedule text items × AreOfFirstWorker items) ⊎ ((n : ℕ) × IsBadAt text n) }
     ensures not_both { (text : List ℕ) (items : List Item2) (n : ℕ) → IsSchedule text items → AreOfFirstWorker items → IsBadAt text n → ⊥ }
+    ensures number { (text : List ℕ) (m n : ℕ) → IsBadAt text m → IsBadAt text n → m ≡ n }
 {}
