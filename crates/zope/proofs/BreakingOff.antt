@@ -1,5 +1,5 @@
 -- What the loop kept up to an item that can't be run.
-use Rattle.std.proofs.Common.{◌≡◌, ℕ, ◌+◌, ◌<◌, List, [], ◌∷◌, ◌++◌, length, take, drop, get_or, Option, IsSome, refl, sym, ap, ◌∙◌, subst, arith}
+use Rattle.std.proofs.Common.{◌≡◌, ℕ, ◌+◌, ◌<◌, List, ◌∷◌, ◌++◌, length, take, drop, get_or, Option, IsSome, refl, sym, ap, ◌∙◌, subst, arith}
 use Rattle.std.proofs.lemmas.List.{drop_more, length-take, take-append-drop}
 use Rattle.zbase.specs.History.{IsHistory}
 use Rattle.evaluator.specs.Exec.{Eval, IsLawful}
@@ -8,8 +8,8 @@ use Rattle.schedule.specs.declared.line.Line.{Line}
 use Rattle.schedule.specs.Armed.{Queue, IsArmed}
 use Rattle.schedule.specs.CourseLaws.{RanCalm}
 use Rattle.schedule.specs.Courses.{Course, items_of, lines_of}
-use Rattle.schedule.specs.Explained.{Explained, report}
-use Rattle.schedule.specs.Moments.{Doing, Free, Moment, Terms, start}
+use Rattle.schedule.specs.Explained.{report}
+use Rattle.schedule.specs.Moments.{Doing, Free, Moment, start}
 use Rattle.zope.specs.Alone.{alone}
 use Rattle.zope.specs.BrokenOff.{BrokenOff, CannotRun}
 use Rattle.zope.specs.Printed.{Prints, opening, terms_of}

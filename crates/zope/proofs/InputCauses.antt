@@ -1,5 +1,5 @@
 -- What an input is refused for by its grammar.
-use Rattle.std.proofs.Common.{◌≡◌, ℕ, ◌≤◌, List, length, Option, None, Some, Result, Err, refl, subst}
+use Rattle.std.proofs.Common.{◌≡◌, ℕ, ◌≤◌, List, length, Option, None, Some, Err, refl, subst}
 use Rattle.std.specs.Prelude.{IfSome, IsErrOf}
 use Rattle.schedule.specs.declared.reader.ScheduleRefusal.{ScheduleRefusal}
 use Rattle.schedule.specs.BadLines.{IsBadAt}

@@ -1,6 +1,6 @@
 -- Where a run meets no cause, it ends well or for want of memory.
-use Rattle.std.proofs.Common.{◌≡◌, ℕ, ◌≤◌, ◌<◌, List, [], ◌∷◌, ◌++◌, length, drop, Option, None, Some, refl, sym, ap, subst, ◌∙◌, arith, inl, inr}
-use Rattle.std.specs.Prelude.{◌⊎◌, IfSome}
+use Rattle.std.proofs.Common.{◌≡◌, ℕ, ◌≤◌, ◌<◌, List, [], ◌∷◌, ◌++◌, length, Option, None, Some, refl, sym, ap, subst, ◌∙◌, arith, inl, inr}
+use Rattle.std.specs.Prelude.{IfSome}
 use Rattle.std.specs.Option.{option_map}
 use Rattle.zbase.specs.Faults.{Counter, Rose}
 use Rattle.zio.specs.Shelves.{Entry, file_at}
@@ -11,10 +11,10 @@ use Rattle.schedule.specs.declared.item.Item2.{Item2}
 use Rattle.schedule.specs.BadLines.{IsBadAt}
 use Rattle.schedule.specs.Items.{AreOfFirstWorker, IsSchedule}
 use Rattle.zope.specs.declared.refusal.Refusal.{Refusal}
-use Rattle.zope.specs.Causes.{Broke, Cause, FileCause, InputCause, IsLength, NoCause, RunCause, Scheduled, Stored, most_file, most_input}
+use Rattle.zope.specs.Causes.{Broke, Cause, FileCause, InputCause, IsLength, NoCause, RunCause, most_file, most_input}
 use Rattle.zope.specs.Shelved.{HasFile}
-use Rattle.zope.specs.Stores.{Opened, Opens}
-use Rattle.zope.specs.Words.{IsReplay, IsReplayOf}
+use Rattle.zope.specs.Stores.{Opens}
+use Rattle.zope.specs.Words.{IsReplayOf}
 
 abbrev pub OneSchedule : Type 0
 OneSchedule = (text : List ℕ) (a b : List Item2) → IsSchedule text a → IsSchedule text b → a ≡ b

@@ -1,4 +1,3 @@
-use Rattle.std.proofs.Common.{◌≡◌, sym, subst}
 use Rattle.std.proofs.lemmas.Result.{err_from_is_err_and}
 use Rattle.zope.proofs.FileCauses.{unopened, unread}
 use Rattle.zope.proofs.command.store_of.Goals as goal

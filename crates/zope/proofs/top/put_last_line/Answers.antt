@@ -1,4 +1,3 @@
-use Rattle.std.proofs.Common.{◌≡◌, rules}
 use Rattle.std.specs.Prelude.{string_bytes}
 use Rattle.zope.proofs.LastLines.{put_is}
 use Rattle.zope.proofs.top.put_last_line.Goals as goal

@@ -1,6 +1,4 @@
-use Rattle.std.proofs.Common.{map, sym, subst, inl, inr}
-use Rattle.std.specs.Prelude.{string_bytes, ◌⊎◌}
-use Rattle.zbase.specs.Faults.{Rose}
+use Rattle.std.proofs.Common.{subst, inl, inr}
 use Rattle.zope.specs.Causes.{Comes}
 use Rattle.zope.proofs.NoCauses.{only_memory, rose_after, rose_before}
 use Rattle.zope.proofs.top.run.Goals as goal
