@@ -30,7 +30,7 @@ use std::io::ErrorKind;
 use std::process::ExitCode;
 pub use top::{Status, run};
 use zbase::FaultPlan;
-use zio::{Folder, MemoryClock, MemoryHub, ReaderSource, WriterSink};
+use zio::{Folder, MemoryClock, MemoryHub, OutsideRefusal, ReaderSource, Sink, WriterSink};
 
 // The words of the command line. Words that aren't UTF-8 are none of the program's.
 fn words_of(
@@ -53,22 +53,33 @@ fn words_of(
     Ok(words)
 }
 
+// Says that there was no memory for the words, as `run` says it of what comes behind them.
+fn starve(out: &mut impl Sink) -> Status {
+    match out.write_all(b"out of memory\n") {
+        Ok(()) => Status(7),
+        Err(OutsideRefusal::Failed) => Status(6),
+        Err(OutsideRefusal::Memory) => Status(7),
+    }
+}
+
 fn main(rt: HostRuntime) -> std::io::Result<ExitCode> {
     let alloc = rt.alloc();
-    let words = words_of(&rt, env::args(&rt))?;
     let mut files = Folder::new(&rt);
     let mut input = ReaderSource::new(rt.stdin());
     let mut out = WriterSink::new(rt.stdout());
     let mut hub = MemoryHub::new(alloc, Vec::new(alloc), FaultPlan::none(alloc));
     let mut clock = MemoryClock::new(Vec::new(alloc), FaultPlan::none(alloc));
-    let status = run(
-        alloc,
-        words.as_slice(),
-        &mut files,
-        &mut input,
-        &mut out,
-        &mut hub,
-        &mut clock,
-    );
+    let status = match words_of(&rt, env::args(&rt)) {
+        Ok(words) => run(
+            alloc,
+            words.as_slice(),
+            &mut files,
+            &mut input,
+            &mut out,
+            &mut hub,
+            &mut clock,
+        ),
+        Err(_) => starve(&mut out),
+    };
     Ok(ExitCode::from(status.0))
 }
