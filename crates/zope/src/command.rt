@@ -79,7 +79,7 @@ pub fn replay_command<F: Shelf, S: Source, K: Sink>(
 ) -> Result<(), Refusal>
     ensures ok { OnOk result (Replayed (map string_bytes words.now) (F.files files.old) (S.left input.old) (K.written out.old) (K.written out.new)) }
     ensures cause { IfErr result (Cause (map string_bytes words.now) (F.files files.old) (S.left input.old) (Rose (S.counter input.old) (S.counter input.new)) (Rose (K.counter out.old) (K.counter out.new)) (Rose (F.counter files.old) (F.counter files.new) ⊎ (F.sound_disks files.old → ⊥)) (K.written out.old) (K.written out.new)) }
-    ensures count { (K.counter out.old).count ≤ (K.counter out.new).count }
+    ensures counts { Counts (K.counter out.old) (K.counter out.new) (IsErrOf result Refusal.Output) }
 {
     let Some(name) = file_name(words) else {
         return Err(Refusal::Usage);

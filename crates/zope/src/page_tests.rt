@@ -438,3 +438,15 @@ fn files_of_other_forms_are_not_yet_read(rt: HostRuntime) -> Result<(), Fail> {
     assert!(rt; prints(alloc, &back, "end\n", 1, "not yet\n")?);
     Ok(())
 }
+
+#[test]
+fn a_file_with_another_first_byte_is_damaged(rt: HostRuntime) -> Result<(), Fail> {
+    let alloc = rt.alloc();
+    let mut bytes = from_hex(alloc, HELLO)?.into_vec();
+    if let Some(first) = bytes.get_mut(0) {
+        *first = b'G';
+    }
+    let file = Bytes::from_vec(bytes);
+    assert!(rt; prints(alloc, &file, "end\n", 3, "damaged 9 at 0\n")?);
+    Ok(())
+}

@@ -1,4 +1,4 @@
-ghost use Rattle.std.specs.Prelude.{◌≡◌, ◌≤◌, ◌⊎◌, ℕ, IsErrOf, MatchResult, OnOk, map, string_bytes};
+ghost use Rattle.std.specs.Prelude.{◌≡◌, ◌<◌, ◌≤◌, ◌⊎◌, ℕ, IsErrOf, MatchResult, OnOk, map, string_bytes};
 ghost use Rattle.std.specs.Io.KnownBytes.{append_known};
 ghost use Rattle.zbase.specs.Faults.{Counts, Rose};
 ghost use Rattle.zope.specs.Causes.{Comes, Names, NoCause, last_line};
@@ -26,6 +26,7 @@ fn status_of(refusal: Refusal) -> Status
     ensures bad_line { result.0 ≡ 4 → (n : ℕ) × (refusal ≡ Refusal.BadLine n) }
     ensures disk { result.0 ≡ 5 → refusal ≡ Refusal.Disk }
     ensures input_output { result.0 ≡ 6 → (refusal ≡ Refusal.Input) ⊎ (refusal ≡ Refusal.Output) }
+    ensures output { refusal ≡ Refusal.Output → result.0 ≡ 6 }
     ensures missing { result.0 ≡ 8 → refusal ≡ Refusal.Missing }
     ensures too_large { result.0 ≡ 9 → (refusal ≡ Refusal.InputTooLarge) ⊎ ((n : ℕ) × (refusal ≡ Refusal.FileTooLarge n)) }
     ensures memory { refusal ≡ Refusal.Memory → result.0 ≡ 7 }
@@ -111,8 +112,13 @@ fn refuse<K: Sink>(alloc: Global, refusal: Refusal, words: &[String], out: &mut 
     ensures too_large { result.0 ≡ 9 → ((refusal ≡ Refusal.InputTooLarge) ⊎ ((n : ℕ) × (refusal ≡ Refusal.FileTooLarge n))) × Names (map string_bytes words.now) refusal (K.written out.old) (K.written out.new) }
     ensures memory { refusal ≡ Refusal.Memory → (result.0 ≡ 7) ⊎ Rose (K.counter out.old) (K.counter out.new) }
     ensures known { result.0 ≤ 9 }
+    ensures output { refusal ≡ Refusal.Output → result.0 ≡ 6 }
+    ensures sink_failed { (K.counter out.old).count < (K.counter out.new).count → result.0 ≡ 6 }
     ensures count { (K.counter out.old).count ≤ (K.counter out.new).count }
 {
+    if let Refusal::Output = refusal {
+        return Status(6);
+    }
     match put_cause(alloc, refusal, words, out) {
         Ok(()) => status_of(refusal),
         Err(OutsideRefusal::Failed) => Status(6),
@@ -146,8 +152,10 @@ pub fn run<F: Shelf, S: Source, K: Sink, H: Hub, C: Clock>(
     ensures bad_line { result.0 ≡ 4 → (n : ℕ) × Comes (map string_bytes words.now) (F.files files.old) (S.left input.old) (Rose (S.counter input.old) (S.counter input.new)) (Rose (K.counter out.old) (K.counter out.new)) (Rose (F.counter files.old) (F.counter files.new) ⊎ (F.sound_disks files.old → ⊥)) (K.written out.old) (K.written out.new) (Refusal.BadLine n) }
     // The shelf's count rose, or that of the disk which it handed out.
     ensures disk { result.0 ≡ 5 → Comes (map string_bytes words.now) (F.files files.old) (S.left input.old) (Rose (S.counter input.old) (S.counter input.new)) (Rose (K.counter out.old) (K.counter out.new)) (Rose (F.counter files.old) (F.counter files.new) ⊎ (F.sound_disks files.old → ⊥)) (K.written out.old) (K.written out.new) Refusal.Disk }
-    // The source failed, or the sink did, also in a last line.
+    // The source failed, or the sink did.
     ensures input_output { result.0 ≡ 6 → Comes (map string_bytes words.now) (F.files files.old) (S.left input.old) (Rose (S.counter input.old) (S.counter input.new)) (Rose (K.counter out.old) (K.counter out.new)) (Rose (F.counter files.old) (F.counter files.new) ⊎ (F.sound_disks files.old → ⊥)) (K.written out.old) (K.written out.new) Refusal.Input ⊎ Rose (K.counter out.old) (K.counter out.new) }
+    // There whenever the sink failed, also in a last line.
+    ensures sink_failed { (K.counter out.old).count < (K.counter out.new).count → result.0 ≡ 6 }
     // The shelf has no such file.
     ensures missing { result.0 ≡ 8 → Comes (map string_bytes words.now) (F.files files.old) (S.left input.old) (Rose (S.counter input.old) (S.counter input.new)) (Rose (K.counter out.old) (K.counter out.new)) (Rose (F.counter files.old) (F.counter files.new) ⊎ (F.sound_disks files.old → ⊥)) (K.written out.old) (K.written out.new) Refusal.Missing }
     // The schedule is longer than its limit, or the file than its own.

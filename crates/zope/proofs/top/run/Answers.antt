@@ -16,5 +16,5 @@ returns-in-Err-clause-complete g c meets =
     let memory = only_memory _ _ _ _ _ _ _ _ _ c.in-Err.refusal c.one_schedule.ensures c.one_bad_line.ensures.not_both (rose_after before mid after c.refuse.ensures.count) c.in-Err.ensures.cause meets in
     elim (c.refuse.ensures.memory memory) [
       | inl seven ↦ inr seven
-      | inr rose ↦ absurd (meets.sink_calm (rose_before before mid after c.in-Err.ensures.count rose))
+      | inr rose ↦ absurd (meets.sink_calm (rose_before before mid after c.in-Err.ensures.counts.later rose))
     ]
