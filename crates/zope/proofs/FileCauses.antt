@@ -8,7 +8,8 @@ use Rattle.fs_record.specs.File.{Front, magic}
 use Rattle.fs_scan.specs.Plain.{IsPlainFile}
 use Rattle.zope.specs.declared.refusal.FileRefusal.{FileRefusal}
 use Rattle.zope.specs.declared.refusal.Refusal.{Refusal}
-use Rattle.zope.specs.Causes.{FileCause, IsLength, IsOfReading, Stored, most_file, of_file}
+use Rattle.zope.specs.Causes.{FileCause, IsLength, IsOfReading, of_file}
+use Rattle.zope.specs.Given.{Stored, most_file}
 
 -- the length of a disk is that of the file which it was opened over
 pub is_length : (files : Option (List Entry)) (name : List ℕ) (told : Option Told) (n : ℕ) → IfSome files (λ all. told ≡ option_map synced (file_at all name)) → IfSome files (λ all. file_at all name ≡ None → ⊥) → IfSome told (λ t. n ≡ length (content t)) → IsLength files name n

@@ -11,7 +11,8 @@ use Rattle.schedule.specs.declared.item.Item2.{Item2}
 use Rattle.schedule.specs.BadLines.{IsBadAt}
 use Rattle.schedule.specs.Items.{AreOfFirstWorker, IsSchedule}
 use Rattle.zope.specs.declared.refusal.Refusal.{Refusal}
-use Rattle.zope.specs.Causes.{Broke, Cause, FileCause, InputCause, IsLength, NoCause, RunCause, most_file, most_input}
+use Rattle.zope.specs.Causes.{Broke, Cause, FileCause, InputCause, IsLength, NoCause, RunCause}
+use Rattle.zope.specs.Given.{most_file, most_input}
 use Rattle.zope.specs.Shelved.{HasFile}
 use Rattle.zope.specs.Stores.{Opens}
 use Rattle.zope.specs.Words.{IsReplayOf}

@@ -2,7 +2,8 @@ ghost use Rattle.std.specs.Prelude.{◌≡◌, ◌⊎◌, ◌≤◌, ◌<◌, �
 ghost use Rattle.zbase.specs.Faults.{Counts, Rose};
 ghost use Rattle.zdisk.specs.Disk.{content};
 ghost use Rattle.zio.specs.Shelves.{file_at};
-ghost use Rattle.zope.specs.Causes.{IsLength, most_file, most_input};
+ghost use Rattle.zope.specs.Causes.{IsLength};
+ghost use Rattle.zope.specs.Given.{most_file, most_input};
 ghost use Rattle.zope.specs.Shelved.{HasFile};
 ghost use Rattle.zope.specs.Words.{IsReplay, IsReplayOf};
 
