@@ -64,7 +64,7 @@ of_file files entries name bytes front failed shelf there fits plain calm (Refus
     let long : option_map length (file_at entries name) ≡ Some n = subst (λ f. IsLength f name n) shelf cause.1 in
     let same : length bytes ≡ n = same_bytes (option_map length (file_at entries name)) (length bytes) n (ap (option_map length) there) long in
     absurd (omega (arith, cause.0, same))
-of_file files entries name bytes front failed shelf there fits plain calm Refusal.Disk cause = absurd (calm cause)
+of_file files entries name bytes front failed shelf there fits plain calm Refusal.Disk cause = absurd (calm cause.0)
 of_file files entries name bytes front failed shelf there fits plain calm Refusal.Damaged cause =
     let same = has_same files entries name bytes cause.0 shelf there cause.1.has in
     let r = begins plain.file.blocks in

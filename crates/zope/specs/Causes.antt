@@ -29,6 +29,10 @@ use Rattle.zope.specs.Words.{IsReplay, IsReplayOf}
 abbrev pub IsLength : Option (List Entry) → List ℕ → ℕ → Type 0
 IsLength files name n = IfSome files (λ all. option_map length (file_at all name) ≡ Some n)
 
+-- where the shelf tells, it has a file of that name
+abbrev pub IsPresent : Option (List Entry) → List ℕ → Type 0
+IsPresent files name = IfSome files (λ all. file_at all name ≡ None → ⊥)
+
 -- what the input is refused for; a source that failed has its count
 abbrev pub InputCause : Option (List ℕ) → Type 0 → Refusal → Type 0
 InputCause input failed Refusal.Input = failed
@@ -41,7 +45,7 @@ InputCause input failed _ = ⊥
 abbrev pub FileCause : Option (List Entry) → List ℕ → Type 0 → Refusal → Type 0
 FileCause files name failed Refusal.Missing = IfSome files (λ all. file_at all name ≡ None)
 FileCause files name failed (Refusal.FileTooLarge n) = (most_file < n) × IsLength files name n
-FileCause files name failed Refusal.Disk = failed
+FileCause files name failed Refusal.Disk = failed × IsPresent files name
 FileCause files name failed Refusal.Damaged = (bytes : List ℕ) × Stored files name bytes × ((more : List ℕ) → bytes ≡ magic ++ more → ⊥)
 FileCause files name failed Refusal.NotYet = (bytes : List ℕ) × Stored files name bytes × (bytes ≡ magic ++ drop 4 bytes) × ((front : Front) → IsPlainFile bytes front → ⊥)
 FileCause files name failed Refusal.Memory = Unit {0}
