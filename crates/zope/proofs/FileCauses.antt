@@ -8,7 +8,8 @@ use Rattle.fs_record.specs.File.{Front, magic}
 use Rattle.fs_scan.specs.Plain.{IsPlainFile}
 use Rattle.zope.specs.declared.refusal.FileRefusal.{FileRefusal}
 use Rattle.zope.specs.declared.refusal.Refusal.{Refusal}
-use Rattle.zope.specs.Causes.{FileCause, IsLength, IsOfReading, Stored, most_file, of_file}
+use Rattle.zope.specs.Causes.{FileCause, IsLength, IsOfReading, IsPresent, of_file}
+use Rattle.zope.specs.Given.{Stored, most_file}
 
 -- the length of a disk is that of the file which it was opened over
 pub is_length : (files : Option (List Entry)) (name : List ℕ) (told : Option Told) (n : ℕ) → IfSome files (λ all. told ≡ option_map synced (file_at all name)) → IfSome files (λ all. file_at all name ≡ None → ⊥) → IfSome told (λ t. n ≡ length (content t)) → IsLength files name n
@@ -25,11 +26,11 @@ is_length (Some all) name told n found there long = go (file_at all name) refl
 pub unread : {T : Type 0} (files : Option (List Entry)) (name : List ℕ) (failed : Type 0) (r : FileRefusal)
     → (IsErrOf {T = T} (Err r) FileRefusal.Missing → IfSome files (λ all. file_at all name ≡ None))
     → ((n : ℕ) → IsErrOf {T = T} (Err r) (FileRefusal.TooLarge n) → (most_file < n) × IsLength files name n)
-    → (IsErrOf {T = T} (Err r) FileRefusal.Disk → failed) → FileCause files name failed (of_file r)
-unread files name failed FileRefusal.Missing missing long disk = missing refl
-unread files name failed (FileRefusal.TooLarge n) missing long disk = long n refl
-unread files name failed FileRefusal.Disk missing long disk = disk refl
-unread files name failed FileRefusal.Memory missing long disk = tt
+    → (IsErrOf {T = T} (Err r) FileRefusal.Disk → failed) → (IsErrOf {T = T} (Err r) FileRefusal.Disk → IsPresent files name) → FileCause files name failed (of_file r)
+unread files name failed FileRefusal.Missing missing long disk there = missing refl
+unread files name failed (FileRefusal.TooLarge n) missing long disk there = long n refl
+unread files name failed FileRefusal.Disk missing long disk there = (disk refl, there refl)
+unread files name failed FileRefusal.Memory missing long disk there = tt
 
 pub unopened : {T : Type 0} (files : Option (List Entry)) (name bytes : List ℕ) (failed : Type 0) (r : Result T Refusal) → Stored files name bytes
     → (IsErrOf r Refusal.Damaged → (more : List ℕ) → bytes ≡ magic ++ more → ⊥)

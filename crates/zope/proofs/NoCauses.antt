@@ -11,7 +11,8 @@ use Rattle.schedule.specs.declared.item.Item2.{Item2}
 use Rattle.schedule.specs.BadLines.{IsBadAt}
 use Rattle.schedule.specs.Items.{AreOfFirstWorker, IsSchedule}
 use Rattle.zope.specs.declared.refusal.Refusal.{Refusal}
-use Rattle.zope.specs.Causes.{Broke, Cause, FileCause, InputCause, IsLength, NoCause, RunCause, most_file, most_input}
+use Rattle.zope.specs.Causes.{Broke, Cause, FileCause, InputCause, IsLength, NoCause, RunCause}
+use Rattle.zope.specs.Given.{most_file, most_input}
 use Rattle.zope.specs.Shelved.{HasFile}
 use Rattle.zope.specs.Stores.{Opens}
 use Rattle.zope.specs.Words.{IsReplayOf}
@@ -63,7 +64,7 @@ of_file files entries name bytes front failed shelf there fits plain calm (Refus
     let long : option_map length (file_at entries name) ≡ Some n = subst (λ f. IsLength f name n) shelf cause.1 in
     let same : length bytes ≡ n = same_bytes (option_map length (file_at entries name)) (length bytes) n (ap (option_map length) there) long in
     absurd (omega (arith, cause.0, same))
-of_file files entries name bytes front failed shelf there fits plain calm Refusal.Disk cause = absurd (calm cause)
+of_file files entries name bytes front failed shelf there fits plain calm Refusal.Disk cause = absurd (calm cause.0)
 of_file files entries name bytes front failed shelf there fits plain calm Refusal.Damaged cause =
     let same = has_same files entries name bytes cause.0 shelf there cause.1.has in
     let r = begins plain.file.blocks in

@@ -20,32 +20,18 @@ use Rattle.zope.specs.declared.refusal.RunRefusal.{RunRefusal}
 use Rattle.zope.specs.BrokenOff.{BrokenOff}
 use Rattle.zope.specs.Messages.{message_of}
 use Rattle.zope.specs.Printed.{terms_of}
-use Rattle.zope.specs.Shelved.{HasFile}
+use Rattle.zope.specs.Given.{Scheduled, Stored, most_file, most_input}
 use Rattle.zope.specs.Site.{page}
 use Rattle.zope.specs.Stores.{Opened, Opens}
 use Rattle.zope.specs.Words.{IsReplay, IsReplayOf}
-
--- the most bytes of a schedule, and of a file
-abbrev pub most_input : ℕ
-most_input = 67108864
-
-abbrev pub most_file : ℕ
-most_file = 268435456
 
 -- where the shelf tells, its file of that name has so many bytes
 abbrev pub IsLength : Option (List Entry) → List ℕ → ℕ → Type 0
 IsLength files name n = IfSome files (λ all. option_map length (file_at all name) ≡ Some n)
 
--- where the source tells, all of the input is a schedule that the first worker can run
-pub record Scheduled (input : Option (List ℕ)) (items : List Item2) : Type 0 where
-  pub within : IfSome input (λ text. length text ≤ most_input)
-  pub spells : IfSome input (λ text. IsSchedule text items)
-  pub first : AreOfFirstWorker items
-
--- where the shelf tells, its file of that name has these bytes, and not too many
-pub record Stored (files : Option (List Entry)) (name bytes : List ℕ) : Type 0 where
-  pub has : HasFile files name bytes
-  pub within : length bytes ≤ most_file
+-- where the shelf tells, it has a file of that name
+abbrev pub IsPresent : Option (List Entry) → List ℕ → Type 0
+IsPresent files name = IfSome files (λ all. file_at all name ≡ None → ⊥)
 
 -- what the input is refused for; a source that failed has its count
 abbrev pub InputCause : Option (List ℕ) → Type 0 → Refusal → Type 0
@@ -59,7 +45,7 @@ InputCause input failed _ = ⊥
 abbrev pub FileCause : Option (List Entry) → List ℕ → Type 0 → Refusal → Type 0
 FileCause files name failed Refusal.Missing = IfSome files (λ all. file_at all name ≡ None)
 FileCause files name failed (Refusal.FileTooLarge n) = (most_file < n) × IsLength files name n
-FileCause files name failed Refusal.Disk = failed
+FileCause files name failed Refusal.Disk = failed × IsPresent files name
 FileCause files name failed Refusal.Damaged = (bytes : List ℕ) × Stored files name bytes × ((more : List ℕ) → bytes ≡ magic ++ more → ⊥)
 FileCause files name failed Refusal.NotYet = (bytes : List ℕ) × Stored files name bytes × (bytes ≡ magic ++ drop 4 bytes) × ((front : Front) → IsPlainFile bytes front → ⊥)
 FileCause files name failed Refusal.Memory = Unit {0}

@@ -1,5 +1,6 @@
 pub mod Words
 pub mod Shelved
+pub mod Given
 pub mod Replies
 pub mod Messages
 pub mod Site

@@ -1,16 +1,17 @@
 -- An opened file: its history, and where it ends.
 use Rattle.std.specs.Prelude.{◌≡◌, ℕ, ◌==◌, List, [], ◌∷◌, Option, Some, None, if◌then◌else◌}
 use Rattle.zbase.specs.History.{Value, History}
-use Rattle.fs_record.specs.File.{Front, IsFile}
+use Rattle.fs_record.specs.File.{Front}
+use Rattle.fs_scan.specs.Plain.{IsPlainFile}
 
 pub record Opened : Type 0 where
   pub history : History
   pub end : ℕ
 
--- the bytes are a file, which says this history and ends there
+-- the bytes are a file of plain transactions, which says this history and ends there
 pub record Opens (bytes : List ℕ) (s : Opened) : Type 0 where
   pub front : Front
-  pub file : IsFile bytes front
+  pub plain : IsPlainFile bytes front
   pub history : s.history ≡ front.history
   pub end : s.end ≡ front.place
 

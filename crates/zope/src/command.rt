@@ -2,7 +2,8 @@ ghost use Rattle.std.specs.Prelude.{◌≡◌, ◌++◌, ◌⊎◌, ◌≤◌, �
 ghost use Rattle.zbase.specs.Faults.{Counts, Rose};
 ghost use Rattle.fs_record.specs.File.{Front, magic};
 ghost use Rattle.fs_scan.specs.Plain.{IsPlainFile};
-ghost use Rattle.zope.specs.Causes.{Broke, Cause, FileCause, InputCause, IsOfReading, RunCause, Scheduled, Stored};
+ghost use Rattle.zope.specs.Causes.{Broke, Cause, FileCause, InputCause, IsOfReading, RunCause};
+ghost use Rattle.zope.specs.Given.{Scheduled, Stored};
 ghost use Rattle.zope.specs.Messages.{message_of};
 ghost use Rattle.zope.specs.Printed.{PrintsReport, terms_of};
 ghost use Rattle.zope.specs.Replayed.{Replayed};

@@ -2,7 +2,8 @@ ghost use Rattle.std.specs.Prelude.{◌≡◌, ◌⊎◌, ◌≤◌, ◌<◌, �
 ghost use Rattle.zbase.specs.Faults.{Counts, Rose};
 ghost use Rattle.zdisk.specs.Disk.{content};
 ghost use Rattle.zio.specs.Shelves.{file_at};
-ghost use Rattle.zope.specs.Causes.{IsLength, most_file, most_input};
+ghost use Rattle.zope.specs.Causes.{IsLength, IsPresent};
+ghost use Rattle.zope.specs.Given.{most_file, most_input};
 ghost use Rattle.zope.specs.Shelved.{HasFile};
 ghost use Rattle.zope.specs.Words.{IsReplay, IsReplayOf};
 
@@ -69,6 +70,7 @@ pub fn read_file<F: Shelf>(alloc: Global, files: &mut F, name: &str) -> Result<V
     ensures within { IfOk result (λ bytes. length bytes.items ≤ most_file) }
     ensures missing { IsErrOf result FileRefusal.Missing → IfSome (F.files files.old) (λ all. file_at all name.now ≡ None) }
     ensures too_large { (n : ℕ) → IsErrOf result (FileRefusal.TooLarge n) → (most_file < n) × IsLength (F.files files.old) name.now n }
+    ensures present { IsErrOf result FileRefusal.Disk → IsPresent (F.files files.old) name.now }
     ensures disk { IsErrOf result FileRefusal.Disk → Rose (F.counter files.old) (F.counter files.new) ⊎ (F.sound_disks files.old → ⊥) }
     ensures count { (F.counter files.old).count ≤ (F.counter files.new).count }
 {

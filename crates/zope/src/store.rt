@@ -1,6 +1,6 @@
 ghost use Rattle.std.specs.Prelude.{◌≡◌, ◌==◌, ◌∷◌, [], IfOk, MatchOption, None, Some, flat_map, length, map, option_map};
 ghost use Rattle.std.specs.Option.{option_copied};
-ghost use Rattle.zbase.specs.History.{IsHistory, empty_history};
+ghost use Rattle.zbase.specs.History.{IsHistory};
 ghost use Rattle.zbase.specs.Values.{last, newest, revisions_of};
 ghost use Rattle.evaluator.specs.declared.ask.Ask.{Ask};
 ghost use Rattle.evaluator.specs.Facts.{fact};
@@ -9,7 +9,6 @@ ghost use Rattle.zope.specs.Stores.{last_value};
 
 use evaluator::Fact;
 use fs_scan::{OidValue, Whole, Wholes};
-use std::alloc::Global;
 use std::marker::Model;
 use zbase::{Memory, Oid, Tid, Value};
 
@@ -59,14 +58,6 @@ impl Model for Store {
 }
 
 impl Store {
-    /// The file of the empty history. Takes no memory.
-    pub fn empty(alloc: Global) -> Store
-        ensures history { result.history ≡ empty_history }
-        ensures end { result.end ≡ 4 }
-    {
-        Store::new(Wholes::new(alloc), 4)
-    }
-
     /// A file of this length with these transactions, from the oldest.
     pub fn new(transactions: Wholes, end: u64) -> Store
         requires history { IsHistory (history_in transactions) }

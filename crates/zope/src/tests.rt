@@ -364,7 +364,7 @@ fn want_of_memory_in_a_step_ends_the_request_alone(rt: HostRuntime) -> Result<()
     assert_eq!(rt;
         replay(
             alloc,
-            &Store::empty(alloc),
+            &Store::new(Items::new(alloc), 4),
             items.as_slice(),
             starved,
             &mut sink
@@ -488,7 +488,7 @@ fn the_last_revision_of_an_object_counts(rt: HostRuntime) -> Result<(), Fail> {
     assert!(rt; has_object(&store, 1, b"new", 9)?);
     assert!(rt; has_object(&store, 2, b"else", 6)?);
     assert!(rt; has_object(&store, 0, b"", 0)?);
-    assert!(rt; has_object(&Store::empty(rt.alloc()), 1, b"", 0)?);
+    assert!(rt; has_object(&Store::new(Items::new(rt.alloc()), 4), 1, b"", 0)?);
     Ok(())
 }
 

@@ -13,7 +13,7 @@ returns-in-Ok-clause-opens c =
     let says = c.in-Ok.ensures.read in
     record {
       front = says.front;
-      file = says.plain.file;
+      plain = says.plain;
       history = c.new.ensures.history ∙ sym says.history;
       end = c.new.ensures.end ∙ sym (file_place c.args.bytes.now says.front says.plain.file);
     }

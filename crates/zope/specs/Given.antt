@@ -1,0 +1,24 @@
+-- What a replay is given: a schedule and a file, each within its limit.
+use Rattle.std.specs.Prelude.{ℕ, ◌≤◌, List, length, IfSome, Option}
+use Rattle.zio.specs.Shelves.{Entry}
+use Rattle.schedule.specs.declared.item.Item2.{Item2}
+use Rattle.schedule.specs.Items.{AreOfFirstWorker, IsSchedule}
+use Rattle.zope.specs.Shelved.{HasFile}
+
+-- the most bytes of a schedule, and of a file
+abbrev pub most_input : ℕ
+most_input = 67108864
+
+abbrev pub most_file : ℕ
+most_file = 268435456
+
+-- where the source tells, all of the input is a schedule that the first worker can run
+pub record Scheduled (input : Option (List ℕ)) (items : List Item2) : Type 0 where
+  pub within : IfSome input (λ text. length text ≤ most_input)
+  pub spells : IfSome input (λ text. IsSchedule text items)
+  pub first : AreOfFirstWorker items
+
+-- where the shelf tells, its file of that name has these bytes, and not too many
+pub record Stored (files : Option (List Entry)) (name bytes : List ℕ) : Type 0 where
+  pub has : HasFile files name bytes
+  pub within : length bytes ≤ most_file
