@@ -1,0 +1,3 @@
+mod Buffers
+mod OneChange
+mod Telling

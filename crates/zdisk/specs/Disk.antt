@@ -2,8 +2,9 @@
 --
 -- What a disk has held is data, so that what a stop may leave of it is a definition over this data and needs no
 -- member of its own.
-use Rattle.std.specs.Prelude.{◌≡◌, ℕ, ◌+◌, ◌≤◌, List, [], length, take, drop, Option, IfOk, OnOk, IfSome, Result}
+use Rattle.std.specs.Prelude.{◌≡◌, ℕ, ◌+◌, ◌≤◌, min, List, [], length, take, drop, Option, IfOk, OnOk, IfSome, Result}
 use Rattle.std.specs.Option.{ForSome}
+use Rattle.zbase.specs.Faults.{last_count}
 
 -- the content of a file at a moment, and the contents that it had before since the last sync that succeeded,
 -- newest first
@@ -11,7 +12,8 @@ pub record Held : Type 0 where
   pub now : List ℕ
   pub before : List (List ℕ)
 
--- what is held now, and what was held at each earlier moment, newest first
+-- what is held now, and what was held at each earlier moment, newest first; each call that may change the file
+-- makes a new moment
 pub record Told : Type 0 where
   pub now : Held
   pub earlier : List Held
@@ -39,3 +41,11 @@ HasRange disk at n = ForSome disk (λ told. at + n ≤ length (content told))
 -- at Ok the bytes at a place, where the disk tells
 abbrev pub GivesRange : {E : Type 0} → Option Told → ℕ → Result (Unit {0}) E → List ℕ → Type 0
 GivesRange disk at result buf = OnOk result (IfSome disk (λ told. buf ≡ bytes_at told at (length buf)))
+
+-- a place within the file or at its end, where the disk tells
+abbrev pub HasPlace : Option Told → ℕ → Type 0
+HasPlace disk at = ForSome disk (λ told. at ≤ length (content told))
+
+-- one call more; a count of calls stands still at its last value
+abbrev pub counted : ℕ → ℕ
+counted n = min (n + 1) last_count

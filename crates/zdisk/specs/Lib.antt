@@ -1,1 +1,7 @@
 pub mod Disk
+pub mod Images
+pub mod Calls
+pub mod Shapes
+pub mod Crashes
+pub mod MomentLaws
+pub mod Recorded

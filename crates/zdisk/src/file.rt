@@ -1,38 +1,54 @@
 ghost use Rattle.std.specs.Prelude.{◌≡◌, None};
 ghost use Rattle.std.specs.declared.option.Option.{Option};
+ghost use Rattle.zbase.specs.Faults.{last_count};
 
 use crate::Disk;
 use std::fs::OpenFile;
-use std::io::{Read, Seek, SeekFrom};
-use zbase::{Failed, FaultCount};
+use std::io::{self, Read, Seek, SeekFrom, Write};
+use zbase::{Failed, FaultCount, Memory};
 
-/// A file of the system, which tells only how often it has failed: nothing is assumed of what it holds.
+/// A file of the system, which tells only its counts: nothing is assumed of what it holds.
 ///
-/// A read past the end of the file is a fault.
+/// A read past the end of the file is a fault, and so is a write to a file that was opened for reading alone.
+/// Writes go to the system at once and take no memory of the program's.
 #[derive(Drop)]
 pub struct FileDisk<T> {
     file: T,
+    calls: u64,
     faults: FaultCount,
 }
 
-impl<T: Read + Seek + OpenFile> FileDisk<T> {
+impl<T: Read + Write + Seek + OpenFile> FileDisk<T> {
     /// A disk over an open file, which has not failed so far.
     pub fn new(file: T) -> FileDisk<T>
         ensures count { (⟦<FileDisk<T> as Disk>⟧.counter result).count ≡ 0 }
+        ensures calls { ⟦<FileDisk<T> as Disk>⟧.device_calls result ≡ 0 }
     {
         FileDisk {
             file,
+            calls: 0,
             faults: FaultCount::new(),
         }
     }
 }
 
-impl<T: Read + Seek + OpenFile> Disk for FileDisk<T> {
+impl<T: Read + Write + Seek + OpenFile> Disk for FileDisk<T> {
     ghost told = { λ _. None };
 
     ghost counter = { λ disk. disk.faults };
 
+    ghost device_calls = { λ disk. disk.calls };
+
+    ghost spare_calls = { λ _. last_count };
+
+    ghost spare_bytes = { λ _. last_count };
+
+    fn reserve(&mut self, _calls: u64, _bytes: u64) -> Result<(), Memory> {
+        Ok(())
+    }
+
     fn len(&mut self) -> Result<u64, Failed> {
+        self.calls = self.calls.saturating_add(1);
         match self.file.metadata() {
             Ok(data) => Ok(data.len()),
             Err(_) => Err(self.faults.fault()),
@@ -40,12 +56,45 @@ impl<T: Read + Seek + OpenFile> Disk for FileDisk<T> {
     }
 
     fn read_at(&mut self, at: u64, buf: &mut [u8]) -> Result<(), Failed> {
-        if self.file.seek(SeekFrom::Start(at)).is_err() {
-            return Err(self.faults.fault());
-        }
-        match self.file.read_exact(buf) {
+        self.calls = self.calls.saturating_add(1);
+        match read_from(&mut self.file, at, buf) {
             Ok(()) => Ok(()),
             Err(_) => Err(self.faults.fault()),
         }
     }
+
+    fn write_at(&mut self, at: u64, bytes: &[u8]) -> Result<(), Failed> {
+        self.calls = self.calls.saturating_add(1);
+        match write_to(&mut self.file, at, bytes) {
+            Ok(()) => Ok(()),
+            Err(_) => Err(self.faults.fault()),
+        }
+    }
+
+    fn cut(&mut self, to: u64) -> Result<(), Failed> {
+        self.calls = self.calls.saturating_add(1);
+        match self.file.set_len(to) {
+            Ok(()) => Ok(()),
+            Err(_) => Err(self.faults.fault()),
+        }
+    }
+
+    fn sync(&mut self) -> Result<(), Failed> {
+        self.calls = self.calls.saturating_add(1);
+        // Not `sync_data`: the file's length must reach the device too.
+        match self.file.sync_all() {
+            Ok(()) => Ok(()),
+            Err(_) => Err(self.faults.fault()),
+        }
+    }
+}
+
+fn read_from<T: Read + Seek>(file: &mut T, at: u64, buf: &mut [u8]) -> io::Result<()> {
+    file.seek(SeekFrom::Start(at))?;
+    file.read_exact(buf)
+}
+
+fn write_to<T: Write + Seek>(file: &mut T, at: u64, bytes: &[u8]) -> io::Result<()> {
+    file.seek(SeekFrom::Start(at))?;
+    file.write_all(bytes)
 }

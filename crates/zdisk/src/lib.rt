@@ -3,10 +3,15 @@
 
 mod disk;
 mod file;
+mod laws;
 mod memory;
+mod record;
+mod synced;
 #[cfg(test)]
 mod tests;
 
 pub use disk::Disk;
 pub use file::FileDisk;
+pub use laws::one_image;
 pub use memory::MemoryDisk;
+pub use synced::{append_and_sync, cut_and_sync, overwrite_and_sync, write_and_sync};

@@ -1,5 +1,6 @@
 //! What each status of a run comes from.
 ghost use Rattle.std.specs.Prelude.{None};
+ghost use Rattle.zbase.specs.Faults.{last_count};
 
 use crate::tests::{NONE, Start, WORDS, ran};
 use crate::{Status, run};
@@ -25,10 +26,20 @@ impl Source for Endless {
     }
 }
 
-/// A file of one byte more than a replay takes.
+/// A file of one byte more than a replay takes. It keeps nothing of what is written.
 #[derive(Drop)]
 struct LongDisk {
+    calls: u64,
     faults: FaultCount,
+}
+
+impl LongDisk {
+    fn new() -> LongDisk {
+        LongDisk {
+            calls: 0,
+            faults: FaultCount::new(),
+        }
+    }
 }
 
 impl Disk for LongDisk {
@@ -36,11 +47,38 @@ impl Disk for LongDisk {
 
     ghost counter = { λ disk. disk.faults };
 
+    ghost device_calls = { λ disk. disk.calls };
+
+    ghost spare_calls = { λ _. last_count };
+
+    ghost spare_bytes = { λ _. last_count };
+
+    fn reserve(&mut self, _calls: u64, _bytes: u64) -> Result<(), Memory> {
+        Ok(())
+    }
+
     fn len(&mut self) -> Result<u64, Failed> {
+        self.calls = self.calls.saturating_add(1);
         Ok(268_435_457)
     }
 
     fn read_at(&mut self, _at: u64, _buf: &mut [u8]) -> Result<(), Failed> {
+        self.calls = self.calls.saturating_add(1);
+        Ok(())
+    }
+
+    fn write_at(&mut self, _at: u64, _bytes: &[u8]) -> Result<(), Failed> {
+        self.calls = self.calls.saturating_add(1);
+        Ok(())
+    }
+
+    fn cut(&mut self, _to: u64) -> Result<(), Failed> {
+        self.calls = self.calls.saturating_add(1);
+        Ok(())
+    }
+
+    fn sync(&mut self) -> Result<(), Failed> {
+        self.calls = self.calls.saturating_add(1);
         Ok(())
     }
 }
@@ -61,9 +99,7 @@ impl Shelf for LongShelf {
     ghost sound_disks = { λ _. ⊥ };
 
     fn open(&mut self, _name: &str) -> Result<LongDisk, ShelfRefusal> {
-        Ok(LongDisk {
-            faults: FaultCount::new(),
-        })
+        Ok(LongDisk::new())
     }
 }
 
