@@ -1,8 +1,10 @@
-pub mod DataAt
-pub mod OneByOne
-pub mod WholeAt
-pub mod Stepping
-pub mod KeptPlaces
+mod Behind
+mod Scanning
 pub mod CopiedValues
+pub mod DataAt
+pub mod KeptPlaces
+pub mod OneByOne
 pub mod PlainFiles
 pub mod RisingPlaces
+pub mod Stepping
+pub mod WholeAt

@@ -26,6 +26,7 @@ use Rattle.fs_scan.specs.Copied.{NoWhole, CopiesWhole}
 use Rattle.fs_scan.specs.Rising.{RiseWithin}
 use Rattle.fs_scan.proofs.RisingPlaces.{taken_rise}
 use Rattle.fs_scan.proofs.Stepping.{only_inside, records_stand}
+use Rattle.fs_scan.proofs.Behind.{block_place, rows_then}
 
 -- plain blocks up to at, and what is kept of them
 pub record CameTo (bytes : List ℕ) (at t : ℕ) (places : List Row) (wholes : List Whole) : Type 0 where
@@ -56,9 +57,6 @@ begun bytes places wholes e p w = record {
   counts = subst (AllByRecursion (λ (w : Whole). w.status ≡ 32)) (sym w) tt;
 }
 
-block_place : (blocks : List Block) → AreRight blocks → (front_of blocks).place ≡ length (bytes_of blocks)
-block_place blocks right = file_place (bytes_of blocks) (front_of blocks) (record { blocks = blocks; right = right; spelled = refl; said = refl })
-
 pub all_read : (bytes : List ℕ) (at t : ℕ) (places : List Row) (wholes : List Whole) → CameTo bytes at t places wholes → length bytes ≤ at → SaysWholes bytes wholes
 all_read bytes at t places wholes c le = record {
   front = front_of c.blocks;
@@ -72,15 +70,6 @@ all_read bytes at t places wholes c le = record {
 }
 
 -- ---- a plain transaction more
-
-rows-records_from : (earlier : List Earlier) (place : ℕ) (ds : List Data) → rows (records_from earlier place ds) ≡ places_from place ds
-rows-records_from earlier place [] = refl
-rows-records_from earlier place (d ∷ ds) = ap (λ (r : List Row). record { oid = d.oid; place = place } ∷ r) (rows-records_from earlier (place + length (data_spelling d)) ds)
-
-rows_then : (front : Front) (b : Block) (i : Inside) → rows (after_in front b i).records ≡ rows_after (rows front.records) front.place b i
-unfolding after_in
-rows_then front b (Skipped bytes) = refl
-rows_then front b (Records ds) = map-append (λ (e : Earlier). e.at) front.records (records_from front.records (records_place front.place b) ds) ∙ ap (λ (r : List Row). rows front.records ++ r) (rows-records_from front.records (records_place front.place b) ds)
 
 longer_plain : (h : History) (status : ℕ) (x : Transaction) → status ≡ 32 → longer h status x ≡ record { floor = h.floor; transactions = h.transactions ++ x ∷ [] }
 longer_plain h status x e = rw e refl

@@ -7,3 +7,4 @@ pub mod Newest
 pub mod Wholes
 pub mod Plain
 pub mod Copied
+pub mod Scanned

@@ -9,6 +9,8 @@ mod copying;
 mod data;
 mod extent;
 mod judging;
+mod magic;
+mod opening;
 mod places;
 mod plain;
 mod records;
@@ -17,5 +19,6 @@ mod step;
 mod tests;
 mod wholes;
 
+pub use opening::{ScanRefusal, Scanned, scan, scan_bytes};
 pub use plain::{PlainRefusal, read_plain_file};
 pub use wholes::{OidValue, OidValues, Whole, Wholes};

@@ -1,12 +1,13 @@
 ghost use Rattle.std.specs.Prelude.{◌≡◌, ◌++◌, ◌∷◌, [], IfOk, IfErr, OnOk, OnErr};
 ghost use Rattle.std.specs.List.{list_any};
 ghost use Rattle.fs_record.specs.File.{last_place, is_row};
+ghost use Rattle.fs_scan.specs.Newest.{greatest_of, or_greater, AreNewest};
 ghost use Rattle.fs_scan.specs.Rising.{RiseFrom, IsAt, NoneAt, AddsFirst};
 
 use std::alloc::Global;
 use std::collections::BTreeMap;
 use std::marker::Model;
-use zbase::{Memory, Oid, Row};
+use zbase::{Memory, Oid, Row, Rows};
 
 /// The places of a file's data records, which contracts see as a list, from the oldest to the newest. They rise.
 ///
@@ -17,6 +18,8 @@ pub struct Places {
     rows: Vec<Row>,
     /// Where each object's last record stands.
     newest: BTreeMap<u64, u64>,
+    /// The greatest id of an object with a record.
+    greatest: Option<u64>,
 }
 
 impl Model for Places {
@@ -28,7 +31,7 @@ impl Model for Places {
 
     ghost view = { λ places. places.rows.items };
 
-    ghost invariant = { λ places. IsIndex places.newest places.rows.items };
+    ghost invariant = { λ places. IsIndex places.newest places.greatest places.rows.items };
 }
 
 impl Places {
@@ -39,6 +42,7 @@ impl Places {
         Places {
             rows: Vec::new(alloc),
             newest: BTreeMap::new(alloc),
+            greatest: None,
         }
     }
 
@@ -84,6 +88,7 @@ impl Places {
     {
         self.rows.reserve(1)?;
         self.newest.insert(row.oid.0, row.place)?;
+        self.greatest = Some(or_greater(row.oid.0, self.greatest));
         match self.rows.push(row) {
             Ok(()) => Ok(()),
             Err(_) => unreachable!(),
@@ -100,5 +105,36 @@ impl Places {
             self.push(*row)?;
         }
         Ok(())
+    }
+
+    /// The greatest id of an object with a record.
+    pub fn greatest(&self) -> Option<Oid>
+        ensures { result ≡ greatest_of self.now }
+    {
+        self.greatest.map(|oid| Oid(oid))
+    }
+
+    /// Where each object's last record stands, by rising id.
+    pub fn newest(&self) -> Result<Rows, Memory>
+        ensures { IfOk result (AreNewest self.now) }
+    {
+        let mut rows = Rows::new(self.alloc());
+        for (oid, place) in self.newest.iter() {
+            rows.push(Row {
+                oid: Oid(*oid),
+                place: *place,
+            })?;
+        }
+        Ok(rows)
+    }
+}
+
+/// The greater of two ids, of which the second may be missing.
+fn or_greater(oid: u64, other: Option<u64>) -> u64
+    ensures { result ≡ or_greater oid other }
+{
+    match other {
+        Some(other) => oid.max(other),
+        None => oid,
     }
 }

@@ -5,6 +5,7 @@ ghost use Rattle.fs_scan.specs.declared.plain.PlainRefusal.TheVariants as refusa
 
 use crate::Wholes;
 use crate::copying::copy_whole;
+use crate::magic::has_magic;
 use crate::places::Places;
 use crate::step::{Step, take_one};
 use std::alloc::Global;
@@ -61,13 +62,4 @@ pub fn read_plain_file(alloc: Global, bytes: &[u8]) -> Result<Wholes, PlainRefus
         at += extent.long + 8;
     }
     Ok(wholes)
-}
-
-// Whether the bytes begin with `FS21`.
-// Whether the bytes begin with the magic of a file.
-fn has_magic(bytes: &[u8]) -> bool
-    ensures yes { result ≡ true → bytes.now ≡ magic ++ drop 4 bytes.now }
-    ensures no { result ≡ false → (more : List ℕ) → bytes.now ≡ magic ++ more → ⊥ }
-{
-    bytes.starts_with(b"FS21")
 }

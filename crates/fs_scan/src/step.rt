@@ -55,7 +55,7 @@ fn take_records(
     last: Tid,
     extent: &Extent,
 ) -> Result<Step, Memory>
-    requires place { place + length rest.now < 2 ^ 63 }
+    requires place { place + length rest.now < 2 ^ 64 }
     requires before { RiseWithin 0 place places.old }
     requires whole { IsWhole rest.now extent.now }
     requires read { extent.now.head.status ≢ 117 }
@@ -84,7 +84,7 @@ fn take_records(
 /// transaction has the id `last`. The records of a right transaction are added to the places; of one undone in the
 /// old manner they aren't read. For want of memory some of its records may be added, of which none may be used.
 pub fn take_one(places: &mut Places, rest: &[u8], place: u64, last: Tid) -> Result<Step, Memory>
-    requires place { place + length rest.now < 2 ^ 63 }
+    requires place { place + length rest.now < 2 ^ 64 }
     requires before { RiseWithin 0 place places.old }
     ensures ok { IfOk result (λ s. StepSays rest.now place last places.old places.new s) }
     ensures err { OnErr result (Grows places.old places.new) }

@@ -1,10 +1,11 @@
 use crate::places::Places;
 use crate::step::{Step, take_one};
-use crate::{PlainRefusal, Wholes, read_plain_file};
+use crate::{PlainRefusal, ScanRefusal, Wholes, read_plain_file, scan, scan_bytes};
 use fs_record::Damage;
 use std::alloc::Global;
 use std::test::*;
-use zbase::{Bytes, Memory, Oid, Row, Tid};
+use zbase::{Bytes, FaultPlan, Memory, Oid, Row, Tid};
+use zdisk::MemoryDisk;
 
 /// A file of one transaction at place 4, of two records, at the places 27 and 103.
 const TWO_OBJECTS: [u8; 184] = [
@@ -174,6 +175,113 @@ fn back_pointers_are_right_and_not_plain(rt: HostRuntime) -> Result<(), Fail> {
             refusal(read_plain_file(rt.alloc(), file.as_slice())),
             Some(PlainRefusal::NotPlain)
         );
+    }
+    Ok(())
+}
+
+// The end, the torn rest, the greatest id, the last and the packed transaction, and their number.
+fn numbers(
+    bytes: &[u8],
+    alloc: Global,
+) -> Result<(u64, u64, Option<Oid>, Tid, Tid, u64), ScanRefusal> {
+    let scanned = scan_bytes(alloc, bytes)?;
+    Ok((
+        scanned.end,
+        scanned.torn,
+        scanned.greatest,
+        scanned.last,
+        scanned.floor,
+        scanned.count,
+    ))
+}
+
+#[test]
+fn a_scan_tells_where_a_file_ends(rt: HostRuntime) -> Result<(), Fail> {
+    let one = (184, 0, Some(Oid(1)), Tid(FIRST), Tid(0), 1);
+    assert_eq!(rt; numbers(&TWO_OBJECTS, rt.alloc()), Ok(one));
+    let none = (4, 0, None, Tid(0), Tid(0), 0);
+    assert_eq!(rt; numbers(b"FS21", rt.alloc()), Ok(none));
+    let mut packed = TWO_OBJECTS;
+    packed[20] = b'p';
+    let floor = (184, 0, Some(Oid(1)), Tid(FIRST), Tid(FIRST), 1);
+    assert_eq!(rt; numbers(&packed, rt.alloc()), Ok(floor));
+    let mut undone = TWO_OBJECTS;
+    undone[20] = b'u';
+    let skipped = (184, 0, None, Tid(0), Tid(0), 0);
+    assert_eq!(rt; numbers(&undone, rt.alloc()), Ok(skipped));
+    let mut unfinished = TWO_OBJECTS;
+    unfinished[20] = b'c';
+    let torn = (4, 180, None, Tid(0), Tid(0), 0);
+    assert_eq!(rt; numbers(&unfinished, rt.alloc()), Ok(torn));
+    Ok(())
+}
+
+#[test]
+fn a_rest_is_torn_for_each_of_its_reasons(rt: HostRuntime) -> Result<(), Fail> {
+    let again = &TWO_OBJECTS[4..];
+    for (rest, status) in [
+        (&again[..22], b' '),
+        (again, b'c'),
+        (again, 0),
+        (&again[..179], b' '),
+    ] {
+        let mut file = Bytes::from_slice(rt.alloc(), &TWO_OBJECTS)?;
+        file.append(&rest[..16])?;
+        file.append(&[status])?;
+        file.append(&rest[17..])?;
+        let end = (184, rest.len() as u64, Some(Oid(1)), Tid(FIRST), Tid(0), 1);
+        assert_eq!(rt; numbers(file.as_slice(), rt.alloc()), Ok(end));
+    }
+    Ok(())
+}
+
+#[test]
+fn a_scan_names_the_damage_and_its_place(rt: HostRuntime) {
+    for (place, byte, kind, at) in [
+        (3, 0, Damage::BadMagic, 0),
+        (26, 1, Damage::BadLength, 4),
+        (58, 5, Damage::BadTid, 4),
+        (126, 1, Damage::BadPrev, 4),
+        (20, b'x', Damage::BadStatus, 4),
+        (183, 171, Damage::BadTail, 4),
+        (135, 1, Damage::BadVersion, 4),
+    ] {
+        let mut file = TWO_OBJECTS;
+        file[place] = byte;
+        let refused = Err(ScanRefusal::Damaged(kind, at));
+        assert_eq!(rt; numbers(&file, rt.alloc()), refused);
+    }
+}
+
+#[test]
+fn a_scan_has_the_last_record_of_each_object(rt: HostRuntime) -> Result<(), Fail> {
+    let mut records = Bytes::new(rt.alloc());
+    put_record(&mut records, 9, 0, b"nine", 0)?;
+    put_record(&mut records, 1, 103, b"new", 0)?;
+    put_record(&mut records, 1, 103, b"", 103)?;
+    let file = longer(rt.alloc(), &records)?;
+    let mut disk = MemoryDisk::new(rt.alloc(), file);
+    let scanned = scan(rt.alloc(), &mut disk).map_err(|_| "opens")?;
+    assert_eq!(rt;
+        (scanned.greatest, scanned.last, scanned.count),
+        (Some(Oid(9)), Tid(FIRST + 1), 2)
+    );
+    let mut rows = Vec::new(rt.alloc());
+    for row in scanned.rows.as_slice() {
+        rows.push((row.oid.0, row.place))?;
+    }
+    assert_eq!(rt; rows.as_slice(), [(0, 27), (1, 303), (9, 212)].as_slice());
+    Ok(())
+}
+
+#[test]
+fn a_fault_of_the_disk_ends_a_scan(rt: HostRuntime) -> Result<(), Fail> {
+    for failing in [1, 2] {
+        let bytes = Bytes::from_slice(rt.alloc(), &TWO_OBJECTS)?;
+        let plan = FaultPlan::new(Vec::from_slice(rt.alloc(), &[failing])?);
+        let mut disk = MemoryDisk::with_faults(bytes, plan);
+        assert_eq!(rt; scan(rt.alloc(), &mut disk).err(), Some(ScanRefusal::Disk));
+        assert_eq!(rt; disk.calls(), failing);
     }
     Ok(())
 }

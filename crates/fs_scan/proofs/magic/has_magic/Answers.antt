@@ -3,7 +3,7 @@ use Rattle.std.proofs.lemmas.Bool.{false≢true}
 use Rattle.std.proofs.lemmas.List.{take-append-drop}
 use Rattle.std.proofs.lemmas.Slice.Eq.{bytes_eq-Decides}
 use Rattle.fs_record.specs.File.{magic}
-use Rattle.fs_scan.proofs.plain.has_magic.Goals as goal
+use Rattle.fs_scan.proofs.magic.has_magic.Goals as goal
 
 pub returns-clause-yes : goal.returns-clause-yes
 returns-clause-yes c is =

@@ -1,0 +1,18 @@
+-- What a scan tells of a file.
+use Rattle.std.specs.Prelude.{◌≡◌, ℕ, ◌+◌, List, length}
+use Rattle.zbase.specs.Values.{last}
+use Rattle.fs_record.specs.File.{Front, rows}
+use Rattle.fs_record.specs.Opening.{Cut}
+use Rattle.fs_scan.specs.Newest.{greatest_of, AreNewest}
+use Rattle.fs_scan.specs.declared.opening.Scanned.{Scanned}
+
+-- what is told of bytes that open
+pub record Tells (bytes : List ℕ) (s : Scanned) : Type 0 where
+  pub front : Front
+  pub cut : Cut bytes front s.end
+  pub torn : s.end + s.torn ≡ length bytes
+  pub greatest : s.greatest ≡ greatest_of (rows front.records)
+  pub last : s.last ≡ last front.history
+  pub floor : s.floor ≡ front.history.floor
+  pub count : s.count ≡ length front.history.transactions
+  pub rows : AreNewest (rows front.records) s.rows
