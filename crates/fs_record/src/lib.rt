@@ -10,9 +10,11 @@ mod damage;
 mod heads;
 mod laws;
 mod reading;
+mod writing;
 
-pub use body::{Body, TxnTexts};
+pub use body::{Body, Item, TxnTexts};
 pub use damage::Damage;
 pub use heads::{DataHead, RecordRefusal, TxnHead};
-pub use laws::{file_is_history, one_more, one_opening, one_spelling};
+pub use laws::{file_is_history, one_more, one_opening, one_spelling, written_behind};
 pub use reading::{read_data_head, read_txn_head};
+pub use writing::write_txn;
