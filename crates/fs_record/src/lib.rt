@@ -10,6 +10,8 @@ mod damage;
 mod heads;
 mod laws;
 mod reading;
+#[cfg(test)]
+mod tests;
 mod writing;
 
 pub use body::{Body, Item, TxnTexts};
