@@ -6,7 +6,7 @@ use Rattle.std.proofs.lemmas.List.{length-append}
 use Rattle.std.proofs.lemmas.List.Sums.{sum_by-cons}
 use Rattle.fs_record.specs.declared.body.Item.{Item}
 use Rattle.fs_record.specs.declared.body.TxnTexts.{TxnTexts}
-use Rattle.fs_record.specs.Spelling.{Data, data_spelling, block_spelling, body_spelling, long_of, head_of, data_head, texts_spelling}
+use Rattle.fs_record.specs.Spelling.{Data, data_spelling, block_spelling, body_spelling, long_of, head_of, data_head}
 use Rattle.fs_record.specs.SpellingLaws.{length-data_head, length-block, length-texts}
 use Rattle.fs_record.specs.Written.{data_of, records_of, transaction}
 

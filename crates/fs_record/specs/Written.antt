@@ -6,7 +6,7 @@ use Rattle.fs_record.specs.declared.body.Body.{Body}
 use Rattle.fs_record.specs.declared.body.Body.TheVariants.{Full, Back}
 use Rattle.fs_record.specs.declared.body.Item.{Item}
 use Rattle.fs_record.specs.declared.body.TxnTexts.{TxnTexts}
-use Rattle.fs_record.specs.Spelling.{Data, Inside, Records, Block, texts_spelling, inside_spelling, block_spelling}
+use Rattle.fs_record.specs.Spelling.{Data, Records, Block, texts_spelling, inside_spelling, block_spelling}
 use Rattle.fs_record.specs.Fits.{FitsBody}
 use Rattle.fs_record.specs.File.{Earlier, Front, rows, value_of, last_place, is_right_body, is_counted}
 

@@ -1,10 +1,9 @@
 -- What can be written fits, and behind a file it makes a longer one.
-use Rattle.std.proofs.Common.{◌≡◌, ℕ, ◌+◌, ◌<◌, ◌≤◌, ◌^◌, Bool, true, false, ◌&&◌, ◌||◌, ◌==◌, eqb, List, [], ◌∷◌, ◌++◌, length, map, None, refl, sym, ap, subst, ◌∙◌, arith, lt-ltb, eq-eqb}
+use Rattle.std.proofs.Common.{◌≡◌, ℕ, ◌<◌, ◌≤◌, ◌^◌, true, false, ◌==◌, List, [], ◌∷◌, length, map, None, refl, ap, subst, arith, lt-ltb, eq-eqb}
 use Rattle.std.specs.List.{All, AllByRecursion, list_all}
 use Rattle.std.proofs.lemmas.Bool.Decides.{nat_tests}
 use Rattle.std.proofs.lemmas.List.Elements.{All-head, All-tail}
 use Rattle.std.proofs.lemmas.List.Sums.{sum_by-cons}
-use Rattle.zbase.specs.NumberLaws.{length-be64}
 use Rattle.zbase.specs.History.{Value, Transaction}
 use Rattle.zbase.specs.Values.{last}
 use Rattle.zbase.specs.declared.ids.Row.{Row}
@@ -12,9 +11,9 @@ use Rattle.fs_record.specs.declared.body.Body.{Body}
 use Rattle.fs_record.specs.declared.body.Body.TheVariants.{Full, Back}
 use Rattle.fs_record.specs.declared.body.Item.{Item}
 use Rattle.fs_record.specs.declared.body.TxnTexts.{TxnTexts}
-use Rattle.fs_record.specs.Spelling.{Data, Inside, Records, Block, body_length, body_spelling, long_of}
-use Rattle.fs_record.specs.Fits.{FitsDataHead, FitsTxnHead, FitsData, FitsInside, FitsBlock}
-use Rattle.fs_record.specs.File.{Earlier, Front, IsRight, rows, value_of, values_of, fault_in, fault_of, is_own, has_prev, has_body, has_no_version, is_counted, last_place, is_right_body, after, longer, after_in}
+use Rattle.fs_record.specs.Spelling.{Records, body_length, body_spelling, long_of}
+use Rattle.fs_record.specs.Fits.{FitsData, FitsBlock}
+use Rattle.fs_record.specs.File.{Earlier, Front, IsRight, rows, value_of, values_of, fault_in, is_own, has_prev, has_body, has_no_version, is_counted, last_place, is_right_body, after, longer, after_in}
 use Rattle.fs_record.specs.Written.{data_of, records_of, transaction, FitsItem, IsWritable, GoesBehind, said_by}
 use Rattle.fs_record.specs.Sizes.{record_size, records_size, long-transaction, length-transaction}
 

@@ -1,7 +1,5 @@
-use Rattle.std.proofs.Common.{arith, ap, sym}
+use Rattle.std.proofs.Common.{arith}
 use Rattle.zbase.specs.NumberLaws.{length-be64}
-use Rattle.fs_record.specs.declared.body.Item.{Item}
-use Rattle.fs_record.specs.Sizes.{record_size}
 use Rattle.fs_record.proofs.writing.put_record.Goals as goal
 
 pub put_u64-requires : goal.put_u64-requires
