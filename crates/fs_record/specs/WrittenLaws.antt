@@ -37,17 +37,17 @@ fits_records tid start (item ∷ items) t s size all =
       fits_records tid start items t s (omega (arith, whole)) (All-tail FitsItem item items all),
     )
 
-not_undone : (status : ℕ) → is_counted status ≡ true → (status == 117) ≡ false
-not_undone status counted = grind (arith, nat_tests)
+pub counted_not_undone : (status : ℕ) → is_counted status ≡ true → (status == 117) ≡ false
+counted_not_undone status counted = grind (arith, nat_tests)
 
-pub fits_transaction : (start tid status : ℕ) (texts : TxnTexts) (items : List Item) → IsWritable start tid status texts items → is_counted status ≡ true → FitsBlock (transaction start tid status texts items)
-fits_transaction start tid status texts items w counted =
+pub fits_transaction : (start tid status : ℕ) (texts : TxnTexts) (items : List Item) → IsWritable start tid status texts items → (status == 117) ≡ false → FitsBlock (transaction start tid status texts items)
+fits_transaction start tid status texts items w not_undone =
     let size = length-transaction start tid status texts items in
     let long = long-transaction start tid status texts items in
     record {
       head = record { tid = w.id; length = omega (arith, size, long, w.end); user = w.user; description = w.description; extension = w.extension };
       tail = omega (arith, size, long, w.end);
-      inside = (not_undone status counted, fits_records tid start items w.id (omega (arith, w.end)) (omega (arith, size, w.end)) w.each);
+      inside = (not_undone, fits_records tid start items w.id (omega (arith, w.end)) (omega (arith, size, w.end)) w.each);
     }
 
 -- ---- right
@@ -85,7 +85,7 @@ right_in front start tid status texts items g =
 
 pub right_behind : (front : Front) (start tid status : ℕ) (texts : TxnTexts) (items : List Item) → start ≡ front.place → IsWritable start tid status texts items → GoesBehind front tid status items → IsRight front (transaction start tid status texts items)
 right_behind front start tid status texts items at w g = record {
-  fits = fits_transaction start tid status texts items w g.counted;
+  fits = fits_transaction start tid status texts items w (counted_not_undone status g.counted);
   right = subst (λ (n : ℕ). fault_in n (last front.history) (rows front.records) (transaction start tid status texts items) (Records (records_of tid start items)) ≡ None) at (right_in front start tid status texts items g);
 }
 

@@ -2,7 +2,7 @@
 //!
 //! `specs/Spelling` says how a transaction is spelled, whatever its fields say; `specs/File` which spellings make
 //! a file one behind another, and the history that it says; `specs/Opening` where a file ends: at its end, before
-//! a torn rest, or before damage.
+//! a torn rest, or before damage; `specs/Written` which transaction is written, and what makes it right behind a file.
 #![tactic(auto)]
 
 mod body;

@@ -10,7 +10,8 @@ use std::alloc::Global;
 use std::mem;
 use zbase::{Bytes, Memory, Tid};
 
-// The functions `put_..` write into room that was made before, and so can't fail.
+// The functions `put_..` write into room that was made before, and so can't fail. Their clauses `fits` say what the
+// types of numbers say, of numbers that stand behind a reference.
 
 fn put(out: &mut Vec<u8>, bytes: &[u8])
     requires { length out.old.items + length bytes.now ≤ vec_capacity out.old }
@@ -149,7 +150,15 @@ fn records_len(items: &[Item]) -> usize
     size
 }
 
-// The transaction behind the bytes, by one reservation of its room.
+fn txn_size(texts: &TxnTexts, items: &[Item]) -> usize
+    requires { 31 + texts_size texts.now + records_size items.now < 2 ^ 64 }
+    ensures { result ≡ 31 + texts_size texts.now + records_size items.now }
+{
+    let texts_len = texts.user.len() + texts.description.len() + texts.extension.len();
+    23 + texts_len + records_len(items) + 8
+}
+
+// The transaction behind the bytes. All its room is taken before the first byte.
 #[tactic(auto, unfolding(crate::specs::Spelling::block_spelling))]
 fn append_txn(
     out: &mut Vec<u8>,
@@ -168,12 +177,12 @@ fn append_txn(
     ensures err { OnErr result (out.new.items ≡ out.old.items) }
     ensures writable { OnOk result (IsWritable start tid status texts.now items.now) }
 {
-    let texts_len = texts.user.len() + texts.description.len() + texts.extension.len();
-    let length = 23 + texts_len + records_len(items);
-    out.reserve(length + 8)?;
+    let size = txn_size(texts, items);
+    out.reserve(size)?;
+    let length = (size - 8) as u64;
     let head = TxnHead {
         tid,
-        length: length as u64,
+        length,
         status,
         user: texts.user.len() as u16,
         description: texts.description.len() as u16,
@@ -182,14 +191,15 @@ fn append_txn(
     put_txn_head(out, &head);
     put_texts(out, texts);
     put_records(out, start, tid, items);
-    put_u64(out, length as u64);
+    put_u64(out, length);
     Ok(())
 }
 
 /// Appends the one spelling of the transaction that begins at a place and writes these items.
 ///
-/// Place 4 is that of a file's first transaction, and a file's length that of one behind it. For want of memory the
-/// buffer stays as it was.
+/// The place is the length of the file that it goes behind. Each text has at most 65,535 bytes, no full body is empty,
+/// and the transaction's end is a place below 2^64. Memory comes from the buffer's own allocator, all at once; for
+/// want of it the buffer stays as it was. `writable` tells that all numbers fit, as `written_behind` asks.
 ///
 /// FileStorage format notes, "transaction record" and "data record".
 pub fn write_txn(
