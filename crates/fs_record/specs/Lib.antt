@@ -5,3 +5,6 @@ pub mod File
 pub mod FileLaws
 pub mod Opening
 pub mod UniqueLaws
+pub mod Written
+pub mod Sizes
+pub mod WrittenLaws

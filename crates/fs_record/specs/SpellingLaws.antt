@@ -121,7 +121,7 @@ no_records : (ds : List Data) → AllByRecursion FitsData ds → flat_map data_s
 no_records [] h e = refl
 no_records (d ∷ ds) h e = absurd (omega (arith, long_data d h.0.body, ap length e, length-append (data_spelling d) (flat_map data_spelling ds)))
 
-length-texts : (b : Block) → length (texts_spelling b.texts) ≡ length b.texts.user + length b.texts.description + length b.texts.extension
+pub length-texts : (b : Block) → length (texts_spelling b.texts) ≡ length b.texts.user + length b.texts.description + length b.texts.extension
 length-texts b = simp length-append
 
 same_inside : (status : ℕ) (a b : Inside) → FitsInside status a → FitsInside status b → inside_spelling a ≡ inside_spelling b → a ≡ b

@@ -2,7 +2,7 @@
 //!
 //! `specs/Spelling` says how a transaction is spelled, whatever its fields say; `specs/File` which spellings make
 //! a file one behind another, and the history that it says; `specs/Opening` where a file ends: at its end, before
-//! a torn rest, or before damage.
+//! a torn rest, or before damage; `specs/Written` which transaction is written, and what makes it right behind a file.
 #![tactic(auto)]
 
 mod body;
@@ -10,9 +10,13 @@ mod damage;
 mod heads;
 mod laws;
 mod reading;
+#[cfg(test)]
+mod tests;
+mod writing;
 
-pub use body::{Body, TxnTexts};
+pub use body::{Body, Item, TxnTexts};
 pub use damage::Damage;
 pub use heads::{DataHead, RecordRefusal, TxnHead};
-pub use laws::{file_is_history, one_more, one_opening, one_spelling};
+pub use laws::{file_is_history, one_more, one_opening, one_spelling, written_behind};
 pub use reading::{read_data_head, read_txn_head};
+pub use writing::write_txn;
