@@ -1,3 +1,2 @@
 mod Buffers
-mod OneChange
 mod Telling

@@ -5,3 +5,4 @@ pub mod Shapes
 pub mod Crashes
 pub mod MomentLaws
 pub mod Recorded
+pub mod OneChange

@@ -4,7 +4,7 @@ use Rattle.zdisk.specs.Disk.{content}
 use Rattle.zdisk.specs.Images.{IsMixture}
 use Rattle.zdisk.specs.Crashes.{IsTorn}
 use Rattle.zdisk.specs.MomentLaws.{leaves_as, becomes_as}
-use Rattle.zdisk.proofs.OneChange.{put_end, torn}
+use Rattle.zdisk.specs.OneChange.{put_end, torn}
 use Rattle.zdisk.proofs.synced.append_and_sync.Goals as goal
 
 pub write_and_sync-requires-clause-synced : goal.write_and_sync-requires-clause-synced

@@ -1,5 +1,5 @@
 use Rattle.std.proofs.Common.{take}
-use Rattle.zdisk.proofs.OneChange.{after_change, after_sync}
+use Rattle.zdisk.specs.OneChange.{after_change, after_sync}
 use Rattle.zdisk.proofs.synced.cut_and_sync.Goals as goal
 
 pub returns-in_err-cut-clause-any_moment : goal.returns-in_err-cut-clause-any_moment

@@ -4,7 +4,7 @@ use Rattle.zdisk.specs.Calls.{put}
 use Rattle.zdisk.specs.Disk.{content}
 use Rattle.zdisk.specs.Images.{IsMixture}
 use Rattle.zdisk.specs.MomentLaws.{leaves_as, becomes_as}
-use Rattle.zdisk.proofs.OneChange.{put_byte, before_or_after}
+use Rattle.zdisk.specs.OneChange.{put_byte, before_or_after}
 use Rattle.zdisk.proofs.synced.overwrite_and_sync.Goals as goal
 
 pub write_and_sync-requires-clause-synced : goal.write_and_sync-requires-clause-synced

@@ -1,5 +1,5 @@
 use Rattle.zdisk.specs.Calls.{put}
-use Rattle.zdisk.proofs.OneChange.{after_change, after_sync}
+use Rattle.zdisk.specs.OneChange.{after_change, after_sync}
 use Rattle.zdisk.proofs.synced.write_and_sync.Goals as goal
 
 pub returns-in_err-write_at-clause-any_moment : goal.returns-in_err-write_at-clause-any_moment

@@ -1,4 +1,4 @@
--- One change of a synced file, and a sync.
+-- One change of a synced file, and a sync: what a stop at any moment since may leave, also where a call failed.
 use Rattle.std.proofs.Common.{◌≡◌, ◌≢◌, ℕ, suc, ◌+◌, ◌-◌, ◌<◌, ◌≤◌, List, [], ◌∷◌, ◌++◌, length, get_or, set, take, drop, Option, Some, None, Result, Ok, Err, refl, sym, ap, subst, ◌∙◌, append_assoc, add-one, arith, inl, inr}
 use Rattle.std.specs.Prelude.{◌⊎◌, MatchResult, OnOk, IfOk}
 use Rattle.std.specs.List.{AllByRecursion}
@@ -13,7 +13,7 @@ use Rattle.zdisk.specs.Crashes.{IsSynced, LeavesFrom, Becomes, IsTorn}
 use Rattle.zdisk.specs.MomentLaws.{leaves_now, leaves_more}
 
 -- what a mixture of two contents has
-abbrev Mixes : List ℕ → List ℕ → List ℕ → Type 0
+abbrev pub Mixes : List ℕ → List ℕ → List ℕ → Type 0
 Mixes old new = Shape (HasLength (new ∷ old ∷ [])) (HasByte (new ∷ old ∷ []))
 
 mixes_old : (old new : List ℕ) → Mixes old new old
@@ -29,18 +29,18 @@ mixture old new image s = record { long = s.long; each = λ i lt. s.each i }
 abbrev pub Changes : {T E : Type 0} → (List ℕ → List ℕ) → Result T E → Held → Held → Type 0
 Changes f result held next = MatchResult result (λ _. next ≡ changed (f held.now) held) (λ _. Mixed held (f held.now) next)
 
-all_before : (held : Held) (new : List ℕ) → held.before ≡ [] → AllByRecursion (Mixes held.now new) (contents held)
+pub all_before : (held : Held) (new : List ℕ) → held.before ≡ [] → AllByRecursion (Mixes held.now new) (contents held)
 all_before held new e = (mixes_old held.now new, subst (AllByRecursion (Mixes held.now new)) (sym e) tt)
 
-all_changed : {T E : Type 0} (f : List ℕ → List ℕ) (held next : Held) (r : Result T E) → held.before ≡ [] → Changes f r held next → AllByRecursion (Mixes held.now (f held.now)) (contents next)
+pub all_changed : {T E : Type 0} (f : List ℕ → List ℕ) (held next : Held) (r : Result T E) → held.before ≡ [] → Changes f r held next → AllByRecursion (Mixes held.now (f held.now)) (contents next)
 all_changed f held next (Ok x) e c = subst (λ (h : Held). AllByRecursion (Mixes held.now (f held.now)) (contents h)) (sym c) (mixes_new held.now (f held.now), all_before held (f held.now) e)
 all_changed f held next (Err x) e c = shape_of_mixed _ _ held next (f held.now) (all_before held (f held.now) e) (mixes_new held.now (f held.now)) c
 
-all_synced : {T E : Type 0} (old new : List ℕ) (held next : Held) (r : Result T E) → AllByRecursion (Mixes old new) (contents held) → Syncs r held next → AllByRecursion (Mixes old new) (contents next)
+pub all_synced : {T E : Type 0} (old new : List ℕ) (held next : Held) (r : Result T E) → AllByRecursion (Mixes old new) (contents held) → Syncs r held next → AllByRecursion (Mixes old new) (contents next)
 all_synced old new held next (Ok x) all s = subst (λ (h : Held). AllByRecursion (Mixes old new) (contents h)) (sym s) (all.0, tt)
 all_synced old new held next (Err x) all a = shape_of_any _ _ held next all a
 
-images : (old new : List ℕ) (held : Held) → AllByRecursion (Mixes old new) (contents held) → (image : List ℕ) → IsImage held image → IsMixture old new image
+pub images : (old new : List ℕ) (held : Held) → AllByRecursion (Mixes old new) (contents held) → (image : List ℕ) → IsImage held image → IsMixture old new image
 images old new held all image is = mixture old new image (shape_of_image _ _ held image all is)
 
 -- once the change was called
