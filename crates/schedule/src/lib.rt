@@ -7,6 +7,7 @@
 #![tactic(auto)]
 
 mod item;
+mod item_writer;
 mod laws;
 mod line;
 mod reader;
@@ -17,6 +18,7 @@ mod worked;
 mod writer;
 
 pub use item::{Item2, Schedule};
+pub use item_writer::write_item;
 pub use laws::{one_bad_line, one_schedule, runs_are_serial};
 pub use line::Line;
 pub use reader::{ScheduleRefusal, read_schedule};

@@ -1,4 +1,4 @@
-use crate::{Item2, Line, ScheduleRefusal, read_schedule, write_line};
+use crate::{Item2, Line, ScheduleRefusal, read_schedule, write_item, write_line};
 use evaluator::Ask;
 use std::alloc::Global;
 use std::test::Fail;
@@ -219,4 +219,31 @@ fn a_bad_line_has_its_number(rt: HostRuntime) {
         };
         assert_eq!(rt; refusal, ScheduleRefusal::BadLine(line), "{text}");
     }
+}
+
+/// The text of a schedule's line, behind a front that stays.
+fn is_item(alloc: Global, item: &Item2, text: &[u8]) -> Result<bool, Memory> {
+    let mut out = bytes(alloc, b"front")?;
+    write_item(item, &mut out)?;
+    Ok(out.as_slice().strip_prefix(b"front") == Some(text))
+}
+
+#[test]
+fn lines_of_schedules_are_written(rt: HostRuntime) -> Result<(), Fail> {
+    let alloc = rt.alloc();
+    for (item, text) in [
+        (
+            Item2::Request(15, bytes(alloc, b"log")?),
+            "request 15 3\nlog\n",
+        ),
+        (Item2::Request(0, bytes(alloc, b"")?), "request 0 0\n\n"),
+        (Item2::Step(10), "step 10\n"),
+        (Item2::Clock(FIRST), "clock 0331620000000000\n"),
+        (Item2::Stop(1, u64::MAX), "stop 1 18446744073709551615\n"),
+        (Item2::Fail(20, 0), "fail 20 0\n"),
+        (Item2::End, "end\n"),
+    ] {
+        assert!(rt; is_item(alloc, &item, text.as_bytes())?, "{text}");
+    }
+    Ok(())
 }
