@@ -1,18 +1,18 @@
 -- What is read as a part is spelled so, and what is spelled so is read.
-use Rattle.std.proofs.Common.{◌≡◌, ℕ, ◌<◌, ◌||◌, ◌⊎◌, inl, inr, true, false, List, [], ◌++◌, length, take, drop, codes, Option, Some, None, refl, sym, ap, ap₂, subst, ◌∙◌, append_assoc, arith}
-use Rattle.std.specs.Prelude.{is_some}
+use Rattle.std.proofs.Common.{◌≡◌, ℕ, ◌<◌, ◌||◌, ◌⊎◌, inl, inr, true, false, List, [], ◌∷◌, ◌++◌, length, take, drop, codes, Option, Some, None, refl, sym, ap, ap₂, subst, ◌∙◌, append_assoc, arith}
+use Rattle.std.specs.Prelude.{is_some, ◌↔◌}
 use Rattle.std.proofs.lemmas.List.{take-append-drop}
 use Rattle.std.proofs.Math.Seq.{take-append_seam, drop-append_seam}
 use Rattle.dtml_lex.specs.declared.part.TagName.{TagName}
 use Rattle.dtml_lex.specs.declared.part.Attribute.{Attribute}
 use Rattle.dtml_lex.specs.declared.part.PartKind.{PartKind}
 use Rattle.dtml_lex.specs.declared.part.PartKind.TheVariants.{Plain, Entity, Opening, Closing}
-use Rattle.dtml_lex.specs.Spelling.{tag_text, IsPart}
+use Rattle.dtml_lex.specs.Spelling.{tag_text, begins_tag, IsPart, IsBadTag}
 use Rattle.dtml_lex.specs.Reading.{◌>>=◌, Reads, strip, begins, tag_at, entity_at, begins_part, plain_len, text_from, closing_from, opening_from, part_at}
 use Rattle.dtml_lex.proofs.Fronts.{bind_some, some_is, two, stripped, strips}
 use Rattle.dtml_lex.proofs.Tags.{tag_is, tag_read}
 use Rattle.dtml_lex.proofs.Entities.{entity_is, entity_read}
-use Rattle.dtml_lex.proofs.Beginnings.{none_of, neither, yes_begins, no_begins}
+use Rattle.dtml_lex.proofs.Beginnings.{none_of, neither, begins_yes, yes_begins, no_begins}
 use Rattle.dtml_lex.proofs.PlainText.{plain_is, plain_read}
 
 -- what a part is at the front of a text
@@ -107,3 +107,36 @@ part_long (Plain plain) text rest (same, is) = is.0
 part_long (Entity name) text rest (is, fits) = rw is (omega arith)
 part_long (Opening name attributes) text rest (inner, is, spelled) = rw is (omega arith)
 part_long (Closing name attributes) text rest (inner, is, spelled) = rw is (omega arith)
+
+-- ---- tags that fit no form
+
+read_nothing : (bs : List ℕ) → part_at bs ≡ None → begins_tag bs ≡ true
+read_nothing bs e = (elim (begins_part bs) as (λ t. begins_part bs ≡ t → begins_tag bs ≡ true) [
+  | true ↦ λ begins. elim (begins_yes bs begins) as (λ _. begins_tag bs ≡ true) [
+    | inl tag ↦ tag
+    | inr entity ↦
+        let regroup : bs ≡ (((codes "&dtml-" ++ entity.0) ++ codes ";") ++ entity.1) = entity.2 in
+        let read = part_read (Entity entity.0) ((codes "&dtml-" ++ entity.0) ++ codes ";") entity.1 (refl, entity.3) in
+        let found = ap part_at regroup ∙ read in
+        absurd cc
+  ]
+  | false ↦ λ other. let read = text_part_read bs other in absurd cc
+]) refl
+
+no_reading : (bs : List ℕ) → part_at bs ≡ None → (kind : PartKind) (text rest : List ℕ) → bs ≡ text ++ rest → ¬ IsPart kind text rest
+no_reading bs e kind text rest whole part =
+    let found = ap part_at whole ∙ part_read kind text rest part in
+    absurd cc
+
+tag_long : (bs : List ℕ) → begins_tag bs ≡ true → 0 < length bs
+tag_long [] e = absurd cc
+tag_long (b ∷ bs) e = omega arith
+
+bad_tag : (bs : List ℕ) (o : Reads PartKind) → part_at bs ≡ o → IsBadTag bs → o ≡ None
+bad_tag bs None e bad = refl
+bad_tag bs (Some x) e bad =
+    let part = part_is bs x.0 x.1 (tag_long bs bad.0) e in
+    absurd (bad.1 x.0 part.0 x.1 part.1 part.2)
+
+pub refused_is : (bs : List ℕ) → (part_at bs ≡ None) ↔ IsBadTag bs
+refused_is bs = (λ e. (read_nothing bs e, no_reading bs e), λ bad. bad_tag bs (part_at bs) refl bad)

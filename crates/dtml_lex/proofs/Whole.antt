@@ -4,11 +4,11 @@ use Rattle.std.specs.List.{flat_map}
 use Rattle.std.specs.Str.{IsUtf8, IsCharBoundary}
 use Rattle.std.proofs.lemmas.List.{take-append-drop, length-take-le, drop-drop}
 use Rattle.std.proofs.lemmas.Str.{IsCharBoundary-at_seam}
-use Rattle.std.proofs.Math.Seq.{drop-append_seam, drop-length}
+use Rattle.std.proofs.Math.Seq.{take-append_seam, drop-append_seam, drop-length}
 use Rattle.dtml_lex.specs.declared.part.PartKind.{PartKind}
 use Rattle.dtml_lex.specs.declared.part.SourcePart.{SourcePart}
 use Rattle.dtml_lex.specs.Reading.{part_at}
-use Rattle.dtml_lex.specs.Source.{IsPartAt, AreParts, part_text}
+use Rattle.dtml_lex.specs.Source.{IsPartAt, IsSpelled, AreParts, part_text}
 use Rattle.dtml_lex.proofs.Fronts.{two, pair_is}
 use Rattle.dtml_lex.proofs.Parts.{part_is, part_long}
 
@@ -19,26 +19,29 @@ rest_within source at kind rest inside is =
     let part = part_is (drop at source) kind rest (omega (arith, length-drop at source)) is in
     omega (arith, ap length part.1, length-append part.0 rest, length-drop at source)
 
--- where a part ends
+-- where a part ends, and how it is spelled
 pub part_stands : (source : List ℕ) (at end : ℕ) (kind : PartKind) (rest : List ℕ) → at < length source → IsUtf8 rest → part_at (drop at source) ≡ Some (kind, rest)
-    → end + length rest ≡ length source → IsPartAt source at (record { start = at; end = end; kind = kind })
+    → end + length rest ≡ length source
+    → IsPartAt source at (record { start = at; end = end; kind = kind }) × IsSpelled source (record { start = at; end = end; kind = kind })
 part_stands source at end kind rest inside text is ends =
     let some : 0 < length (drop at source) = omega (arith, length-drop at source) in
     let part = part_is (drop at source) kind rest some is in
     let long = part_long kind part.0 rest part.2 in
-    let front = take at source ++ part.0 in
     let whole : source ≡ (take at source ++ part.0) ++ rest =
-    sym (take-append-drop at source) ∙ (ap (λ (t : List ℕ). take at source ++ t) part.1 ∙ sym (append_assoc (take at source) part.0 rest)) in
-    let lengths = ap length whole in
-    let place : length (take at source ++ part.0) ≡ end =
-    omega (arith, lengths, length-append (take at source ++ part.0) rest) in
+        sym (take-append-drop at source) ∙ (ap (λ (t : List ℕ). take at source ++ t) part.1 ∙ sym (append_assoc (take at source) part.0 rest)) in
+    let front : length (take at source) ≡ at = length-take-le at source (omega arith) in
+    let lengths = length-append (take at source) part.0 in
+    let place : length (take at source ++ part.0) ≡ end = omega (arith, ap length whole, length-append (take at source ++ part.0) rest) in
     let behind : drop end source ≡ rest = ap₂ (λ (n : ℕ) (t : List ℕ). drop n t) (sym place) whole ∙ drop-append_seam (take at source ++ part.0) rest in
-    record {
+    let long_so : length part.0 ≡ end - at = omega arith in
+    let shown : take (end - at) (drop at source) ≡ part.0 = ap₂ (λ (n : ℕ) (t : List ℕ). take n t) (sym long_so) part.1 ∙ take-append_seam part.0 rest in
+    let stands : IsPartAt source at (record { start = at; end = end; kind = kind }) = record {
       start = refl;
-      forward = omega (arith, place, long, length-append (take at source) part.0, length-take-le at source (omega arith));
+      forward = omega arith;
       boundary = subst (IsCharBoundary source) place (IsCharBoundary-at_seam source (take at source ++ part.0) rest whole text);
       kind = is ∙ ap (λ (t : List ℕ). two kind t) (sym behind);
-    }
+    } in
+    (stands, rw (shown, behind) part.2)
 
 -- ---- all parts
 

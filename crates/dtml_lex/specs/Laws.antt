@@ -1,9 +1,9 @@
 -- What holds of the parts of every source.
-use Rattle.std.specs.Prelude.{◌≡◌, ℕ, ◌<◌, List, ◌++◌, length, Some}
+use Rattle.std.specs.Prelude.{◌≡◌, ℕ, ◌<◌, List, ◌++◌, length, Some, None, ◌↔◌}
 use Rattle.std.specs.List.{flat_map}
 use Rattle.dtml_lex.specs.declared.part.PartKind.{PartKind}
 use Rattle.dtml_lex.specs.declared.part.SourcePart.{SourcePart}
-use Rattle.dtml_lex.specs.Spelling.{IsPart}
+use Rattle.dtml_lex.specs.Spelling.{IsPart, IsBadTag}
 use Rattle.dtml_lex.specs.Reading.{part_at}
 use Rattle.dtml_lex.specs.Source.{AreParts, part_text}
 
@@ -12,9 +12,13 @@ abbrev pub ReadIsSpelled : Type 0
 ReadIsSpelled = (bytes : List ℕ) (kind : PartKind) (rest : List ℕ) → 0 < length bytes → part_at bytes ≡ Some (kind, rest)
     → (text : List ℕ) × (bytes ≡ text ++ rest) × IsPart kind text rest
 
--- and what is spelled so is read: so the part at the front is the only one, and where none is read there is none
+-- and what is spelled so is read: so the part at the front is the only one
 abbrev pub SpelledIsRead : Type 0
 SpelledIsRead = (kind : PartKind) (text rest : List ℕ) → IsPart kind text rest → part_at (text ++ rest) ≡ Some (kind, rest)
+
+-- where nothing is read a tag begins, but no part is spelled there; and nothing is read in no other place
+abbrev pub RefusedIsUnspelled : Type 0
+RefusedIsUnspelled = (bytes : List ℕ) → (part_at bytes ≡ None) ↔ IsBadTag bytes
 
 -- the texts of all parts, joined, are the source
 abbrev pub JoinedAreTheSource : Type 0

@@ -4,7 +4,16 @@ use Rattle.std.specs.Str.{IsCharBoundary}
 use Rattle.dtml_lex.specs.declared.part.SourcePart.{SourcePart}
 use Rattle.dtml_lex.specs.declared.refusal.DtmlRefusal.{DtmlRefusal}
 use Rattle.dtml_lex.specs.declared.refusal.DtmlRefusal.TheVariants.{Memory, BadTag}
+use Rattle.dtml_lex.specs.Spelling.{IsPart}
 use Rattle.dtml_lex.specs.Reading.{part_at}
+
+-- the text of a part
+abbrev pub part_text : List ℕ → SourcePart → List ℕ
+part_text source part = take (part.end - part.start) (drop part.start source)
+
+-- its text is spelled as its kind says
+abbrev pub IsSpelled : List ℕ → SourcePart → Type 0
+IsSpelled source part = IsPart part.kind (part_text source part) (drop part.end source)
 
 -- the part that stands at a place of a source
 pub record IsPartAt (source : List ℕ) (at : ℕ) (part : SourcePart) : Type 0 where
@@ -23,7 +32,3 @@ Refuses source at _ = ⊥
 abbrev pub AreParts : List ℕ → ℕ → List SourcePart → Type 0
 AreParts source at [] = at ≡ length source
 AreParts source at (part ∷ more) = IsPartAt source at part × AreParts source part.end more
-
--- the text of a part
-abbrev pub part_text : List ℕ → SourcePart → List ℕ
-part_text source part = take (part.end - part.start) (drop part.start source)

@@ -107,3 +107,7 @@ IsPart (Plain plain) text rest = (text ≡ plain) × IsPlain text rest
 IsPart (Entity name) text rest = (text ≡ codes "&dtml-" ++ name ++ codes ";") × IsTrue (is_name name)
 IsPart (Opening name attributes) text rest = SpellsTag (codes "<dtml-") name attributes text
 IsPart (Closing name attributes) text rest = SpellsTag (codes "</dtml-") name attributes text
+
+-- a tag begins at the front, and no part is spelled there
+abbrev pub IsBadTag : List ℕ → Type 0
+IsBadTag bytes = IsTrue (begins_tag bytes) × ((kind : PartKind) (text rest : List ℕ) → bytes ≡ text ++ rest → ¬ IsPart kind text rest)

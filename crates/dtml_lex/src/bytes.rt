@@ -1,6 +1,5 @@
-ghost use Rattle.std.specs.Prelude.{◌≡◌, ◌≤◌, ◌<◌, ◌+◌, Bool, length, option_map, IfSome};
+ghost use Rattle.std.specs.Prelude.{◌≡◌, ◌+◌, length, option_map, IfSome};
 ghost use Rattle.std.specs.List.{prefix_len};
-ghost use Rattle.dtml_lex.specs.Spelling.{is_blank, is_word_byte, is_lower, is_letter, is_name_byte, is_unquoted};
 ghost use Rattle.dtml_lex.specs.Reading.{run, begins, strip};
 ghost use Rattle.dtml_lex.specs.Classes.{has};
 
@@ -50,7 +49,7 @@ fn run_len(class: Class, bytes: &[u8]) -> usize
 pub(crate) fn run(class: Class, text: &str) -> (&str, &str)
     ensures front { result.0.now ≡ (run (has class) text.now).0 }
     ensures behind { result.1.now ≡ (run (has class) text.now).1 }
-    ensures within { length result.0.now + length result.1.now ≡ length text.now }
+    ensures lengths { length result.0.now + length result.1.now ≡ length text.now }
 {
     text.split_at(run_len(class, text.as_bytes()))
 }
@@ -69,7 +68,7 @@ pub(crate) fn begins(class: Class, text: &str) -> bool
 #[tactic(auto, using(crate::proofs::Stripping::strip_prefix_is))]
 pub(crate) fn strip<'a>(text: &'a str, front: &str) -> Option<&'a str>
     ensures is { option_map (λ rest. rest.now) result ≡ strip text.now front.now }
-    ensures within { IfSome result (λ rest. length rest.now + length front.now ≡ length text.now) }
+    ensures lengths { IfSome result (λ rest. length rest.now + length front.now ≡ length text.now) }
 {
     text.strip_prefix(front)
 }

@@ -1,8 +1,8 @@
-ghost use Rattle.std.specs.Prelude.{◌≡◌, ◌≤◌, ◌<◌, ◌+◌, Bool, length, drop, option_map, is_some, IfOk, IfErr, IfSome, IfNone};
+ghost use Rattle.std.specs.Prelude.{◌≡◌, ◌<◌, length, drop, option_map, IfOk, IfErr, IfSome, IfNone};
 ghost use Rattle.std.specs.Bool.{OnTrue};
 ghost use Rattle.std.specs.Str.{IsCharBoundary};
-ghost use Rattle.dtml_lex.specs.Reading.{strip, name_at, entity_at, begins_part, plain_len, part_at};
-ghost use Rattle.dtml_lex.specs.Source.{IsPartAt, Refuses};
+ghost use Rattle.dtml_lex.specs.Reading.{name_at, entity_at, begins_part, plain_len, part_at};
+ghost use Rattle.dtml_lex.specs.Source.{IsPartAt, IsSpelled, Refuses};
 
 use crate::bytes::{Class, begins, run, strip};
 use crate::tag::tag_of;
@@ -103,6 +103,7 @@ fn part_of(alloc: Global, text: &str) -> Result<Option<(PartKind, &str)>, Memory
 pub fn next_part(alloc: Global, source: &str, at: usize) -> Result<Option<SourcePart>, DtmlRefusal>
     requires { IsCharBoundary source.now at }
     ensures part { IfOk result (λ found. IfSome found (IsPartAt source.now at)) }
+    ensures spelled { IfOk result (λ found. IfSome found (IsSpelled source.now)) }
     ensures end { IfOk result (λ found. IfNone found (at ≡ length source.now)) }
     ensures refused { IfErr result (Refuses source.now at) }
 {

@@ -1,5 +1,4 @@
 ghost use Rattle.std.specs.Prelude.{◌≡◌, option_map, IfOk};
-ghost use Rattle.std.specs.Str.{bytes_eq};
 ghost use Rattle.dtml_lex.specs.Spelling.{tag_text};
 ghost use Rattle.dtml_lex.specs.Reading.{tag_named, tag_at};
 

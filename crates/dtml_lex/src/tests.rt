@@ -1,5 +1,3 @@
-ghost use Rattle.std.specs.Prelude.{◌≡◌};
-
 use crate::{Attribute, Attributes, DtmlRefusal, PartKind, TagName, next_part};
 use std::alloc::{AllocError, Global};
 use std::process::Abort;
