@@ -28,7 +28,7 @@ part_stands source at end kind rest inside text is ends =
     let part = part_is (drop at source) kind rest some is in
     let long = part_long kind part.0 rest part.2 in
     let whole : source ≡ (take at source ++ part.0) ++ rest =
-        sym (take-append-drop at source) ∙ (ap (λ (t : List ℕ). take at source ++ t) part.1 ∙ sym (append_assoc (take at source) part.0 rest)) in
+    sym (take-append-drop at source) ∙ (ap (λ (t : List ℕ). take at source ++ t) part.1 ∙ sym (append_assoc (take at source) part.0 rest)) in
     let front : length (take at source) ≡ at = length-take-le at source (omega arith) in
     let lengths = length-append (take at source) part.0 in
     let place : length (take at source ++ part.0) ≡ end = omega (arith, ap length whole, length-append (take at source ++ part.0) rest) in
