@@ -39,7 +39,7 @@ part_stands source at end kind rest inside text is ends =
       start = refl;
       forward = omega arith;
       boundary = subst (IsCharBoundary source) place (IsCharBoundary-at_seam source (take at source ++ part.0) rest whole text);
-      kind = is ∙ ap (λ (t : List ℕ). two kind t) (sym behind);
+      read = is ∙ ap (λ (t : List ℕ). two kind t) (sym behind);
     } in
     (stands, rw (shown, behind) part.2)
 
@@ -69,7 +69,7 @@ made start end kind = record { start = start; end = end; kind = kind }
 
 same_part : (source : List ℕ) (at : ℕ) (part other : SourcePart) → IsPartAt source at part → IsPartAt source at other → part ≡ other
 same_part source at part other is also =
-    let read = pair_is part.kind other.kind (drop part.end source) (drop other.end source) (sym is.kind ∙ also.kind) in
+    let read = pair_is part.kind other.kind (drop part.end source) (drop other.end source) (sym is.read ∙ also.read) in
     let end : part.end ≡ other.end = omega (arith, is.boundary.0, also.boundary.0, ap length read.1, length-drop part.end source, length-drop other.end source) in
     let start : part.start ≡ other.start = is.start ∙ sym also.start in
     ap (λ (n : ℕ). made n part.end part.kind) start

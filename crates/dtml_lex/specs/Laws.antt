@@ -16,7 +16,7 @@ ReadIsSpelled = (bytes : List ℕ) (kind : PartKind) (rest : List ℕ) → 0 < l
 abbrev pub SpelledIsRead : Type 0
 SpelledIsRead = (kind : PartKind) (text rest : List ℕ) → IsPart kind text rest → part_at (text ++ rest) ≡ Some (kind, rest)
 
--- where nothing is read a tag begins, but no part is spelled there; and nothing is read in no other place
+-- nothing is read exactly where a tag begins and no part is spelled
 abbrev pub RefusedIsUnspelled : Type 0
 RefusedIsUnspelled = (bytes : List ℕ) → (part_at bytes ≡ None) ↔ IsBadTag bytes
 

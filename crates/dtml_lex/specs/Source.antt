@@ -20,7 +20,7 @@ pub record IsPartAt (source : List ℕ) (at : ℕ) (part : SourcePart) : Type 0 
   pub start : part.start ≡ at
   pub forward : at < part.end
   pub boundary : IsCharBoundary source part.end
-  pub kind : part_at (drop at source) ≡ Some (part.kind, drop part.end source)
+  pub read : part_at (drop at source) ≡ Some (part.kind, drop part.end source)
 
 -- a tag that doesn't fit its form stands at a place, or memory ran out
 abbrev pub Refuses : List ℕ → ℕ → DtmlRefusal → Type 0
