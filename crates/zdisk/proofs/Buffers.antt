@@ -1,11 +1,10 @@
 -- The buffer of a disk in memory: what a write makes of it, and what takes the write back.
-use Rattle.std.proofs.Common.{◌≡◌, ℕ, ◌+◌, ◌-◌, ◌<◌, ◌≤◌, max, List, [], ◌∷◌, ◌++◌, length, take, drop, refl, sym, ap, ◌∙◌, append_assoc, arith, inl, inr}
-use Rattle.std.proofs.lemmas.List.{length-append, length-take, length-take-le, length-drop, take-append-drop, take_at, drop_at, take-take, take_all, drop_all, drop-drop, drop-take, append-nil}
+use Rattle.std.proofs.Common.{◌≡◌, ℕ, ◌+◌, ◌-◌, ◌≤◌, max, List, [], ◌++◌, length, take, drop, sym, ap, ◌∙◌, append_assoc, arith, inl, inr}
+use Rattle.std.proofs.lemmas.List.{length-append, length-take, length-take-le, take-append-drop, take_at, drop_at, take-take, drop_all, drop-drop, drop-take, append-nil}
 use Rattle.std.proofs.lemmas.Bool.{cases_lt}
 use Rattle.std.proofs.Math.Seq.{take-append-add}
 use Rattle.zdisk.specs.Calls.{put}
 use Rattle.zdisk.specs.Recorded.{Buffer, last_of, undone}
-use Rattle.zdisk.specs.declared.record.Entry.{Entry}
 use Rattle.zdisk.specs.declared.record.Entry.TheVariants as entries
 
 -- the front of a written content: what stood before the piece, and the piece

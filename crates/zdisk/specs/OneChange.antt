@@ -1,15 +1,15 @@
 -- One change of a synced file, and a sync: what a stop at any moment since may leave, also where a call failed.
 use Rattle.std.proofs.Common.{◌≡◌, ◌≢◌, ℕ, suc, ◌+◌, ◌-◌, ◌<◌, ◌≤◌, List, [], ◌∷◌, ◌++◌, length, get_or, set, take, drop, Option, Some, None, Result, Ok, Err, refl, sym, ap, subst, ◌∙◌, append_assoc, add-one, arith, inl, inr}
-use Rattle.std.specs.Prelude.{◌⊎◌, MatchResult, OnOk, IfOk}
+use Rattle.std.specs.Prelude.{◌⊎◌, MatchResult}
 use Rattle.std.specs.List.{AllByRecursion}
 use Rattle.std.specs.Option.{ForSome}
-use Rattle.std.proofs.lemmas.List.{ext_get_or, length-append, length-take-le, length-drop, length-set, take-append-drop, get_or-take, get_or-drop, get_or_past, get_or_append_left, get_or-append-add, get_or-set_same, get_or-set_other, set_split, take_all, drop_all, append-nil}
+use Rattle.std.proofs.lemmas.List.{ext_get_or, length-append, length-take-le, length-drop, length-set, take-append-drop, get_or-take, get_or-drop, get_or_past, get_or_append_left, get_or-append-add, get_or-set_other, set_split, take_all, drop_all, append-nil}
 use Rattle.std.proofs.lemmas.Bool.{cases_eq, cases_lt}
-use Rattle.zdisk.specs.Disk.{Held, Told, content}
+use Rattle.zdisk.specs.Disk.{Held, Told}
 use Rattle.zdisk.specs.Images.{contents, HasLength, HasByte, IsImage, IsMixture, moment}
-use Rattle.zdisk.specs.Calls.{put, changed, Mixed, AnyImage, Syncs, Follows}
+use Rattle.zdisk.specs.Calls.{put, changed, Mixed, Syncs, Follows}
 use Rattle.zdisk.specs.Shapes.{Shape, shape_of_image, shape_of_mixed, shape_of_any}
-use Rattle.zdisk.specs.Crashes.{IsSynced, LeavesFrom, Becomes, IsTorn}
+use Rattle.zdisk.specs.Crashes.{IsSynced, LeavesFrom, IsTorn}
 use Rattle.zdisk.specs.MomentLaws.{leaves_now, leaves_more}
 
 -- what a mixture of two contents has

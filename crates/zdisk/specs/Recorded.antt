@@ -2,7 +2,7 @@
 --
 -- The disk keeps the buffer as it is now and what takes each call back, so that a write costs the bytes that it
 -- writes and a cut none. What was held before is told from the newest call backwards.
-use Rattle.std.specs.Prelude.{◌≡◌, ℕ, ◌+◌, ◌-◌, List, [], ◌∷◌, ◌++◌, length, take, drop, reverse}
+use Rattle.std.specs.Prelude.{ℕ, ◌+◌, ◌-◌, List, [], ◌∷◌, ◌++◌, length, take, drop, reverse}
 use Rattle.zdisk.specs.Disk.{Held, Told, synced}
 use Rattle.zdisk.specs.Calls.{changed}
 use Rattle.zdisk.specs.declared.record.Entry.{Entry}

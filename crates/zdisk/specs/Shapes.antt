@@ -1,11 +1,10 @@
 -- What holds of the length and of each byte of every content holds of every image, also after a call that failed.
-use Rattle.std.proofs.Common.{◌≡◌, ℕ, ◌<◌, ◌≤◌, List, [], ◌∷◌, length, get_or, sym, subst, arith, inl, inr}
-use Rattle.std.specs.Prelude.{◌⊎◌}
+use Rattle.std.proofs.Common.{ℕ, ◌≤◌, List, [], ◌∷◌, length, get_or, sym, subst, arith, inl, inr}
 use Rattle.std.specs.List.{AllByRecursion}
 use Rattle.std.proofs.lemmas.List.{get_or_past}
 use Rattle.std.proofs.lemmas.Bool.{cases_lt}
 use Rattle.zdisk.specs.Disk.{Held}
-use Rattle.zdisk.specs.Images.{contents, HasLength, HasByte, IsImage, IsMixture}
+use Rattle.zdisk.specs.Images.{contents, HasLength, HasByte, IsImage}
 use Rattle.zdisk.specs.Calls.{Mixed, AnyImage}
 
 -- a property of lengths and one of bytes by their places; past the end a byte counts as 0

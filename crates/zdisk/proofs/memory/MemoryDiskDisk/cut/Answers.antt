@@ -1,5 +1,5 @@
 use Rattle.zdisk.proofs.Telling.{place_within, failed_cut, cut_to}
-use Rattle.std.proofs.Common.{◌≤◌, length, arith}
+use Rattle.std.proofs.Common.{◌≤◌, arith}
 use Rattle.zdisk.proofs.memory.MemoryDiskDisk.cut.Goals as goal
 
 pub returns-then-is_err-clause-held : goal.returns-then-is_err-clause-held

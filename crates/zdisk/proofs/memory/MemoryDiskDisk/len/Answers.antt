@@ -1,4 +1,4 @@
-use Rattle.std.proofs.Common.{sym, ap, ◌∙◌, arith, length}
+use Rattle.std.proofs.Common.{sym, ap, ◌∙◌, length}
 use Rattle.std.proofs.lemmas.List.{length-take-le}
 use Rattle.zdisk.proofs.Telling.{now_told}
 use Rattle.zdisk.proofs.memory.MemoryDiskDisk.len.Goals as goal

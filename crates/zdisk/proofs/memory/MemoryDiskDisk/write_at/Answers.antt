@@ -1,4 +1,4 @@
-use Rattle.std.proofs.Common.{◌≡◌, ◌+◌, ◌≤◌, max, length, arith}
+use Rattle.std.proofs.Common.{◌≤◌, arith}
 use Rattle.zdisk.proofs.Telling.{place_within, failed_write, wrote_at, written_within}
 use Rattle.zdisk.proofs.memory.MemoryDiskDisk.write_at.Goals as goal
 
