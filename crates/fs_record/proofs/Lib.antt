@@ -1,3 +1,1 @@
-pub mod HeadFields
 pub mod Growing
-pub mod Unique

@@ -5,6 +5,12 @@ pub mod File
 pub mod FileLaws
 pub mod Opening
 pub mod UniqueLaws
+pub mod OpeningLaws
 pub mod Written
 pub mod Sizes
 pub mod WrittenLaws
+pub mod Reading
+pub mod HeadLaws
+pub mod RecordLaws
+pub mod BlockLaws
+pub mod ReadingLaws

@@ -1,4 +1,4 @@
-ghost use Rattle.std.specs.Prelude.{◌≡◌, ◌++◌, ℕ, List, length};
+ghost use Rattle.std.specs.Prelude.{◌≡◌, ◌⊎◌, ◌↔◌, ◌++◌, ◌<◌, ℕ, List, length, All, Some, None};
 ghost use Rattle.zbase.specs.History.{IsHistory};
 ghost use Rattle.fs_record.specs.Fits.{FitsBlock};
 ghost use Rattle.fs_record.specs.Spelling.{Block, block_spelling};
@@ -6,7 +6,8 @@ ghost use Rattle.fs_record.specs.File.{Front, IsFile, IsRight, after, longer};
 ghost use Rattle.fs_record.specs.Written.{transaction, IsWritable, GoesBehind, said_by};
 ghost use Rattle.fs_record.specs.declared.body.Item.{Item};
 ghost use Rattle.fs_record.specs.declared.body.TxnTexts.{TxnTexts};
-ghost use Rattle.fs_record.specs.Opening.{Cut, Damaged};
+ghost use Rattle.fs_record.specs.Opening.{NoBlock, Stands, Cut, Damaged};
+ghost use Rattle.fs_record.specs.Reading.{block_read, Opens, Broken, opening_of};
 ghost use Rattle.fs_record.specs.declared.damage.Damage.{Damage as Kind};
 
 /// No transaction's spelling begins another's.
@@ -31,9 +32,18 @@ pub fn file_is_history()
     ensures place { (bytes : List ℕ) (front : Front) → IsFile bytes front → front.place ≡ length bytes }
 {}
 
-/// Bytes open in at most one way: with one front, cut at one place, or with one damage at one place.
+/// Bytes open in exactly one way: with one front, cut at one place, or with one damage at one place.
 pub fn one_opening()
+    ensures either { (bytes : List ℕ) → All (λ byte. byte < 256) bytes → ((front : Front) × (n : ℕ) × Cut bytes front n) ⊎ ((kind : Kind) × (n : ℕ) × Damaged bytes n kind) }
     ensures cut { (bytes : List ℕ) (f g : Front) (m n : ℕ) → Cut bytes f m → Cut bytes g n → (f ≡ g) × (m ≡ n) }
     ensures not_both { (bytes : List ℕ) (f : Front) (m n : ℕ) (kind : Kind) → Cut bytes f m → Damaged bytes n kind → ⊥ }
     ensures damage { (bytes : List ℕ) (m n : ℕ) (k j : Kind) → Damaged bytes m k → Damaged bytes n j → (m ≡ n) × (k ≡ j) }
+{}
+
+/// Reading forward finds what stands at the front, and what bytes open to, and nothing else.
+pub fn reading_finds()
+    ensures block { (bytes : List ℕ) → All (λ byte. byte < 256) bytes → (b : Block) (more : List ℕ) → block_read bytes ≡ Some (b, more) ↔ Stands b bytes more }
+    ensures no_block { (bytes : List ℕ) → All (λ byte. byte < 256) bytes → block_read bytes ≡ None ↔ NoBlock bytes }
+    ensures cut { (bytes : List ℕ) → All (λ byte. byte < 256) bytes → (front : Front) (n : ℕ) → opening_of bytes ≡ Opens front n ↔ Cut bytes front n }
+    ensures damaged { (bytes : List ℕ) → All (λ byte. byte < 256) bytes → (kind : Kind) (n : ℕ) → opening_of bytes ≡ Broken kind n ↔ Damaged bytes n kind }
 {}

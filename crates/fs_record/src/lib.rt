@@ -2,7 +2,8 @@
 //!
 //! `specs/Spelling` says how a transaction is spelled, whatever its fields say; `specs/File` which spellings make
 //! a file one behind another, and the history that it says; `specs/Opening` where a file ends: at its end, before
-//! a torn rest, or before damage; `specs/Written` which transaction is written, and what makes it right behind a file.
+//! a torn rest, or before damage; `specs/Reading` the same as a function of the bytes; `specs/Written` which
+//! transaction is written, and what makes it right behind a file.
 #![tactic(auto)]
 
 mod body;
@@ -17,6 +18,8 @@ mod writing;
 pub use body::{Body, Item, TxnTexts};
 pub use damage::Damage;
 pub use heads::{DataHead, RecordRefusal, TxnHead};
-pub use laws::{file_is_history, one_more, one_opening, one_spelling, written_behind};
+pub use laws::{
+    file_is_history, one_more, one_opening, one_spelling, reading_finds, written_behind,
+};
 pub use reading::{read_data_head, read_txn_head};
 pub use writing::write_txn;

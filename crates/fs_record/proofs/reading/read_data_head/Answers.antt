@@ -1,4 +1,4 @@
-use Rattle.fs_record.proofs.HeadFields.{data_head_is}
+use Rattle.fs_record.specs.HeadLaws.{data_head_is}
 use Rattle.fs_record.proofs.reading.read_data_head.Goals as goal
 
 pub returns-clause-head : goal.returns-clause-head

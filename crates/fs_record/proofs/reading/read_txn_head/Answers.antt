@@ -1,5 +1,5 @@
 use Rattle.std.proofs.Common.{refl, arith}
-use Rattle.fs_record.proofs.HeadFields.{txn_head_is}
+use Rattle.fs_record.specs.HeadLaws.{txn_head_is}
 use Rattle.fs_record.proofs.reading.read_txn_head.Goals as goal
 
 pub returns-clause-head : goal.returns-clause-head
