@@ -7,6 +7,7 @@
 #![tactic(auto)]
 
 mod ask;
+mod cell_texts;
 mod cells;
 mod draft;
 mod fact;
@@ -16,7 +17,7 @@ mod permission;
 mod reply;
 
 pub use ask::Ask;
-pub use cells::CellRequest;
+pub use cells::{CellRequest, Cells};
 pub use draft::{Draft, Entries, Entry, Hole, Holes, Name};
 pub use fact::{Fact, Facts, LogRow, LogRows, Part, Parts, look};
 pub use meaning::Evaluator;
