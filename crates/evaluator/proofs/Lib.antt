@@ -1,0 +1,2 @@
+pub mod CellTextLaws
+pub mod HexAscii

@@ -1,79 +1,107 @@
--- The evaluator of cells keeps the laws of an evaluator.
-use Rattle.std.proofs.Common.{◌≡◌, ℕ, List, Option, Some, None, refl, sym, ap, ◌∙◌, subst, filter}
-use Rattle.evaluator.specs.declared.cells.CellRequest.{CellRequest}
+-- The evaluator of cells keeps the laws of an evaluator: its questions ask once, and its changes and replies keep
+-- their rules.
+use Rattle.std.proofs.Common.{◌≡◌, ℕ, ◌≤◌, ◌<◌, List, [], ◌∷◌, length, Option, Some, None, refl, ap, subst, arith, lit≤, lit<, length-append, codes, decimal}
+use Rattle.zbase.specs.History.{Value}
+use Rattle.zbase.specs.Query.{Done, run, go_on, IsWithin}
 use Rattle.evaluator.specs.declared.ask.Ask.{Ask}
+use Rattle.evaluator.specs.declared.cells.CellRequest.{CellRequest}
+use Rattle.evaluator.specs.declared.draft.Draft.{Draft}
+use Rattle.evaluator.specs.declared.draft.Name.{Name}
 use Rattle.evaluator.specs.declared.fact.Fact.{Fact}
 use Rattle.evaluator.specs.declared.outcome.Outcome.{Outcome}
 use Rattle.evaluator.specs.declared.reply.Reply.{Reply}
-use Rattle.evaluator.specs.declared.draft.Draft.{Draft}
-use Rattle.zbase.specs.History.{History, Value}
-use Rattle.evaluator.specs.Facts.{fact, look, TrueOf}
-use Rattle.evaluator.specs.FactLaws.{look_asked, look_true, look_lasting}
-use Rattle.evaluator.specs.Exec.{is_lasting, exec, IsDecided, IsLawful}
-use Rattle.evaluator.specs.Cells.{eval_cell, with_value, with_parts, with_log}
+use Rattle.evaluator.specs.Cells.{cell_question, eval_cell, line_reply, shown_value, shown_parts, shows, with_plus, writes, written, value_in, rows_in, parts_in}
+use Rattle.evaluator.specs.Change.{IsChange, IsReply}
+use Rattle.evaluator.specs.Exec.{IsLawful, IsTrail, most_asks}
+use Rattle.evaluator.specs.Facts.{look}
+use Rattle.evaluator.specs.Questions.{IsCareful, outcome}
+use Rattle.evaluator.specs.QuestionLaws.{lawful, object_lasts, trail_short}
 
-whole_value : (go : Value → Outcome) (a : ℕ) (facts : List Fact) (h : History) → TrueOf facts h → (o : Option Fact) → look facts (Ask.Object a) ≡ o → IsDecided (with_value go (Ask.Object a) o) → with_value go (Ask.Object a) (Some (fact h (Ask.Object a))) ≡ with_value go (Ask.Object a) o
-whole_value go a facts h all None e decided = absurd decided
-whole_value go a facts h all (Some f) e decided = ap (λ g. with_value go (Ask.Object a) (Some g)) (sym (look_true facts h (Ask.Object a) f all e))
-
-whole_parts : (t : ℕ) (facts : List Fact) (h : History) → TrueOf facts h → (o : Option Fact) → look facts (Ask.Transaction t) ≡ o → IsDecided (with_parts (Ask.Transaction t) o) → with_parts (Ask.Transaction t) (Some (fact h (Ask.Transaction t))) ≡ with_parts (Ask.Transaction t) o
-whole_parts t facts h all None e decided = absurd decided
-whole_parts t facts h all (Some f) e decided = ap (λ g. with_parts (Ask.Transaction t) (Some g)) (sym (look_true facts h (Ask.Transaction t) f all e))
-
-whole_log : (facts : List Fact) (h : History) → TrueOf facts h → (o : Option Fact) → look facts Ask.Log ≡ o → IsDecided (with_log Ask.Log o) → with_log Ask.Log (Some (fact h Ask.Log)) ≡ with_log Ask.Log o
-whole_log facts h all None e decided = absurd decided
-whole_log facts h all (Some f) e decided = ap (λ g. with_log Ask.Log (Some g)) (sym (look_true facts h Ask.Log f all e))
-
-need_value : (go : Value → Outcome) → ((v : Value) (ask : Ask) → go v ≡ Outcome.Need ask → ⊥) → (a : ℕ) (facts : List Fact) (ask : Ask) (o : Option Fact) → look facts (Ask.Object a) ≡ o → with_value go (Ask.Object a) o ≡ Outcome.Need ask → look facts ask ≡ None
-need_value go decides a facts ask None e need = (let same : Ask.Object a ≡ ask = cc in subst (λ k. look facts k ≡ None) same e)
-need_value go decides a facts ask (Some (Fact.Object o v s)) e need = absurd (decides v ask need)
-need_value go decides a facts ask (Some (Fact.Transaction t ps)) e need = (let bad = look_asked facts (Ask.Object a) (Fact.Transaction t ps) e in cc)
-need_value go decides a facts ask (Some (Fact.Log rs)) e need = (let bad = look_asked facts (Ask.Object a) (Fact.Log rs) e in cc)
-
-need_parts : (t : ℕ) (facts : List Fact) (ask : Ask) (o : Option Fact) → look facts (Ask.Transaction t) ≡ o → with_parts (Ask.Transaction t) o ≡ Outcome.Need ask → look facts ask ≡ None
-need_parts t facts ask None e need = (let same : Ask.Transaction t ≡ ask = cc in subst (λ k. look facts k ≡ None) same e)
-need_parts t facts ask (Some (Fact.Transaction u ps)) e need = cc
-need_parts t facts ask (Some (Fact.Object o v s)) e need = (let bad = look_asked facts (Ask.Transaction t) (Fact.Object o v s) e in cc)
-need_parts t facts ask (Some (Fact.Log rs)) e need = (let bad = look_asked facts (Ask.Transaction t) (Fact.Log rs) e in cc)
-
-need_log : (facts : List Fact) (ask : Ask) (o : Option Fact) → look facts Ask.Log ≡ o → with_log Ask.Log o ≡ Outcome.Need ask → look facts ask ≡ None
-need_log facts ask None e need = (let same : Ask.Log ≡ ask = cc in subst (λ k. look facts k ≡ None) same e)
-need_log facts ask (Some (Fact.Log rs)) e need = cc
-need_log facts ask (Some (Fact.Object o v s)) e need = (let bad = look_asked facts Ask.Log (Fact.Object o v s) e in cc)
-need_log facts ask (Some (Fact.Transaction u ps)) e need = (let bad = look_asked facts Ask.Log (Fact.Transaction u ps) e in cc)
+cell_careful : (q : CellRequest) → IsCareful (cell_question q)
+cell_careful (CellRequest.Read a) = λ f is. (λ l. tt, λ l. tt)
+cell_careful (CellRequest.Copy a b) = λ f is. (λ l. tt, λ l. absurd (let lasts = object_lasts a f is in cc))
+cell_careful (CellRequest.New a) = λ f is. (λ l. tt, λ l. absurd (let lasts = object_lasts a f is in cc))
+cell_careful CellRequest.Log = λ f is. (λ l. tt, λ l. tt)
+cell_careful (CellRequest.Part t) = λ f is. (λ l. tt, λ l. tt)
 
 pub cells_lawful : IsLawful eval_cell
-cells_lawful = record { whole = whole; lasting = lasting; unknown = unknown }
+cells_lawful = lawful cell_question cell_careful
+
+cell_asks_once : (q : CellRequest) → IsWithin most_asks (cell_question q)
+cell_asks_once (CellRequest.Read a) = λ f. tt
+cell_asks_once (CellRequest.Copy a b) = λ f. tt
+cell_asks_once (CellRequest.New a) = λ f. tt
+cell_asks_once CellRequest.Log = λ f. tt
+cell_asks_once (CellRequest.Part t) = λ f. tt
+
+pub cells_ask_few : (facts : List Fact) (q : CellRequest) → IsTrail (λ known. eval_cell (look known) q) facts → length facts ≤ most_asks
+cells_ask_few facts q trail = trail_short most_asks (cell_question q) (cell_asks_once q) [] facts trail
+
+-- ---- the rules of changes and replies
+
+line_keeps : (text : List ℕ) → IsReply (line_reply text)
+line_keeps text = record { status = refl; denied = tt; distinct = λ i j d h k. absurd (omega arith); roles = tt }
+
+plus_is_some : (v : Value) → 0 < length (with_plus v)
+plus_is_some None = lit< tt
+plus_is_some (Some bytes) = omega (arith, length-append bytes (43 ∷ []))
+
+-- one object is written, which has a value
+old_keeps : (known : Ask → Option Fact) (b : ℕ) (v : Value) → IsChange known (written (Name.Old b) (with_plus v))
+old_keeps known b v = record {
+  user = lit≤ tt;
+  description = lit≤ tt;
+  distinct = λ i j d h k. absurd (omega arith);
+  numbered = λ k h. absurd (omega arith);
+  few = lit< tt;
+  each = ((λ h. absurd (omega arith), plus_is_some v, tt, λ i j d h k. absurd (omega arith)), tt);
+}
+
+new_keeps : (known : Ask → Option Fact) (v : Value) → IsChange known (written (Name.New 0) (with_plus v))
+new_keeps known v = record {
+  user = lit≤ tt;
+  description = lit≤ tt;
+  distinct = λ i j d h k. absurd (omega arith);
+  numbered = λ k h. (let first : 0 ≡ k = omega arith in (0, lit< tt, ap Name.New first));
+  few = lit< tt;
+  each = ((lit< tt, plus_is_some v, tt, λ i j d h k. absurd (omega arith)), tt);
+}
+
+-- what an evaluation comes to keeps the rules
+abbrev KeepsRules : (Ask → Option Fact) → Outcome → Type 0
+KeepsRules known (Outcome.Need ask) = Unit {0}
+KeepsRules known (Outcome.Answer x) = IsReply x
+KeepsRules known (Outcome.Change x d) = IsChange known d × IsReply x
+
+cell_keeps : (known : Ask → Option Fact) (q : CellRequest) → KeepsRules known (eval_cell known q)
+cell_keeps known (CellRequest.Read a) = go (known (Ask.Object a))
   where
-    whole : (facts : List Fact) (h : History) (q : CellRequest) → TrueOf facts h → IsDecided (eval_cell (look facts) q) → exec eval_cell h q ≡ eval_cell (look facts) q
-    whole facts h (CellRequest.Read a) all = whole_value _ a facts h all (look facts (Ask.Object a)) refl
-    whole facts h (CellRequest.Copy a b) all = whole_value _ a facts h all (look facts (Ask.Object a)) refl
-    whole facts h (CellRequest.New a) all = whole_value _ a facts h all (look facts (Ask.Object a)) refl
-    whole facts h CellRequest.Log all = whole_log facts h all (look facts Ask.Log) refl
-    whole facts h (CellRequest.Part t) all = whole_parts t facts h all (look facts (Ask.Transaction t)) refl
+    go : (o : Option Fact) → KeepsRules known (outcome (go_on (Ask.Object a) (λ f. run known (Done (shows (shown_value (value_in f))))) o))
+    go None = tt
+    go (Some f) = line_keeps (shown_value (value_in f))
+cell_keeps known (CellRequest.Copy a b) = go (known (Ask.Object a))
+  where
+    go : (o : Option Fact) → KeepsRules known (outcome (go_on (Ask.Object a) (λ f. run known (Done (writes (Name.Old b) (with_plus (value_in f))))) o))
+    go None = tt
+    go (Some f) = (old_keeps known b (value_in f), line_keeps (codes "done"))
+cell_keeps known (CellRequest.New a) = go (known (Ask.Object a))
+  where
+    go : (o : Option Fact) → KeepsRules known (outcome (go_on (Ask.Object a) (λ f. run known (Done (writes (Name.New 0) (with_plus (value_in f))))) o))
+    go None = tt
+    go (Some f) = (new_keeps known (value_in f), line_keeps (codes "done"))
+cell_keeps known CellRequest.Log = go (known Ask.Log)
+  where
+    go : (o : Option Fact) → KeepsRules known (outcome (go_on Ask.Log (λ f. run known (Done (shows (decimal (length (rows_in f)))))) o))
+    go None = tt
+    go (Some f) = line_keeps (decimal (length (rows_in f)))
+cell_keeps known (CellRequest.Part t) = go (known (Ask.Transaction t))
+  where
+    go : (o : Option Fact) → KeepsRules known (outcome (go_on (Ask.Transaction t) (λ f. run known (Done (shows (shown_parts (parts_in f))))) o))
+    go None = tt
+    go (Some f) = line_keeps (shown_parts (parts_in f))
 
-    log_answers : (x : Reply) (d : Draft) (o : Option Fact) → with_log Ask.Log o ≡ Outcome.Change x d → ⊥
-    log_answers x d None e = cc
-    log_answers x d (Some (Fact.Log rs)) e = cc
-    log_answers x d (Some (Fact.Object o v s)) e = cc
-    log_answers x d (Some (Fact.Transaction t ps)) e = cc
+pub cell_changes : (known : Ask → Option Fact) (q : CellRequest) (x : Reply) (d : Draft) → eval_cell known q ≡ Outcome.Change x d → IsChange known d × IsReply x
+cell_changes known q x d e = subst (KeepsRules known) e (cell_keeps known q)
 
-    parts_answer : (u : ℕ) (x : Reply) (d : Draft) (o : Option Fact) → with_parts (Ask.Transaction u) o ≡ Outcome.Change x d → ⊥
-    parts_answer u x d None e = cc
-    parts_answer u x d (Some (Fact.Log rs)) e = cc
-    parts_answer u x d (Some (Fact.Object o v s)) e = cc
-    parts_answer u x d (Some (Fact.Transaction t ps)) e = cc
-
-    lasting : (facts : List Fact) (q : CellRequest) (x : Reply) (d : Draft) → eval_cell (look facts) q ≡ Outcome.Change x d → eval_cell (look (filter is_lasting facts)) q ≡ Outcome.Change x d
-    lasting facts (CellRequest.Read a) x d e = ap (with_value _ (Ask.Object a)) (look_lasting facts a) ∙ e
-    lasting facts (CellRequest.Copy a b) x d e = ap (with_value _ (Ask.Object a)) (look_lasting facts a) ∙ e
-    lasting facts (CellRequest.New a) x d e = ap (with_value _ (Ask.Object a)) (look_lasting facts a) ∙ e
-    lasting facts CellRequest.Log x d e = absurd (log_answers x d (look facts Ask.Log) e)
-    lasting facts (CellRequest.Part t) x d e = absurd (parts_answer t x d (look facts (Ask.Transaction t)) e)
-
-    unknown : (facts : List Fact) (q : CellRequest) (ask : Ask) → eval_cell (look facts) q ≡ Outcome.Need ask → look facts ask ≡ None
-    unknown facts (CellRequest.Read a) ask e = need_value _ (λ v k h. cc) a facts ask (look facts (Ask.Object a)) refl e
-    unknown facts (CellRequest.Copy a b) ask e = need_value _ (λ v k h. cc) a facts ask (look facts (Ask.Object a)) refl e
-    unknown facts (CellRequest.New a) ask e = need_value _ (λ v k h. cc) a facts ask (look facts (Ask.Object a)) refl e
-    unknown facts CellRequest.Log ask e = need_log facts ask (look facts Ask.Log) refl e
-    unknown facts (CellRequest.Part t) ask e = need_parts t facts ask (look facts (Ask.Transaction t)) refl e
+pub cell_replies : (known : Ask → Option Fact) (q : CellRequest) (x : Reply) → eval_cell known q ≡ Outcome.Answer x → IsReply x
+cell_replies known q x e = subst (KeepsRules known) e (cell_keeps known q)

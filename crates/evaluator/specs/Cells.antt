@@ -1,18 +1,45 @@
--- What the small evaluator `Cells` makes of a request.
-use Rattle.std.specs.Prelude.{ℕ, ◌+◌, ◌-◌, ◌*◌, ◌==◌, ◌&&◌, Bool, true, false, List, [], ◌∷◌, ◌++◌, length, take, drop, Option, Some, None, nat_le, if◌then◌else◌, codes, decimal}
-use Rattle.std.specs.Option.{option_map}
+-- The small evaluator of cells: the texts of its requests, and what each comes to.
+use Rattle.std.specs.Prelude.{ℕ, ◌+◌, ◌-◌, ◌*◌, ◌^◌, ◌<◌, ◌==◌, ◌&&◌, List, [], ◌∷◌, ◌++◌, length, take, drop, Option, Some, None, option_map, option_and_then, nat_le, if◌then◌else◌, codes, decimal}
+use Rattle.std.specs.Option.{option_or}
 use Rattle.evaluator.specs.declared.cells.CellRequest.{CellRequest}
 use Rattle.evaluator.specs.declared.ask.Ask.{Ask}
 use Rattle.evaluator.specs.declared.fact.Fact.{Fact}
+use Rattle.evaluator.specs.declared.fact.LogRow.{LogRow}
 use Rattle.evaluator.specs.declared.fact.Part.{Part}
+use Rattle.evaluator.specs.declared.draft.Draft.{Draft}
 use Rattle.evaluator.specs.declared.draft.Name.{Name}
 use Rattle.evaluator.specs.declared.draft.Entry.{Entry}
 use Rattle.evaluator.specs.declared.reply.Reply.{Reply}
-use Rattle.evaluator.specs.declared.outcome.Outcome.{Outcome}
 use Rattle.zbase.specs.History.{Value}
-use Rattle.zbase.specs.Hex.{hex_bytes}
+use Rattle.zbase.specs.Hex.{hex16_text, hex_bytes}
+use Rattle.zbase.specs.Query.{Done, Asks}
 use Rattle.evaluator.specs.Exec.{Eval}
+use Rattle.evaluator.specs.Questions.{Made, Reads, Changes, Evaluation, meaning_of}
 use Rattle.evaluator.specs.Replies.{one_line}
+
+-- ---- the texts of requests
+
+-- `read A`, `copy A B`, `new A`, `log` and `part T`, each id as 16 hexadecimal digits
+abbrev pub cell_text : CellRequest → List ℕ
+cell_text (CellRequest.Read a) = codes "read " ++ hex16_text a
+cell_text (CellRequest.Copy a b) = codes "copy " ++ (hex16_text a ++ 32 ∷ hex16_text b)
+cell_text (CellRequest.New a) = codes "new " ++ hex16_text a
+cell_text CellRequest.Log = codes "log"
+cell_text (CellRequest.Part t) = codes "part " ++ hex16_text t
+
+-- its ids have 64 bits
+abbrev pub HasIds : CellRequest → Type 0
+HasIds (CellRequest.Read a) = a < 2 ^ 64
+HasIds (CellRequest.Copy a b) = (a < 2 ^ 64) × (b < 2 ^ 64)
+HasIds (CellRequest.New a) = a < 2 ^ 64
+HasIds CellRequest.Log = Unit {0}
+HasIds (CellRequest.Part t) = t < 2 ^ 64
+
+-- The same read back, so that it computes: what is behind a front, a digit, and a number of 16 digits.
+abbrev pub behind : List ℕ → List ℕ → Option (List ℕ)
+behind [] bs = Some bs
+behind (f ∷ fs) [] = None
+behind (f ∷ fs) (b ∷ bs) = if f == b then behind fs bs else None
 
 abbrev pub digit : ℕ → Option ℕ
 digit b = if nat_le 48 b && nat_le b 57 then Some (b - 48) else if nat_le 97 b && nat_le b 102 then Some (b - 87) else None
@@ -25,25 +52,32 @@ read_digits (Some n) (b ∷ bs) = read_digits (option_map (λ d. 16 * n + d) (di
 abbrev pub read_hex16 : List ℕ → Option ℕ
 read_hex16 bs = if length bs == 16 then read_digits (Some 0) bs else None
 
-abbrev pub pair_of : Option ℕ → Option ℕ → Option CellRequest
-pair_of (Some a) (Some b) = Some (CellRequest.Copy a b)
-pair_of (Some a) None = None
-pair_of None b = None
+abbrev pub id_behind : List ℕ → List ℕ → Option ℕ
+id_behind front bs = option_and_then read_hex16 (behind front bs)
 
-abbrev pub same_bytes : List ℕ → List ℕ → Bool
-same_bytes [] [] = true
-same_bytes (a ∷ as') (b ∷ bs) = (a == b) && same_bytes as' bs
-same_bytes _ _ = false
+abbrev pub copy_of : Option ℕ → Option ℕ → Option CellRequest
+copy_of (Some a) (Some b) = Some (CellRequest.Copy a b)
+copy_of (Some a) None = None
+copy_of None b = None
 
--- the texts: `read A`, `copy A B`, `new A`, `log`, `part T`
+-- two ids with a space between them
+abbrev pub copy_in : List ℕ → Option CellRequest
+copy_in bs = copy_of (read_hex16 (take 16 bs)) (id_behind (32 ∷ []) (drop 16 bs))
+
+abbrev pub log_at : List ℕ → Option CellRequest
+log_at [] = Some CellRequest.Log
+log_at (b ∷ bs) = None
+
+-- the request of which these bytes are the text
 abbrev pub takes_cell : List ℕ → Option CellRequest
 takes_cell bs =
-    if same_bytes bs (codes "log") then Some CellRequest.Log
-    else if same_bytes (take 5 bs) (codes "read ") then option_map CellRequest.Read (read_hex16 (drop 5 bs))
-    else if same_bytes (take 4 bs) (codes "new ") then option_map CellRequest.New (read_hex16 (drop 4 bs))
-    else if same_bytes (take 5 bs) (codes "part ") then option_map CellRequest.Part (read_hex16 (drop 5 bs))
-    else if same_bytes (take 5 bs) (codes "copy ") && same_bytes (take 1 (drop 21 bs)) (32 ∷ []) then pair_of (read_hex16 (take 16 (drop 5 bs))) (read_hex16 (drop 22 bs))
-    else None
+    option_or (option_map CellRequest.Read (id_behind (codes "read ") bs))
+    (option_or (option_and_then copy_in (behind (codes "copy ") bs))
+    (option_or (option_map CellRequest.New (id_behind (codes "new ") bs))
+    (option_or (option_map CellRequest.Part (id_behind (codes "part ") bs))
+    (option_and_then log_at (behind (codes "log") bs)))))
+
+-- ---- evaluation
 
 abbrev pub line_reply : List ℕ → Reply
 line_reply text = one_line 200 text
@@ -56,31 +90,46 @@ abbrev pub with_plus : Value → List ℕ
 with_plus None = 43 ∷ []
 with_plus (Some bytes) = bytes ++ 43 ∷ []
 
-abbrev pub writes : Name → Value → Outcome
-writes name v = Outcome.Change (line_reply (codes "done")) (record { user = []; description = []; entries = Entry.Write name (with_plus v) [] ∷ [] })
-
 abbrev pub shown_parts : Option (List Part) → List ℕ
 shown_parts None = codes "none"
 shown_parts (Some ps) = decimal (length ps)
 
--- from a fact, what the request comes to
-abbrev pub with_value : (Value → Outcome) → Ask → Option Fact → Outcome
-with_value go ask None = Outcome.Need ask
-with_value go ask (Some (Fact.Object o v s)) = go v
-with_value go ask (Some (Fact.Transaction t ps)) = Outcome.Need ask
-with_value go ask (Some (Fact.Log rs)) = Outcome.Need ask
+-- what a fact tells: an object's value, a transaction's parts, the rows of the log
+abbrev pub value_in : Fact → Value
+value_in (Fact.Object o v s) = v
+value_in (Fact.Transaction t ps) = None
+value_in (Fact.Log rows) = None
 
-abbrev pub with_parts : Ask → Option Fact → Outcome
-with_parts ask (Some (Fact.Transaction t ps)) = Outcome.Answer (line_reply (shown_parts ps))
-with_parts ask _ = Outcome.Need ask
+abbrev pub parts_in : Fact → Option (List Part)
+parts_in (Fact.Object o v s) = None
+parts_in (Fact.Transaction t ps) = ps
+parts_in (Fact.Log rows) = None
 
-abbrev pub with_log : Ask → Option Fact → Outcome
-with_log ask (Some (Fact.Log rs)) = Outcome.Answer (line_reply (decimal (length rs)))
-with_log ask _ = Outcome.Need ask
+abbrev pub rows_in : Fact → List LogRow
+rows_in (Fact.Object o v s) = []
+rows_in (Fact.Transaction t ps) = []
+rows_in (Fact.Log rows) = rows
+
+abbrev pub shows : List ℕ → Made
+shows text = Reads (line_reply text)
+
+abbrev pub written : Name → List ℕ → Draft
+written name bytes = record { user = []; description = []; entries = Entry.Write name bytes [] ∷ [] }
+
+abbrev pub writes : Name → List ℕ → Made
+writes name bytes = Changes (line_reply (codes "done")) (written name bytes)
+
+-- the object's bytes and a plus are written to another one
+abbrev pub copied : ℕ → Name → Evaluation
+copied a name = Asks (Ask.Object a) (λ f. Done (writes name (with_plus (value_in f))))
+
+-- each request asks once
+abbrev pub cell_question : CellRequest → Evaluation
+cell_question (CellRequest.Read a) = Asks (Ask.Object a) (λ f. Done (shows (shown_value (value_in f))))
+cell_question (CellRequest.Copy a b) = copied a (Name.Old b)
+cell_question (CellRequest.New a) = copied a (Name.New 0)
+cell_question CellRequest.Log = Asks Ask.Log (λ f. Done (shows (decimal (length (rows_in f)))))
+cell_question (CellRequest.Part t) = Asks (Ask.Transaction t) (λ f. Done (shows (shown_parts (parts_in f))))
 
 abbrev pub eval_cell : Eval CellRequest
-eval_cell look (CellRequest.Read a) = with_value (λ v. Outcome.Answer (line_reply (shown_value v))) (Ask.Object a) (look (Ask.Object a))
-eval_cell look (CellRequest.Copy a b) = with_value (writes (Name.Old b)) (Ask.Object a) (look (Ask.Object a))
-eval_cell look (CellRequest.New a) = with_value (writes (Name.New 0)) (Ask.Object a) (look (Ask.Object a))
-eval_cell look CellRequest.Log = with_log Ask.Log (look Ask.Log)
-eval_cell look (CellRequest.Part t) = with_parts (Ask.Transaction t) (look (Ask.Transaction t))
+eval_cell = meaning_of cell_question

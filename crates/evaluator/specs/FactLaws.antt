@@ -1,5 +1,5 @@
 -- What is known of an ask, and what a trail of facts keeps.
-use Rattle.std.proofs.Common.{◌≡◌, ℕ, ◌==◌, Bool, true, false, cond, List, [], ◌∷◌, ◌++◌, Some, None, refl, sym, ap, ◌∙◌, subst, filter, eqb-true, append_assoc, append-nil}
+use Rattle.std.proofs.Common.{◌≡◌, ℕ, ◌==◌, Bool, true, false, cond, List, [], ◌∷◌, ◌++◌, Some, None, refl, sym, ap, ◌∙◌, subst, filter, eqb-true, eq-eqb, append_assoc, append-nil}
 use Rattle.zbase.specs.History.{History}
 use Rattle.evaluator.specs.declared.ask.Ask.{Ask}
 use Rattle.evaluator.specs.declared.fact.Fact.{Fact}
@@ -36,12 +36,39 @@ look_true (g ∷ gs) h ask f all e = go (same_ask (ask_of g) ask) refl e (look_t
     go true same e' deeper = (let one : g ≡ f = cc in sym one ∙ all.0 ∙ ap (fact h) (same_asks (ask_of g) ask same))
     go false other e' deeper = deeper e'
 
-pub look_lasting : (facts : List Fact) (o : ℕ) → look (filter is_lasting facts) (Ask.Object o) ≡ look facts (Ask.Object o)
-look_lasting [] o = refl
-look_lasting (Fact.Object p v s ∷ fs) o = ap (cond (p == o) (Some (Fact.Object p v s))) (look_lasting fs o)
-look_lasting (Fact.Transaction t None ∷ fs) o = look_lasting fs o
-look_lasting (Fact.Transaction t (Some ps) ∷ fs) o = look_lasting fs o
-look_lasting (Fact.Log rs ∷ fs) o = look_lasting fs o
+-- a lasting fact is found where the others are taken away
+pub look_lasting : (facts : List Fact) (ask : Ask) (f : Fact) → look facts ask ≡ Some f → is_lasting f ≡ true → look (filter is_lasting facts) ask ≡ Some f
+look_lasting [] ask f e lasts = cc
+look_lasting (g ∷ gs) ask f e lasts = go (is_lasting g) (same_ask (ask_of g) ask) refl refl e (λ e'. look_lasting gs ask f e' lasts)
+  where
+    go : (l s : Bool) → is_lasting g ≡ l → same_ask (ask_of g) ask ≡ s → cond s (Some g) (look gs ask) ≡ Some f → (look gs ask ≡ Some f → look (filter is_lasting gs) ask ≡ Some f) → look (cond l (g ∷ filter is_lasting gs) (filter is_lasting gs)) ask ≡ Some f
+    go false false il is e' deeper = deeper e'
+    go true false il is e' deeper = rw is (deeper e')
+    go true true il is e' deeper = rw is e'
+    go false true il is e' deeper = (let one : g ≡ f = cc in cc)
+
+-- and where others follow
+pub look_more : (facts more : List Fact) (ask : Ask) (f : Fact) → look facts ask ≡ Some f → look (facts ++ more) ask ≡ Some f
+look_more [] more ask f e = cc
+look_more (g ∷ gs) more ask f e = go (same_ask (ask_of g) ask) e (look_more gs more ask f)
+  where
+    go : (b : Bool) → cond b (Some g) (look gs ask) ≡ Some f → (look gs ask ≡ Some f → look (gs ++ more) ask ≡ Some f) → cond b (Some g) (look (gs ++ more) ask) ≡ Some f
+    go true e' deeper = e'
+    go false e' deeper = deeper e'
+
+pub same_self : (ask : Ask) → same_ask ask ask ≡ true
+same_self (Ask.Object o) = eq-eqb o o refl
+same_self (Ask.Transaction t) = eq-eqb t t refl
+same_self Ask.Log = refl
+
+-- a fact that wasn't known is found at the end
+pub look_new : (facts : List Fact) (f : Fact) → look facts (ask_of f) ≡ None → look (facts ++ f ∷ []) (ask_of f) ≡ Some f
+look_new [] f e = rw (same_self (ask_of f)) refl
+look_new (g ∷ gs) f e = go (same_ask (ask_of g) (ask_of f)) e (look_new gs f)
+  where
+    go : (b : Bool) → cond b (Some g) (look gs (ask_of f)) ≡ None → (look gs (ask_of f) ≡ None → look (gs ++ f ∷ []) (ask_of f) ≡ Some f) → cond b (Some g) (look (gs ++ f ∷ []) (ask_of f)) ≡ Some f
+    go true e' deeper = cc
+    go false e' deeper = deeper e'
 
 -- a fact of a history is of the ask that it answers
 pub fact_asked : (h : History) (ask : Ask) → ask_of (fact h ask) ≡ ask

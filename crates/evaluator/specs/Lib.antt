@@ -4,6 +4,10 @@ pub mod Change
 pub mod Replies
 pub mod Settle
 pub mod FactLaws
+pub mod Questions
+pub mod QuestionLaws
+pub mod LimitLaws
+pub mod Counting
 pub mod Cells
 pub mod CellLaws
 pub mod Permissions

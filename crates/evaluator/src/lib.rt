@@ -7,18 +7,24 @@
 #![tactic(auto)]
 
 mod ask;
+mod cell_texts;
 mod cells;
 mod draft;
 mod fact;
+mod laws;
 mod meaning;
 mod outcome;
 mod permission;
 mod reply;
 
 pub use ask::Ask;
-pub use cells::CellRequest;
+pub use cells::{CellRequest, Cells};
 pub use draft::{Draft, Entries, Entry, Hole, Holes, Name};
 pub use fact::{Fact, Facts, LogRow, LogRows, Part, Parts, look};
+pub use laws::{
+    causes_are_reworded, cells_have_one_text, limits_are_counts, objects_last, questions_are_lawful,
+    questions_follow_one_another, questions_rest_on_what_is_known,
+};
 pub use meaning::Evaluator;
 pub use outcome::Outcome;
 pub use permission::permission_name;

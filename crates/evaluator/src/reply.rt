@@ -1,4 +1,5 @@
-use zbase::{Items, Oid, Text, Tid};
+use std::alloc::Global;
+use zbase::{Items, Memory, Oid, Text, Tid};
 
 /// The form of a reply's body.
 #[derive(Clone, Copy, Debug, PartialEq, Eq)]
@@ -37,6 +38,27 @@ pub struct Reply {
     pub body: Text,
     pub shown: ShownList,
     pub denied: Option<Denial>,
+}
+
+impl Reply {
+    ghost use Rattle.std.specs.Prelude.{◌≡◌, IfOk};
+    ghost use Rattle.evaluator.specs.Replies.{one_line};
+
+    /// A plain reply whose body is this text and a line end.
+    pub fn one_line(alloc: Global, status: u16, text: Text) -> Result<Reply, Memory>
+        ensures { IfOk result (λ reply. reply ≡ one_line status text) }
+    {
+        let mut body = text;
+        body.push_str("\n")?;
+        Ok(Reply {
+            status,
+            kind: Kind::Plain,
+            head_only: false,
+            body,
+            shown: ShownList::new(alloc),
+            denied: None,
+        })
+    }
 }
 
 /// Which transaction a reply goes with.

@@ -1,5 +1,6 @@
 -- The worked reports that are explained: each is what the table gives, by computing.
 use Rattle.std.proofs.Common.{◌≡◌, ℕ, Bool, true, false, List, [], ◌∷◌, Option, Some, None, refl, map, codes, arith}
+use Rattle.std.specs.Prelude.{is_some}
 use Rattle.evaluator.specs.declared.cells.CellRequest.{CellRequest}
 use Rattle.evaluator.specs.CellLaws.{cells_lawful}
 use Rattle.schedule.specs.declared.item.Item2.{Item2}
@@ -19,8 +20,13 @@ plain item = (item, None)
 abbrev conflict_run : Option (List (Place CellRequest) × Moment CellRequest)
 conflict_run = ran cells (start cells two_cells) (map plain conflict_schedule)
 
+-- a run that goes through is its trace and its end
+goes_through : {R : Type 0} (m : Moment R) (run : Option (List (Place R) × Moment R)) → is_some run ≡ true → run ≡ Some (trace_of run, end_of m run)
+goes_through m None is = cc
+goes_through m (Some r) is = refl
+
 conflict_ends : conflict_run ≡ Some (trace_of conflict_run, end_of (start cells two_cells) conflict_run)
-conflict_ends = refl
+conflict_ends = goes_through (start cells two_cells) conflict_run refl
 
 pub conflict_is_explained : Explained cells two_cells conflict_schedule conflict_report
 conflict_is_explained =

@@ -7,3 +7,5 @@ pub mod HistoryLaws
 pub mod Numbers
 pub mod NumberLaws
 pub mod Roles
+pub mod Query
+pub mod QueryLaws
