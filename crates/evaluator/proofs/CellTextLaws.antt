@@ -107,7 +107,7 @@ prints_back (b ∷ bs) k a n e = go (digit b) refl e (λ d. prints_back bs (suc 
         let place : k + length (b ∷ bs) ≡ suc k + length bs = omega arith in
         record {
           digits = ap (λ j. hex_digits j n) place ∙ others.digits ∙ ap (λ front. front ++ bs) (hex_digits-more k a d one.below)
-            ∙ ap (λ c. (hex_digits k a ++ c ∷ []) ++ bs) one.is ∙ append_assoc (hex_digits k a) (b ∷ []) bs;
+              ∙ ap (λ c. (hex_digits k a ++ c ∷ []) ++ bs) one.is ∙ append_assoc (hex_digits k a) (b ∷ []) bs;
           small = (let up : 16 ^ length bs * (16 * a + d + 1) ≤ 16 ^ length bs * (16 * (a + 1)) = mul-le-mul_left (16 ^ length bs) (let low = one.below in omega arith) in rw p (omega (arith, others.small, up)));
         }
 
