@@ -1,5 +1,5 @@
 -- A small history, over which requests of cells are evaluated, and what its transactions did.
-use Rattle.std.specs.Prelude.{ℕ, List, [], ◌∷◌, Option, Some, None, codes}
+use Rattle.std.specs.Prelude.{ℕ, List, [], ◌∷◌, Some, None, codes}
 use Rattle.zbase.specs.History.{Value, Transaction, History}
 use Rattle.evaluator.specs.declared.fact.LogRow.{LogRow}
 use Rattle.evaluator.specs.declared.fact.Part.{Part}

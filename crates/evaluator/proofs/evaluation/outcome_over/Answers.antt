@@ -1,5 +1,4 @@
 use Rattle.std.proofs.Common.{◌≡◌, ◌≤◌, ◌∙◌, [], ◌∷◌, ◌++◌, sym, subst, arith, length, length-append}
-use Rattle.evaluator.specs.declared.outcome.Outcome.{Outcome}
 use Rattle.evaluator.specs.Exec.{IsDecided, most_asks}
 use Rattle.evaluator.specs.Facts.{look}
 use Rattle.evaluator.proofs.Asking.{AreAsked, asked_more, decided_else}
