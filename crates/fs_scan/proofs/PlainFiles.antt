@@ -8,16 +8,15 @@ use Rattle.zbase.specs.History.{History, Transaction}
 use Rattle.zbase.specs.Values.{last}
 use Rattle.zbase.specs.HistoryLaws.{last_after-append}
 use Rattle.fs_record.specs.declared.damage.Damage.{Damage}
-use Rattle.fs_record.specs.Spelling.{Data, Inside, Records, Skipped, Block, data_spelling, block_spelling, inside_spelling, long_of}
+use Rattle.fs_record.specs.Spelling.{Data, Inside, Records, Skipped, Block, block_spelling, inside_spelling, long_of}
 use Rattle.fs_record.specs.Fits.{FitsInside}
 use Rattle.fs_record.specs.SpellingLaws.{length-block, same_block}
 use Rattle.fs_record.specs.UniqueLaws.{not_end, same_count}
-use Rattle.fs_record.specs.File.{Earlier, Front, rows, records_from, records_place, longer, transaction_of, after_in, fault_in, magic, front_of, bytes_of, IsRight, AreRight}
-use Rattle.fs_record.specs.FileLaws.{file_place}
+use Rattle.fs_record.specs.File.{Front, rows, longer, transaction_of, after_in, fault_in, magic, front_of, bytes_of, IsRight, AreRight}
 use Rattle.fs_record.specs.Opening.{is_end, Stands}
 use Rattle.fs_scan.specs.declared.extent.Extent.{Extent}
 use Rattle.fs_scan.specs.declared.wholes.Whole.{Whole}
-use Rattle.fs_scan.specs.Marked.{places_from, AreRecords}
+use Rattle.fs_scan.specs.Marked.{AreRecords}
 use Rattle.fs_scan.specs.Extent.{area_in, block_in}
 use Rattle.fs_scan.specs.Taking.{rows_after, Takes, IsDamageAt}
 use Rattle.fs_scan.specs.Plain.{AreFull, HoldsData, IsPlain, IsPlainFile, starts, SaysWholes}

@@ -1,7 +1,7 @@
 -- A scan that has come to a place.
-use Rattle.std.proofs.Common.{◌≡◌, ℕ, ◌+◌, ◌≤◌, Bool, true, false, List, [], ◌∷◌, ◌++◌, length, drop, None, refl, sym, ap, subst, ◌∙◌, append_assoc, arith, inl, inr}
+use Rattle.std.proofs.Common.{◌≡◌, ℕ, ◌+◌, ◌≤◌, Bool, true, false, List, [], ◌∷◌, ◌++◌, length, drop, refl, sym, ap, subst, ◌∙◌, append_assoc, arith, inl, inr}
 use Rattle.std.specs.Prelude.{◌==◌, IsErrOf, Err, if◌then◌else◌}
-use Rattle.std.proofs.lemmas.List.{length-append, length-drop, drop-drop}
+use Rattle.std.proofs.lemmas.List.{length-append, drop-drop}
 use Rattle.zbase.specs.declared.ids.Row.{Row}
 use Rattle.zbase.specs.Values.{last}
 use Rattle.fs_record.specs.declared.damage.Damage.{Damage as Kind}

@@ -1,4 +1,4 @@
-use Rattle.std.proofs.Common.{ℕ, List, subst, ap, sym, ◌∙◌, length, arith}
+use Rattle.std.proofs.Common.{ℕ, List, subst, ap, sym, ◌∙◌, arith}
 use Rattle.std.proofs.lemmas.List.{take_rest, length-drop}
 use Rattle.fs_record.specs.Opening.{is_end}
 use Rattle.fs_scan.specs.Taking.{Takes, IsDamageAt}
