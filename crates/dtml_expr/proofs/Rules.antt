@@ -6,8 +6,8 @@ use Rattle.dtml_expr.specs.Tokens.{Token, Number, Quoted, Name, Compared, Or, An
 use Rattle.dtml_expr.specs.Grammar.{adds, ands, ors, only, joined}
 use Rattle.dtml_expr.specs.Reading.{◌>>=◌, Reader, Fails, sign_token, sign_join, chain_at, item_at, head_at, dots_at, behind_dot, name_at, sum_at, order_at, compared, comparison_at, and_at, or_at, nothing_at, behind_not, negated_or, not_at, inner_at, behind_close, closed, bracketed_at}
 use Rattle.dtml_expr.specs.declared.expr.Order.{Order}
-use Rattle.dtml_expr.specs.declared.reading.Sign.{Sign}
-use Rattle.dtml_expr.specs.declared.reading.Sign.TheVariants as signs
+use Rattle.dtml_expr.specs.declared.front.Sign.{Sign}
+use Rattle.dtml_expr.specs.declared.front.Sign.TheVariants as signs
 use Rattle.dtml_expr.specs.declared.unread.Unread.{Unread}
 use Rattle.dtml_expr.specs.declared.unread.Unread.TheVariants as unread
 

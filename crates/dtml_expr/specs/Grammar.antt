@@ -1,4 +1,5 @@
 -- The grammar of expressions: which tree a list of tokens is. Each rule is by cases on how its tokens are split.
+-- Zope Book, "DTML Reference", has expressions in the attribute `expr`; this is the project's own language for them.
 --
 --   or          and, any number of `or` and
 --   and         not, any number of `and` not

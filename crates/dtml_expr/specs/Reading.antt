@@ -1,4 +1,5 @@
--- Reading an expression from its tokens: what the code answers, and how it gets there. The grammar says what it means.
+-- Reading an expression from its tokens, from left to right. Only private functions cite this; what it means is said
+-- by the grammar, and is proved of it.
 use Rattle.std.specs.Prelude.{◌≡◌, ℕ, zero, suc, ◌≤◌, ◌^◌, nat_lt, nat_le, if◌then◌else◌, pos, neg_ℤ, List, [], ◌∷◌, length, Option, Some, None, Result, Ok, Err}
 use Rattle.std.specs.Borrow.{Bor}
 use Rattle.dtml_expr.specs.Trees as trees
@@ -9,8 +10,8 @@ use Rattle.dtml_expr.specs.Views.{view, token_views}
 use Rattle.dtml_expr.specs.declared.expr.Expr.{Expr}
 use Rattle.dtml_expr.specs.declared.token.Token as code
 use Rattle.dtml_expr.specs.declared.expr.Order.{Order}
-use Rattle.dtml_expr.specs.declared.reading.Sign.{Sign}
-use Rattle.dtml_expr.specs.declared.reading.Sign.TheVariants as signs
+use Rattle.dtml_expr.specs.declared.front.Sign.{Sign}
+use Rattle.dtml_expr.specs.declared.front.Sign.TheVariants as signs
 use Rattle.dtml_expr.specs.declared.unread.Unread.{Unread}
 use Rattle.dtml_expr.specs.declared.unread.Unread.TheVariants as unread
 

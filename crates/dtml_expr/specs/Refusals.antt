@@ -1,4 +1,4 @@
--- What reading an expression answers.
+-- What is answered where a text is no expression.
 use Rattle.std.specs.Prelude.{◌≡◌, ℕ, List, Result, Ok, Err}
 use Rattle.dtml_lex.specs.declared.refusal.DtmlRefusal.{DtmlRefusal}
 use Rattle.dtml_lex.specs.declared.refusal.DtmlRefusal.TheVariants.{Memory, BadTag, Unclosed, Stray, BadAttribute, BadExpression, TooLarge, TooDeep}

@@ -1,204 +1,24 @@
-ghost use Rattle.std.specs.Prelude.{◌≡◌, ◌≤◌, ◌∷◌, length, option_map, IfOk, IfErr, MatchOption};
-ghost use Rattle.dtml_expr.specs.Trees as trees;
-ghost use Rattle.dtml_expr.specs.Trees.{Tree};
-ghost use Rattle.dtml_expr.specs.Tokens as spec;
-ghost use Rattle.dtml_expr.specs.Grammar.{times, adds, ands, ors, joined, IsExpr};
+ghost use Rattle.std.specs.Prelude.{◌≡◌, ◌≤◌, length, IfOk, IfErr};
+ghost use Rattle.dtml_expr.specs.Grammar.{IsExpr};
 ghost use Rattle.dtml_expr.specs.Refusals.{Refuses};
 ghost use Rattle.dtml_expr.specs.Reading as reading;
 ghost use Rattle.dtml_expr.specs.Reading.{Gives, Reads};
-ghost use Rattle.dtml_expr.specs.Views.{view, list_view, token_views};
+ghost use Rattle.dtml_expr.specs.Views.{view, token_views};
 
+use crate::Expr;
+use crate::front::{
+    behind_and, behind_close, behind_dot, behind_not, behind_or, behind_star, name_at, order_at,
+    sign_at,
+};
+use crate::making::{compare, dotted, negative, one_and, one_or, positive, signed, times};
 use crate::token::{Token, tokens_of};
 use crate::unread::Unread;
-use crate::{Expr, Exprs, Order};
 use dtml_lex::DtmlRefusal;
 use std::alloc::Global;
 use zbase::Text;
 
 /// How many levels of brackets and `not` may be open at a place.
 const LEVELS: u32 = 64;
-
-/// `+` or `-`.
-#[derive(Clone, Copy, Debug, PartialEq, Eq)]
-enum Sign {
-    Plus,
-    Minus,
-}
-
-/// What follows a `*` at the front.
-fn behind_star<'t, 'a>(tokens: &'t [Token<'a>]) -> Option<&'t [Token<'a>]>
-    ensures { MatchOption result (reading.Stops times (token_views tokens.now)) (λ rest. token_views tokens.now ≡ spec.Star ∷ token_views rest.now) }
-{
-    match tokens.split_first() {
-        Some((Token::Star, rest)) => Some(rest),
-        _ => None,
-    }
-}
-
-/// What follows an `and` at the front.
-fn behind_and<'t, 'a>(tokens: &'t [Token<'a>]) -> Option<&'t [Token<'a>]>
-    ensures { MatchOption result (reading.Stops ands (token_views tokens.now)) (λ rest. token_views tokens.now ≡ spec.And ∷ token_views rest.now) }
-{
-    match tokens.split_first() {
-        Some((Token::And, rest)) => Some(rest),
-        _ => None,
-    }
-}
-
-/// What follows an `or` at the front.
-fn behind_or<'t, 'a>(tokens: &'t [Token<'a>]) -> Option<&'t [Token<'a>]>
-    ensures { MatchOption result (reading.Stops ors (token_views tokens.now)) (λ rest. token_views tokens.now ≡ spec.Or ∷ token_views rest.now) }
-{
-    match tokens.split_first() {
-        Some((Token::Or, rest)) => Some(rest),
-        _ => None,
-    }
-}
-
-/// What follows a `not` at the front.
-fn behind_not<'t, 'a>(tokens: &'t [Token<'a>]) -> Option<&'t [Token<'a>]>
-    ensures { option_map (λ rest. token_views rest.now) result ≡ reading.behind_not (token_views tokens.now) }
-{
-    match tokens.split_first() {
-        Some((Token::Not, rest)) => Some(rest),
-        _ => None,
-    }
-}
-
-/// The sign at the front, and what follows it.
-fn sign_at<'t, 'a>(tokens: &'t [Token<'a>]) -> Option<(Sign, &'t [Token<'a>])>
-    ensures { MatchOption result (reading.Stops adds (token_views tokens.now)) (λ x. token_views tokens.now ≡ reading.sign_token x.0 ∷ token_views x.1.now) }
-{
-    match tokens.split_first() {
-        Some((Token::Plus, rest)) => Some((Sign::Plus, rest)),
-        Some((Token::Minus, rest)) => Some((Sign::Minus, rest)),
-        _ => None,
-    }
-}
-
-/// The order at the front, and what follows it.
-fn order_at<'t, 'a>(tokens: &'t [Token<'a>]) -> Option<(Order, &'t [Token<'a>])>
-    ensures { option_map (λ x. (x.0, token_views x.1.now)) result ≡ reading.order_at (token_views tokens.now) }
-{
-    match tokens.split_first() {
-        Some((Token::Compared(order), rest)) => Some((*order, rest)),
-        _ => None,
-    }
-}
-
-/// What follows a `.` at the front.
-fn behind_dot<'t, 'a>(tokens: &'t [Token<'a>]) -> Option<&'t [Token<'a>]>
-    ensures { option_map (λ rest. token_views rest.now) result ≡ reading.behind_dot (token_views tokens.now) }
-{
-    match tokens.split_first() {
-        Some((Token::Dot, rest)) => Some(rest),
-        _ => None,
-    }
-}
-
-/// What follows a `)` at the front.
-fn behind_close<'t, 'a>(tokens: &'t [Token<'a>]) -> Option<&'t [Token<'a>]>
-    ensures { option_map (λ rest. token_views rest.now) result ≡ reading.behind_close (token_views tokens.now) }
-{
-    match tokens.split_first() {
-        Some((Token::Close, rest)) => Some(rest),
-        _ => None,
-    }
-}
-
-/// The name at the front, and what follows it.
-fn name_at<'t, 'a>(tokens: &'t [Token<'a>]) -> Result<(&'a str, &'t [Token<'a>]), Unread>
-    ensures { Gives (λ x. (x.0.now, token_views x.1.now)) result (reading.name_at (token_views tokens.now)) }
-{
-    match tokens.split_first() {
-        Some((Token::Name(name), rest)) => Ok((*name, rest)),
-        _ => Err(Unread::Refused),
-    }
-}
-
-/// A number without a sign.
-fn positive(value: u64) -> Option<Expr>
-    ensures { option_map view result ≡ reading.positive value }
-{
-    match i64::try_from(value) {
-        Ok(number) => Some(Expr::Number(number)),
-        Err(_) => None,
-    }
-}
-
-/// A number behind `-`.
-fn negative(value: u64) -> Option<Expr>
-    ensures { option_map view result ≡ reading.negative value }
-{
-    match 0i64.checked_sub_unsigned(value) {
-        Some(number) => Some(Expr::Number(number)),
-        None => None,
-    }
-}
-
-/// The only operand, or all of them joined by `or`.
-fn one_or(mut operands: Vec<Expr>) -> Expr
-    ensures { view result ≡ joined trees.Or (list_view operands.items) }
-{
-    if operands.len() > 1 {
-        return Expr::Or(Exprs { items: operands });
-    }
-    match operands.pop() {
-        Some(only) => only,
-        None => Expr::Or(Exprs { items: operands }),
-    }
-}
-
-/// The only operand, or all of them joined by `and`.
-fn one_and(mut operands: Vec<Expr>) -> Expr
-    ensures { view result ≡ joined trees.And (list_view operands.items) }
-{
-    if operands.len() > 1 {
-        return Expr::And(Exprs { items: operands });
-    }
-    match operands.pop() {
-        Some(only) => only,
-        None => Expr::And(Exprs { items: operands }),
-    }
-}
-
-/// One more product in a sum.
-fn signed(alloc: Global, sum: Expr, sign: Sign, product: Expr) -> Result<Expr, Unread>
-    ensures { reading.Makes result (reading.sign_join sign (view sum) (view product)) }
-{
-    let sum = Box::new(alloc, sum)?;
-    let product = Box::new(alloc, product)?;
-    match sign {
-        Sign::Plus => Ok(Expr::Add(sum, product)),
-        Sign::Minus => Ok(Expr::Sub(sum, product)),
-    }
-}
-
-/// One more item in a product.
-fn times(alloc: Global, product: Expr, item: Expr) -> Result<Expr, Unread>
-    ensures { reading.Makes result (trees.Mul (view product) (view item)) }
-{
-    let product = Box::new(alloc, product)?;
-    let item = Box::new(alloc, item)?;
-    Ok(Expr::Mul(product, item))
-}
-
-/// Two sums that are compared.
-fn compare(alloc: Global, left: Expr, order: Order, right: Expr) -> Result<Expr, Unread>
-    ensures { reading.Makes result (trees.Compare (view left) order (view right)) }
-{
-    let left = Box::new(alloc, left)?;
-    let right = Box::new(alloc, right)?;
-    Ok(Expr::Compare(left, order, right))
-}
-
-/// The value of a name in an item.
-fn dotted(alloc: Global, item: Expr, name: &str) -> Result<Expr, Unread>
-    ensures { reading.Makes result (trees.Dot (view item) name.now) }
-{
-    let name = Text::from_str(alloc, name)?;
-    Ok(Expr::Dot(Box::new(alloc, item)?, name))
-}
 
 /// Operands joined by `or`, and what follows them.
 #[cycle(reading)]
