@@ -1,6 +1,6 @@
 -- The text of a request of cells reads back to it, and no other text reads to it.
 use denote.Ref.{Bor}
-use Rattle.std.proofs.Common.{◌≡◌, ◌∙◌, ℕ, zero, suc, ◌+◌, ◌-◌, ◌*◌, ◌/◌, ◌%◌, ◌^◌, ◌<◌, ◌≤◌, ◌==◌, ◌&&◌, Bool, true, false, cond, List, [], ◌∷◌, ◌++◌, length, take, drop, Option, Some, None, option_map, refl, sym, ap, subst, arith, eqb-true, eq-eqb, append_assoc, append-nil, add-one, nat_le, nat_lt, codes}
+use Rattle.std.proofs.Common.{◌≡◌, ◌∙◌, ℕ, zero, suc, ◌+◌, ◌-◌, ◌*◌, ◌/◌, ◌%◌, ◌^◌, ◌<◌, ◌≤◌, ◌==◌, ◌&&◌, Bool, true, false, cond, List, [], ◌∷◌, ◌++◌, length, take, drop, Option, Some, None, option_map, refl, sym, ap, subst, arith, eqb-true, eq-eqb, append_assoc, append-nil, add-one, nat_le, codes}
 use Rattle.std.specs.Prelude.{option_and_then, MatchOption, ◌≢◌}
 use Rattle.std.specs.Option.{option_or}
 use Rattle.std.proofs.Math.Nat.{mul-le-mul_left}
@@ -107,7 +107,7 @@ prints_back (b ∷ bs) k a n e = go (digit b) refl e (λ d. prints_back bs (suc 
         let place : k + length (b ∷ bs) ≡ suc k + length bs = omega arith in
         record {
           digits = ap (λ j. hex_digits j n) place ∙ others.digits ∙ ap (λ front. front ++ bs) (hex_digits-more k a d one.below)
-            ∙ ap (λ c. (hex_digits k a ++ c ∷ []) ++ bs) one.is ∙ append_assoc (hex_digits k a) (b ∷ []) bs;
+              ∙ ap (λ c. (hex_digits k a ++ c ∷ []) ++ bs) one.is ∙ append_assoc (hex_digits k a) (b ∷ []) bs;
           small = (let up : 16 ^ length bs * (16 * a + d + 1) ≤ 16 ^ length bs * (16 * (a + 1)) = mul-le-mul_left (16 ^ length bs) (let low = one.below in omega arith) in rw p (omega (arith, others.small, up)));
         }
 

@@ -1,7 +1,7 @@
 -- Over a trail of facts the limits are counts of the facts: nothing needs to be kept of what was met.
-use Rattle.std.proofs.Common.{ℕ, zero, suc, ◌+◌, ◌≤◌, ◌≡◌, ◌==◌, ◌&&◌, ◌∙◌, refl, sym, ap, subst, arith, lit≤, Bool, true, false, List, [], ◌∷◌, ◌++◌, length, fold, sum_by, Option, Some, None, Result, Ok, Err, if◌then◌else◌, nat_lt, append_assoc, append-nil}
+use Rattle.std.proofs.Common.{ℕ, zero, suc, ◌+◌, ◌≤◌, ◌≡◌, ◌==◌, ◌∙◌, refl, sym, ap, subst, arith, lit≤, Bool, true, false, List, [], ◌∷◌, ◌++◌, length, fold, sum_by, Option, Some, None, Result, Ok, Err, if◌then◌else◌, nat_lt, append_assoc, append-nil}
 use Rattle.std.proofs.lemmas.Bool.Decides.{nat_tests}
-use Rattle.zbase.specs.Query.{Query, Done, Stops, Asks, Halt, Need, Cause, run, go_on}
+use Rattle.zbase.specs.Query.{Done, Stops, Asks, Halt, Need, Cause, run, go_on}
 use Rattle.evaluator.specs.declared.ask.Ask.{Ask}
 use Rattle.evaluator.specs.declared.fact.Fact.{Fact}
 use Rattle.evaluator.specs.declared.outcome.Outcome.{Outcome}

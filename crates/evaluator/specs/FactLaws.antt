@@ -1,5 +1,5 @@
 -- What is known of an ask, and what a trail of facts keeps.
-use Rattle.std.proofs.Common.{◌≡◌, ℕ, ◌==◌, Bool, true, false, cond, List, [], ◌∷◌, ◌++◌, Some, None, refl, sym, ap, ◌∙◌, subst, filter, eqb-true, eq-eqb, append_assoc, append-nil}
+use Rattle.std.proofs.Common.{◌≡◌, Bool, true, false, cond, List, [], ◌∷◌, ◌++◌, Some, None, refl, sym, ap, ◌∙◌, subst, filter, eqb-true, eq-eqb, append_assoc, append-nil}
 use Rattle.zbase.specs.History.{History}
 use Rattle.evaluator.specs.declared.ask.Ask.{Ask}
 use Rattle.evaluator.specs.declared.fact.Fact.{Fact}

@@ -11,3 +11,4 @@ pub mod Counting
 pub mod Cells
 pub mod CellLaws
 pub mod Permissions
+pub mod Worked

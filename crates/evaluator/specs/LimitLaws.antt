@@ -1,6 +1,6 @@
 -- The limits of an evaluation hold on each way through it, and keep its laws.
 use Rattle.std.proofs.Common.{ℕ, zero, suc, ◌+◌, ◌≡◌, refl, Bool, true, false, List, [], ◌∷◌, ◌++◌, Option, Some, None, if◌then◌else◌, nat_lt}
-use Rattle.zbase.specs.Query.{Query, Done, Stops, Asks, IsWithin}
+use Rattle.zbase.specs.Query.{Done, Stops, Asks, IsWithin}
 use Rattle.evaluator.specs.declared.ask.Ask.{Ask}
 use Rattle.evaluator.specs.declared.fact.Fact.{Fact}
 use Rattle.evaluator.specs.declared.reply.Reply.{Reply}

@@ -10,7 +10,9 @@ ghost use Rattle.evaluator.specs.Facts.{look};
 ghost use Rattle.evaluator.specs.Questions.{outcome};
 
 use crate::cell_texts::read_request;
-use crate::{Ask, Draft, Entries, Entry, Evaluator, Fact, Facts, Holes, Name, Outcome, Reply, look};
+use crate::{
+    Ask, Draft, Entries, Entry, Evaluator, Fact, Facts, Holes, Name, Outcome, Reply, look,
+};
 use std::alloc::Global;
 use zbase::{Bytes, Memory, Oid, Text, Tid, hex_digits};
 
@@ -101,7 +103,8 @@ fn shown_parts(alloc: Global, fact: &Fact) -> Result<Text, Memory>
 {
     match fact {
         Fact::Transaction {
-            parts: Some(parts), ..
+            parts: Some(parts),
+            ..
         } => decimal_text(alloc, parts.len()),
         Fact::Transaction { parts: None, .. } | Fact::Object { .. } | Fact::Log(_) => {
             Text::from_str(alloc, "none")

@@ -5,11 +5,15 @@
 //! hold their data (`specs/Plain`), with their values (`specs/Wholes`).
 #![tactic(auto)]
 
+#[cfg(test)]
+mod agreeing;
 mod copying;
 mod data;
 mod extent;
 mod judging;
 mod magic;
+#[cfg(test)]
+mod naive;
 mod opening;
 mod places;
 mod plain;

@@ -1,0 +1,6 @@
+pub mod Trees
+pub mod Views
+pub mod Tokens
+pub mod Grammar
+pub mod Reading
+pub mod Refusals

@@ -1,0 +1,294 @@
+//! The scan and a plain reader agree, on files that are made here and then changed byte by byte.
+
+use crate::naive::{Answer, Said, read_file};
+use crate::{ScanRefusal, Scanned, scan_bytes};
+use fs_record::Damage;
+use std::alloc::Global;
+use std::mem;
+use std::test::*;
+use zbase::{Bytes, Memory};
+
+/// What a record has: data of this length, or a back pointer to the record of its object that is so many back among
+/// those of earlier transactions, 0 for a back pointer to none.
+#[derive(Clone, Copy)]
+enum Has {
+    Data(u8),
+    Back(u8),
+}
+
+use Has::{Back, Data};
+
+/// A transaction's status, and its records' objects and bodies.
+type Made = (u8, &'static [(u64, Has)]);
+
+/// Files without damage.
+const FILES: [&[Made]; 10] = [
+    &[],
+    &[(b' ', &[])],
+    &[(b' ', &[(0, Data(3))])],
+    &[
+        (b'p', &[(0, Data(3)), (1, Data(1))]),
+        (b' ', &[(1, Data(2))]),
+    ],
+    &[(b'u', &[(9, Data(2))]), (b' ', &[(3, Data(1))])],
+    &[(b' ', &[(3, Data(1))]), (b'u', &[(3, Back(1))])],
+    // a chain of back pointers, and one to none
+    &[
+        (b' ', &[(5, Data(2))]),
+        (b' ', &[(5, Back(1))]),
+        (b' ', &[(5, Back(1)), (6, Back(0))]),
+        (b' ', &[(5, Back(3))]),
+    ],
+    // two records of an object in one transaction, and a back pointer to the first
+    &[
+        (b' ', &[(5, Data(2)), (5, Data(1))]),
+        (b' ', &[(5, Back(2)), (5, Back(1))]),
+    ],
+    &[
+        (b'p', &[(7, Data(1))]),
+        (b'u', &[]),
+        (b'p', &[]),
+        (b' ', &[(7, Data(1)), (2, Data(1))]),
+    ],
+    DAMAGED,
+];
+
+/// The file whose last transaction, at place 198 behind an undone one, is damaged below: it has a back pointer at
+/// place 221, and data at 271.
+const DAMAGED: &[Made] = &[
+    (b' ', &[(1, Data(3)), (2, Data(2))]),
+    (b'u', &[(7, Data(1))]),
+    (b' ', &[(1, Back(1)), (2, Data(4))]),
+];
+
+fn number(out: &mut Bytes, number: u64) -> Result<(), Memory> {
+    out.append(&number.to_be_bytes())
+}
+
+// The place of the object's record that is so many back, 0 for none.
+fn back_by(rows: &[(u64, u64)], oid: u64, count: u8) -> u64 {
+    let mut left = count;
+    for row in rows.iter().rev() {
+        if row.0 == oid {
+            if left == 1 {
+                return row.1;
+            }
+            left = left.saturating_sub(1);
+        }
+    }
+    0
+}
+
+fn put_record(
+    out: &mut Bytes,
+    rows: &[(u64, u64)],
+    tid: u64,
+    start: u64,
+    record: &(u64, Has),
+) -> Result<(), Memory> {
+    let (oid, has) = *record;
+    number(out, oid)?;
+    number(out, tid)?;
+    number(out, back_by(rows, oid, 1))?;
+    number(out, start)?;
+    out.append(&[0, 0])?;
+    match has {
+        Data(len) => {
+            number(out, u64::from(len))?;
+            for _ in 0..len {
+                out.push(b'd')?;
+            }
+            Ok(())
+        }
+        Back(count) => {
+            number(out, 0)?;
+            number(out, back_by(rows, oid, count))
+        }
+    }
+}
+
+// The transaction behind the file. Of an undone one the id isn't compared, and its records don't count.
+fn put_transaction(
+    alloc: Global,
+    out: &mut Bytes,
+    rows: &mut Vec<(u64, u64)>,
+    tid: u64,
+    made: &Made,
+) -> Result<(), Memory> {
+    let start = out.len() as u64;
+    let mut records = Bytes::new(alloc);
+    let mut places = Vec::new(alloc);
+    for record in made.1 {
+        let place = start
+            .saturating_add(23)
+            .saturating_add(records.len() as u64);
+        put_record(&mut records, rows.as_slice(), tid, start, record)?;
+        places.push((record.0, place))?;
+    }
+    let length = 23u64.saturating_add(records.len() as u64);
+    number(out, tid)?;
+    number(out, length)?;
+    out.append(&[made.0, 0, 0, 0, 0, 0, 0])?;
+    out.append(records.as_slice())?;
+    number(out, length)?;
+    if made.0 != b'u' {
+        for row in places.as_slice() {
+            rows.push(*row)?;
+        }
+    }
+    Ok(())
+}
+
+fn file_of(alloc: Global, transactions: &[Made]) -> Result<Vec<u8>, Memory> {
+    let mut out = Bytes::from_slice(alloc, b"FS21")?;
+    let mut rows = Vec::new(alloc);
+    let mut tid = 0u64;
+    for made in transactions {
+        tid = tid.saturating_add(256);
+        let said = if made.0 == b'u' { 1 } else { tid };
+        put_transaction(alloc, &mut out, &mut rows, said, made)?;
+    }
+    Ok(out.into_vec())
+}
+
+fn said(alloc: Global, scanned: &Scanned) -> Result<Said, Memory> {
+    let mut newest = Vec::new(alloc);
+    for row in scanned.rows.as_slice() {
+        newest.push((row.oid.0, row.place))?;
+    }
+    Ok(Said {
+        end: scanned.end,
+        torn: scanned.torn,
+        greatest: scanned.greatest.map(|oid| oid.0),
+        last: scanned.last.0,
+        floor: scanned.floor.0,
+        count: scanned.count,
+        newest,
+    })
+}
+
+fn scanned(alloc: Global, bytes: &[u8]) -> Result<Answer, Fail> {
+    match scan_bytes(alloc, bytes) {
+        Ok(scanned) => Ok(Ok(said(alloc, &scanned)?)),
+        Err(ScanRefusal::Damaged(kind, place)) => Ok(Err((kind, place))),
+        Err(ScanRefusal::Disk) => Err("no disk is there".into()),
+        Err(ScanRefusal::Memory) => Err("want of memory".into()),
+    }
+}
+
+// What both say of the bytes; an error where they differ.
+fn agreed(alloc: Global, bytes: &[u8]) -> Result<Answer, Fail> {
+    let read = read_file(alloc, bytes)?;
+    if scanned(alloc, bytes)? != read {
+        return Err("the scan and the plain reader differ".into());
+    }
+    Ok(read)
+}
+
+// Sets a byte, and gives the one that stood there.
+fn set(bytes: &mut [u8], place: usize, byte: u8) -> u8 {
+    match bytes.get_mut(place) {
+        Some(old) => mem::replace(old, byte),
+        None => 0,
+    }
+}
+
+// Counts of what files open to: whole, torn, and each kind of damage in the order of its declaration.
+fn counted(counts: &mut [u64; 10], answer: &Answer) {
+    let index = match answer {
+        Ok(said) if said.torn == 0 => 0,
+        Ok(_) => 1,
+        Err((kind, _)) => 2 + *kind as usize,
+    };
+    counts[index] = counts[index].saturating_add(1);
+}
+
+#[test]
+fn they_agree_on_made_files_however_they_are_cut(rt: HostRuntime) -> Result<(), Fail> {
+    for (index, made) in FILES.iter().enumerate() {
+        let file = file_of(rt.alloc(), made)?;
+        let whole = agreed(rt.alloc(), file.as_slice())?;
+        let end = whole.map(|said| (said.end, said.torn));
+        assert_eq!(rt; end, Ok((file.len() as u64, 0)), "file {index}");
+        for len in 0..file.len() {
+            let answer = agreed(rt.alloc(), &file.as_slice()[..len])?;
+            assert_eq!(rt; answer.is_err(), len < 4, "file {index} cut at {len}");
+        }
+    }
+    Ok(())
+}
+
+#[test]
+fn they_agree_on_made_files_with_any_byte_changed(rt: HostRuntime) -> Result<(), Fail> {
+    let mut counts = [0; 10];
+    for made in FILES {
+        let mut file = file_of(rt.alloc(), made)?;
+        for place in 0..file.len() {
+            let old = file[place];
+            for byte in [old.wrapping_add(1), old ^ 128, b'u', b'p', 0] {
+                set(file.as_mut_slice(), place, byte);
+                counted(&mut counts, &agreed(rt.alloc(), file.as_slice())?);
+            }
+            set(file.as_mut_slice(), place, old);
+        }
+    }
+    assert!(rt; counts.iter().all(|count| *count > 20));
+    Ok(())
+}
+
+/// Changes to the last transaction of the damaged file, and the damage that each makes, in the order in which damages
+/// are tried.
+const CHANGES: [(usize, u8, Damage); 9] = [
+    // the length of its last data, 5 for 4
+    (312, 5, Damage::BadLength),
+    // its id, which is less than the one before; a data record's start
+    (204, 0, Damage::BadTid),
+    (252, 199, Damage::BadTid),
+    // the previous place of its last data record
+    (294, 73, Damage::BadPrev),
+    // the back pointer's place is of another object
+    (270, 72, Damage::BadBack),
+    (214, b'x', Damage::BadStatus),
+    (324, 126, Damage::BadTail),
+    (254, 1, Damage::BadVersion),
+    (304, 1, Damage::BadVersion),
+];
+
+#[test]
+fn of_two_damages_the_first_is_named(rt: HostRuntime) -> Result<(), Fail> {
+    let mut file = file_of(rt.alloc(), DAMAGED)?;
+    for (index, first) in CHANGES.iter().enumerate() {
+        for second in &CHANGES[index..] {
+            let before = set(file.as_mut_slice(), first.0, first.1);
+            let between = set(file.as_mut_slice(), second.0, second.1);
+            let answer = agreed(rt.alloc(), file.as_slice())?;
+            assert_eq!(rt; answer, Err((first.2, 198)), "change {index}");
+            set(file.as_mut_slice(), second.0, between);
+            set(file.as_mut_slice(), first.0, before);
+        }
+    }
+    Ok(())
+}
+
+/// Changes by which the last transaction looks as if its writing was broken off: its status, or a length that passes
+/// the file's end.
+const TORN: [(usize, u8); 3] = [(214, b'c'), (214, 0), (213, 128)];
+
+#[test]
+fn a_rest_that_looks_torn_is_not_judged(rt: HostRuntime) -> Result<(), Fail> {
+    let mut file = file_of(rt.alloc(), DAMAGED)?;
+    for change in CHANGES {
+        let old = set(file.as_mut_slice(), change.0, change.1);
+        let head = file.as_slice().get(..220).ok_or("is longer")?;
+        let cut = agreed(rt.alloc(), head)?;
+        assert_eq!(rt; cut.map(|said| (said.end, said.torn)), Ok((198, 22)));
+        for (place, byte) in TORN {
+            let whole = set(file.as_mut_slice(), place, byte);
+            let answer = agreed(rt.alloc(), file.as_slice())?;
+            assert_eq!(rt; answer.map(|said| (said.end, said.torn)), Ok((198, 127)));
+            set(file.as_mut_slice(), place, whole);
+        }
+        set(file.as_mut_slice(), change.0, old);
+    }
+    Ok(())
+}
