@@ -39,7 +39,7 @@ pub record IsRevision (bytes : List ℕ) (records : List Earlier) (oid place : �
   pub value : value_at place records ≡ r.value
   pub stands : StandsAt bytes records place r
 
--- where an object's last revision stands; the place is 0 where it has none
+-- where an object's last revision stands; the place is 0 where it has none, and no record
 abbrev pub LastStands : List ℕ → List Earlier → ℕ → ℕ → Option Revision → Type 0
-LastStands bytes records oid place None = place ≡ 0
+LastStands bytes records oid place None = (place ≡ 0) × ((other : ℕ) → IsPlace records oid other → ⊥)
 LastStands bytes records oid place (Some r) = IsPlace records oid place × IsRevision bytes records oid place r

@@ -268,6 +268,16 @@ all_kept (b ∷ bs) right =
 file_kept : (bytes : List ℕ) (front : Front) → IsFile bytes front → Kept bytes front
 file_kept bytes front file = subst (λ (x : List ℕ). Kept x front) (sym file.spelled) (subst (λ (f : Front). Kept (bytes_of file.blocks) f) (sym file.said) (all_kept file.blocks file.right))
 
+-- also where something stands behind the file
+kept_behind : (bytes rest : List ℕ) (front : Front) → IsFile bytes front → Kept (bytes ++ rest) front
+kept_behind bytes rest front file =
+    let kept = file_kept bytes front file in
+    record {
+      rise = kept.rise;
+      each = subst (λ (all : List Earlier). AreKept (bytes ++ rest) all (revisions front.history) front.records) (append-nil front.records)
+          (kept_on bytes rest front.records [] 4 front.place (revisions front.history) front.records kept.rise (omega (arith, file_place bytes front file)) kept.each);
+    }
+
 -- ---- what a reader needs
 
 found_if : (bytes : List ℕ) (all : List Earlier) (oid place : ℕ) (r : Revision) (e : Earlier) (es : List Earlier) (here : Bool) → IsKept bytes all r e → value_at e.at.place all ≡ e.value → is_row oid place e.at ≡ here → (here || list_any (is_row oid place) (rows es)) ≡ true
@@ -283,10 +293,10 @@ found bytes all oid place [] (e ∷ es) kept each any = absurd kept
 found bytes all oid place (r ∷ rs) (e ∷ es) kept each any = found_if bytes all oid place r e es _ kept.0 each.0 refl any (found bytes all oid place rs es kept.1 each.1)
 
 -- A record of an object at a place of a file is one of its revisions.
-pub each_stands : (bytes : List ℕ) (front : Front) → IsFile bytes front → (oid place : ℕ) → IsPlace front.records oid place → (r : Revision) × IsRevision bytes front.records oid place r
-each_stands bytes front file oid place is =
-    let kept = file_kept bytes front file in
-    found bytes front.records oid place (revisions front.history) front.records kept.each (have_values 4 front.place front.records kept.rise) is
+pub each_stands : (bytes rest : List ℕ) (front : Front) → IsFile bytes front → (oid place : ℕ) → IsPlace front.records oid place → (r : Revision) × IsRevision (bytes ++ rest) front.records oid place r
+each_stands bytes rest front file oid place is =
+    let kept = kept_behind bytes rest front file in
+    found (bytes ++ rest) front.records oid place (revisions front.history) front.records kept.each (have_values 4 front.place front.records kept.rise) is
 
 -- the last one, else a place that was found before
 abbrev LastSays : List ℕ → List Earlier → ℕ → ℕ → ℕ → Option Revision → Type 0
@@ -310,12 +320,24 @@ last_says bytes all oid before (r ∷ rs) (e ∷ es) kept each places =
     one_later bytes all oid before (last_place oid (cond (eqb e.at.oid oid) e.at.place before) (rows es)) r e (newest rs oid) _ kept.0 each.0 places.0 refl
     (subst (λ (n : ℕ). LastSays bytes all oid n (last_place oid (cond (eqb e.at.oid oid) e.at.place before) (rows es)) (newest rs oid)) begin (last_says bytes all oid (cond (eqb e.at.oid oid) e.at.place before) rs es kept.1 each.1 places.1))
 
-from_none : (bytes : List ℕ) (all : List Earlier) (oid place : ℕ) (o : Option Revision) → LastSays bytes all oid 0 place o → LastStands bytes all oid place o
-from_none bytes all oid place None says = says
-from_none bytes all oid place (Some r) says = says
+no_other : (oid place : ℕ) (r : Revision) (e : Earlier) (o : Option Revision) (same here : Bool) (rest : Bool) → e.at.oid ≡ r.oid → eqb r.oid oid ≡ same → is_row oid place e.at ≡ here → later (cond same (Some r) None) o ≡ None → (here || rest) ≡ true → (o ≡ None → rest ≡ true → ⊥) → ⊥
+no_other oid place r e (Some s) same here rest of is at none any deeper = cc
+no_other oid place r e None true here rest of is at none any deeper = cc
+no_other oid place r e None false true rest of is at none any deeper = false≢true (sym is ∙ eq-eqb r.oid oid (sym of ∙ eqb-true e.at.oid oid (both_true _ _ at).0))
+no_other oid place r e None false false rest of is at none any deeper = deeper refl any
+
+-- an object without a revision has no record
+no_record : (bytes : List ℕ) (all : List Earlier) (oid place : ℕ) (rs : List Revision) (es : List Earlier) → AreKept bytes all rs es → newest rs oid ≡ None → list_any (is_row oid place) (rows es) ≡ true → ⊥
+no_record bytes all oid place rs [] kept none any = false≢true any
+no_record bytes all oid place [] (e ∷ es) kept none any = kept
+no_record bytes all oid place (r ∷ rs) (e ∷ es) kept none any = no_other oid place r e (newest rs oid) _ _ _ kept.0.oid refl refl none any (no_record bytes all oid place rs es kept.1)
+
+from_none : (bytes : List ℕ) (all : List Earlier) (oid place : ℕ) (o : Option Revision) → (o ≡ None → (other : ℕ) → IsPlace all oid other → ⊥) → LastSays bytes all oid 0 place o → LastStands bytes all oid place o
+from_none bytes all oid place None lacks says = (says, lacks refl)
+from_none bytes all oid place (Some r) lacks says = says
 
 -- An object's last record is its newest revision.
-pub last_stands : (bytes : List ℕ) (front : Front) → IsFile bytes front → (oid : ℕ) → LastStands bytes front.records oid (last_place oid 0 (rows front.records)) (newest (revisions front.history) oid)
-last_stands bytes front file oid =
-    let kept = file_kept bytes front file in
-    from_none bytes front.records oid _ (newest (revisions front.history) oid) (last_says bytes front.records oid 0 (revisions front.history) front.records kept.each (have_values 4 front.place front.records kept.rise) (are_places front.records))
+pub last_stands : (bytes rest : List ℕ) (front : Front) → IsFile bytes front → (oid : ℕ) → LastStands (bytes ++ rest) front.records oid (last_place oid 0 (rows front.records)) (newest (revisions front.history) oid)
+last_stands bytes rest front file oid =
+    let kept = kept_behind bytes rest front file in
+    from_none (bytes ++ rest) front.records oid _ (newest (revisions front.history) oid) (λ none other. no_record (bytes ++ rest) front.records oid other (revisions front.history) front.records kept.each none) (last_says (bytes ++ rest) front.records oid 0 (revisions front.history) front.records kept.each (have_values 4 front.place front.records kept.rise) (are_places front.records))

@@ -52,8 +52,8 @@ pub fn reading_finds()
 {}
 
 /// The data records of a file are the revisions of its history: each stands at its place, and an object's last one
-/// is its newest.
+/// is its newest; also where a torn rest stands behind the file.
 pub fn records_are_revisions()
-    ensures each { (bytes : List ℕ) (front : Front) → IsFile bytes front → (oid place : ℕ) → IsPlace front.records oid place → (r : Revision) × IsRevision bytes front.records oid place r }
-    ensures last { (bytes : List ℕ) (front : Front) → IsFile bytes front → (oid : ℕ) → LastStands bytes front.records oid (last_place oid 0 (rows front.records)) (newest (revisions front.history) oid) }
+    ensures each { (bytes rest : List ℕ) (front : Front) → IsFile bytes front → (oid place : ℕ) → IsPlace front.records oid place → (r : Revision) × IsRevision (bytes ++ rest) front.records oid place r }
+    ensures last { (bytes rest : List ℕ) (front : Front) → IsFile bytes front → (oid : ℕ) → LastStands (bytes ++ rest) front.records oid (last_place oid 0 (rows front.records)) (newest (revisions front.history) oid) }
 {}
