@@ -59,6 +59,7 @@ fn has_value(bytes: &[u8], place: u64) -> bool
         if back == 0 {
             return false;
         }
+        // only of bytes that are no file, since a back pointer names an earlier place
         if back >= at {
             return false;
         }
