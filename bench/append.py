@@ -1,43 +1,20 @@
 #!/usr/bin/env python3
 """Appends 1,000,000 records of 100 bytes by the writer of transactions, and as many bytes in plain pieces.
 
-Both run in one program, `append/`, five times in turn: all records in one transaction, and each in its own. The
-program is proved and built in a scratch repository over copies of the crates that it stands on; its files end in
-`.in`, since it is none of the crates that the gate checks.
+Both run in one program, `append/`, five times in turn: all records in one transaction, and each in its own.
 """
 
 import pathlib
-import shutil
 import subprocess
 import tempfile
 
-HOME = pathlib.Path(__file__).resolve().parent.parent
-CRATES = {"zbase": "", "fs_record": "zbase"}
-
-
-def scratch(folder):
-    """A repository of the program and those crates."""
-    (folder / "crates").mkdir()
-    for name in CRATES:
-        shutil.copytree(HOME / "crates" / name, folder / "crates" / name)
-    program = folder / "crates" / "append"
-    for kept in (HOME / "bench" / "append").rglob("*.in"):
-        copy = program / kept.relative_to(HOME / "bench" / "append").with_suffix("")
-        copy.parent.mkdir(parents=True, exist_ok=True)
-        shutil.copy(kept, copy)
-    for sub in ("specs", "proofs"):
-        (program / sub).mkdir(exist_ok=True)
-        (program / sub / "Lib.antt").touch()
-    lines = [f"{name}: {deps}".strip() for name, deps in CRATES.items()]
-    (folder / "crates.txt").write_text("\n".join(lines + ["append: zbase fs_record", ""]))
-    subprocess.run(["git", "init", "-q"], cwd=folder, check=True)
-    return program
+from programs import scratch
 
 
 def measured():
     """The best time of each kind, in seconds, with its number of bytes."""
     with tempfile.TemporaryDirectory() as made:
-        program = scratch(pathlib.Path(made))
+        program = scratch(pathlib.Path(made), "append", ["zbase", "fs_record"])
         done = subprocess.run(["rt", "run"], cwd=program, capture_output=True, text=True)
     best = {}
     for line in done.stdout.splitlines():

@@ -14,3 +14,5 @@ pub mod HeadLaws
 pub mod RecordLaws
 pub mod BlockLaws
 pub mod ReadingLaws
+pub mod Standing
+pub mod StandingLaws

@@ -8,6 +8,9 @@ ghost use Rattle.fs_record.specs.declared.body.Item.{Item};
 ghost use Rattle.fs_record.specs.declared.body.TxnTexts.{TxnTexts};
 ghost use Rattle.fs_record.specs.Opening.{NoBlock, Stands, Cut, Damaged};
 ghost use Rattle.fs_record.specs.Reading.{block_read, Opens, Broken, opening_of};
+ghost use Rattle.zbase.specs.Values.{Revision, newest, revisions};
+ghost use Rattle.fs_record.specs.File.{last_place, rows};
+ghost use Rattle.fs_record.specs.Standing.{IsPlace, IsRevision, LastStands};
 ghost use Rattle.fs_record.specs.declared.damage.Damage.{Damage as Kind};
 
 /// No transaction's spelling begins another's.
@@ -46,4 +49,11 @@ pub fn reading_finds()
     ensures no_block { (bytes : List ℕ) → All (λ byte. byte < 256) bytes → block_read bytes ≡ None ↔ NoBlock bytes }
     ensures cut { (bytes : List ℕ) → All (λ byte. byte < 256) bytes → (front : Front) (n : ℕ) → opening_of bytes ≡ Opens front n ↔ Cut bytes front n }
     ensures damaged { (bytes : List ℕ) → All (λ byte. byte < 256) bytes → (kind : Kind) (n : ℕ) → opening_of bytes ≡ Broken kind n ↔ Damaged bytes n kind }
+{}
+
+/// The data records of a file are the revisions of its history: each stands at its place, and an object's last one
+/// is its newest; also where a torn rest stands behind the file.
+pub fn records_are_revisions()
+    ensures each { (bytes rest : List ℕ) (front : Front) → IsFile bytes front → (oid place : ℕ) → IsPlace front.records oid place → (r : Revision) × IsRevision (bytes ++ rest) front.records oid place r }
+    ensures last { (bytes rest : List ℕ) (front : Front) → IsFile bytes front → (oid : ℕ) → LastStands (bytes ++ rest) front.records oid (last_place oid 0 (rows front.records)) (newest (revisions front.history) oid) }
 {}

@@ -55,7 +55,7 @@ place_if : (t : Bool) (place : ℕ) (f : Option ℕ) → place_in (cond t (Some 
 place_if true place f = refl
 place_if false place f = refl
 
-row_place : (o : ℕ) (f : Option ℕ) (rows : List Row) → place_in (last_row o f rows) ≡ last_place o (place_in f) rows
+pub row_place : (o : ℕ) (f : Option ℕ) (rows : List Row) → place_in (last_row o f rows) ≡ last_place o (place_in f) rows
 row_place o f [] = refl
 row_place o f (r ∷ rows) = row_place o (if r.oid == o then Some r.place else f) rows ∙ ap (λ (n : ℕ). last_place o n rows) (place_if (r.oid == o) r.place f)
 

@@ -8,3 +8,5 @@ pub mod PlainFiles
 pub mod RisingPlaces
 pub mod Stepping
 pub mod WholeAt
+pub mod Present
+pub mod Counting

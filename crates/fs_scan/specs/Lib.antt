@@ -8,3 +8,5 @@ pub mod Wholes
 pub mod Plain
 pub mod Copied
 pub mod Scanned
+pub mod Present
+pub mod Checked

@@ -1,7 +1,7 @@
 //! The scan and a plain reader agree, on files that are made here and then changed byte by byte.
 
 use crate::naive::{Answer, Said, read_file};
-use crate::{ScanRefusal, Scanned, scan_bytes};
+use crate::{Checked, ScanRefusal, Scanned, check_bytes, scan_bytes};
 use fs_record::Damage;
 use std::alloc::Global;
 use std::mem;
@@ -151,7 +151,7 @@ fn file_of(alloc: Global, transactions: &[Made]) -> Result<Vec<u8>, Memory> {
     Ok(out.into_vec())
 }
 
-fn said(alloc: Global, scanned: &Scanned) -> Result<Said, Memory> {
+fn said(alloc: Global, scanned: &Scanned, checked: &Checked) -> Result<Said, Memory> {
     let mut newest = Vec::new(alloc);
     for row in scanned.rows.as_slice() {
         newest.push((row.oid.0, row.place))?;
@@ -163,16 +163,34 @@ fn said(alloc: Global, scanned: &Scanned) -> Result<Said, Memory> {
         last: scanned.last.0,
         floor: scanned.floor.0,
         count: scanned.count,
+        objects: checked.objects,
         newest,
     })
 }
 
+// What a scan and a check say of the bytes; an error where these two differ.
 fn scanned(alloc: Global, bytes: &[u8]) -> Result<Answer, Fail> {
-    match scan_bytes(alloc, bytes) {
-        Ok(scanned) => Ok(Ok(said(alloc, &scanned)?)),
-        Err(ScanRefusal::Damaged(kind, place)) => Ok(Err((kind, place))),
-        Err(ScanRefusal::Disk) => Err("no disk is there".into()),
-        Err(ScanRefusal::Memory) => Err("want of memory".into()),
+    match (scan_bytes(alloc, bytes), check_bytes(alloc, bytes)) {
+        (Ok(scanned), Ok(checked)) => {
+            let of_scan = (scanned.count, scanned.last, scanned.end, scanned.torn);
+            let of_check = (
+                checked.transactions,
+                checked.last,
+                checked.end,
+                checked.torn,
+            );
+            if of_scan != of_check {
+                return Err("the scan and the check have other numbers".into());
+            }
+            Ok(Ok(said(alloc, &scanned, &checked)?))
+        }
+        (Err(ScanRefusal::Damaged(kind, place)), Err(refusal)) => {
+            if refusal != ScanRefusal::Damaged(kind, place) {
+                return Err("the scan and the check name other damage".into());
+            }
+            Ok(Err((kind, place)))
+        }
+        _ => Err("one of the two is refused".into()),
     }
 }
 

@@ -7,6 +7,7 @@
 
 #[cfg(test)]
 mod agreeing;
+mod checking;
 mod copying;
 mod data;
 mod extent;
@@ -23,6 +24,7 @@ mod step;
 mod tests;
 mod wholes;
 
+pub use checking::{Checked, check, check_bytes};
 pub use opening::{ScanRefusal, Scanned, scan, scan_bytes};
 pub use plain::{PlainRefusal, read_plain_file};
 pub use wholes::{OidValue, OidValues, Whole, Wholes};

@@ -14,6 +14,8 @@ pub struct Said {
     pub last: u64,
     pub floor: u64,
     pub count: u64,
+    /// The number of objects that have a value.
+    pub objects: u64,
     /// Each object's id and the place of its last data record, by rising id.
     pub newest: Vec<(u64, u64)>,
 }
@@ -208,7 +210,14 @@ fn newest_of(alloc: Global, earlier: &[(u64, u64)]) -> Result<Vec<(u64, u64)>, A
     Ok(newest)
 }
 
-fn take(said: &mut Said, earlier: &mut Vec<(u64, u64)>, t: &Transaction) -> Result<(), AllocError> {
+// Takes a transaction's records. The places of those that mean a value, by themselves or by the one to which they
+// point back, are kept too.
+fn take(
+    said: &mut Said,
+    earlier: &mut Vec<(u64, u64)>,
+    meaning: &mut Vec<u64>,
+    t: &Transaction,
+) -> Result<(), AllocError> {
     said.end = said.end.saturating_add(t.length).saturating_add(8);
     if t.status == u64::from(b'u') {
         return Ok(());
@@ -221,6 +230,9 @@ fn take(said: &mut Said, earlier: &mut Vec<(u64, u64)>, t: &Transaction) -> Resu
     if let Some(records) = &t.records {
         for record in records {
             earlier.push((record.oid, record.place))?;
+            if record.length != 0 || meaning.contains(&record.back) {
+                meaning.push(record.place)?;
+            }
             said.greatest = Some(record.oid.max(said.greatest.unwrap_or(0)));
         }
     }
@@ -239,9 +251,11 @@ pub fn read_file(alloc: Global, bytes: &[u8]) -> Result<Answer, AllocError> {
         last: 0,
         floor: 0,
         count: 0,
+        objects: 0,
         newest: Vec::new(alloc),
     };
     let mut earlier = Vec::new(alloc);
+    let mut meaning = Vec::new(alloc);
     for _ in bytes {
         if ends_at(bytes, said.end) {
             break;
@@ -250,9 +264,14 @@ pub fn read_file(alloc: Global, bytes: &[u8]) -> Result<Answer, AllocError> {
         if let Some(kind) = first_damage(&transaction, &earlier, said.last) {
             return Ok(Err((kind, said.end)));
         }
-        take(&mut said, &mut earlier, &transaction)?;
+        take(&mut said, &mut earlier, &mut meaning, &transaction)?;
     }
     said.torn = (bytes.len() as u64).saturating_sub(said.end);
     said.newest = newest_of(alloc, &earlier)?;
+    for row in &said.newest {
+        if meaning.contains(&row.1) {
+            said.objects = said.objects.saturating_add(1);
+        }
+    }
     Ok(Ok(said))
 }

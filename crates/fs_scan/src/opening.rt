@@ -147,7 +147,7 @@ pub fn scan_bytes(alloc: Global, bytes: &[u8]) -> Result<Scanned, ScanRefusal>
 }
 
 /// All bytes of a disk's file.
-fn read_whole<D: Disk>(alloc: Global, disk: &mut D) -> Result<Vec<u8>, ScanRefusal>
+pub fn read_whole<D: Disk>(alloc: Global, disk: &mut D) -> Result<Vec<u8>, ScanRefusal>
     ensures all { IfOk result (λ bytes. IfSome (D.told disk.old) (λ told. content told ≡ bytes.items)) }
     ensures undamaged { (kind : Kind) (place : ℕ) → IsErrOf result (ScanRefusal.Damaged kind place) → ⊥ }
     ensures same { D.told disk.new ≡ D.told disk.old }

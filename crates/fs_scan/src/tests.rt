@@ -1,6 +1,6 @@
 use crate::places::Places;
 use crate::step::{Step, take_one};
-use crate::{PlainRefusal, ScanRefusal, Wholes, read_plain_file, scan, scan_bytes};
+use crate::{Checked, PlainRefusal, ScanRefusal, Wholes, check, read_plain_file, scan, scan_bytes};
 use fs_record::Damage;
 use std::alloc::Global;
 use std::test::*;
@@ -283,5 +283,55 @@ fn a_fault_of_the_disk_ends_a_scan(rt: HostRuntime) -> Result<(), Fail> {
         assert_eq!(rt; scan(rt.alloc(), &mut disk).err(), Some(ScanRefusal::Disk));
         assert_eq!(rt; disk.calls(), failing);
     }
+    Ok(())
+}
+
+fn worked(end: u64, torn: u64) -> Checked {
+    Checked {
+        transactions: 1,
+        objects: 2,
+        last: Tid(FIRST),
+        end,
+        torn,
+    }
+}
+
+#[test]
+fn a_check_has_the_numbers_of_the_worked_files(rt: HostRuntime) -> Result<(), Fail> {
+    let again = &TWO_OBJECTS[4..];
+    for (rest, status) in [(&[][..], None), (&again[..22], None), (again, Some(b'c'))] {
+        let mut file = Bytes::from_slice(rt.alloc(), &TWO_OBJECTS)?;
+        for (place, byte) in rest.iter().enumerate() {
+            file.push(if place == 16 {
+                status.unwrap_or(*byte)
+            } else {
+                *byte
+            })?;
+        }
+        let mut disk = MemoryDisk::new(rt.alloc(), file);
+        let checked = check(rt.alloc(), &mut disk);
+        assert_eq!(rt; checked, Ok(worked(184, rest.len() as u64)));
+    }
+    Ok(())
+}
+
+#[test]
+fn an_object_counts_where_its_last_record_means_a_value(rt: HostRuntime) -> Result<(), Fail> {
+    for (back, objects) in [(0, 1), (103, 2)] {
+        let mut records = Bytes::new(rt.alloc());
+        put_record(&mut records, 1, 103, b"", back)?;
+        let mut disk = MemoryDisk::new(rt.alloc(), longer(rt.alloc(), &records)?);
+        let checked = check(rt.alloc(), &mut disk).map_err(|_| "opens")?;
+        assert_eq!(rt; (checked.transactions, checked.objects), (2, objects));
+    }
+    Ok(())
+}
+
+#[test]
+fn a_fault_of_the_disk_ends_a_check(rt: HostRuntime) -> Result<(), Fail> {
+    let bytes = Bytes::from_slice(rt.alloc(), &TWO_OBJECTS)?;
+    let plan = FaultPlan::new(Vec::from_slice(rt.alloc(), &[2])?);
+    let mut disk = MemoryDisk::with_faults(bytes, plan);
+    assert_eq!(rt; check(rt.alloc(), &mut disk).err(), Some(ScanRefusal::Disk));
     Ok(())
 }

@@ -1,0 +1,42 @@
+"""Small programs over the crates, proved and built in a scratch repository.
+
+Their files end in `.in`, since they are none of the crates that the gate checks.
+"""
+
+import pathlib
+import shutil
+import subprocess
+
+HOME = pathlib.Path(__file__).resolve().parent.parent
+
+
+def libraries(names):
+    """The lines of `crates.txt` for these crates and all below them."""
+    lines = dict(line.split(":") for line in (HOME / "crates.txt").read_text().splitlines())
+    wanted, left = {}, list(names)
+    while left:
+        name = left.pop()
+        if name in lines and name not in wanted:
+            wanted[name] = lines[name].split()
+            left += wanted[name]
+    return wanted
+
+
+def scratch(folder, name, uses):
+    """A repository in the folder with the program of that name in `bench/`, over the crates that it uses."""
+    crates = folder / "crates"
+    crates.mkdir()
+    wanted = libraries(uses)
+    for library in wanted:
+        shutil.copytree(HOME / "crates" / library, crates / library)
+    for kept in (HOME / "bench" / name).rglob("*.in"):
+        copy = crates / name / kept.relative_to(HOME / "bench" / name).with_suffix("")
+        copy.parent.mkdir(parents=True, exist_ok=True)
+        shutil.copy(kept, copy)
+    for sub in ("specs", "proofs"):
+        (crates / name / sub).mkdir(exist_ok=True)
+        (crates / name / sub / "Lib.antt").touch()
+    lines = [f"{crate}: {' '.join(below)}".strip() for crate, below in wanted.items()]
+    (folder / "crates.txt").write_text("\n".join(lines + [f"{name}: {' '.join(uses)}", ""]))
+    subprocess.run(["git", "init", "-q"], cwd=folder, check=True)
+    return crates / name

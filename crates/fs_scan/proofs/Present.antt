@@ -1,0 +1,99 @@
+-- What is read of a record where it stands, and the records to which it points back.
+use Rattle.std.proofs.Common.{◌≡◌, ◌≢◌, ℕ, zero, suc, get_or, filter, ◌+◌, ◌<◌, ◌≤◌, ◌^◌, Bool, true, false, cond, eqb, ◌||◌, List, [], ◌∷◌, ◌++◌, length, take, drop, Option, Some, None, refl, sym, ap, subst, ◌∙◌, append_assoc, arith}
+use Rattle.std.specs.Option.{is_some}
+use Rattle.std.specs.List.{list_any}
+use Rattle.std.proofs.lemmas.List.Filters.{length-filter_more}
+use Rattle.zbase.specs.declared.ids.Row.{Row}
+use Rattle.std.proofs.lemmas.List.{length-append, length-drop}
+use Rattle.std.proofs.lemmas.Bool.{eq-eqb, ne_eqb, false≢true}
+use Rattle.zbase.specs.Numbers.{be64}
+use Rattle.zbase.specs.NumberLaws.{length-be64, same_be64}
+use Rattle.zbase.specs.History.{Value}
+use Rattle.fs_record.specs.declared.heads.DataHead.{DataHead}
+use Rattle.fs_record.specs.declared.body.Body.{Body}
+use Rattle.fs_record.specs.declared.body.Body.TheVariants.{Full, Back}
+use Rattle.fs_record.specs.Spelling.{data_head, head_of, Data, data_spelling, body_length, body_spelling}
+use Rattle.fs_record.specs.SpellingLaws.{same_data_head, long_data}
+use Rattle.fs_record.specs.Fits.{FitsDataHead, FitsBody, FitsData}
+use Rattle.fs_record.specs.File.{Earlier, rows, is_row, is_right_body, value_at, value_of}
+use Rattle.fs_record.specs.Standing.{IsBefore, IsPlace, IsRevision}
+use Rattle.fs_scan.specs.Present.{AllStand, ArePlaces, back_in, means_value}
+
+-- ---- one record
+
+pub too_short : (bytes : List ℕ) (d : Data) (more : List ℕ) → FitsData d → bytes ≡ data_spelling d ++ more → length bytes < 43 → ⊥
+too_short bytes d more fits e short = omega (arith, ap length e, length-append (data_spelling d) more, long_data d fits.body)
+
+head_is : (bytes : List ℕ) (h : DataHead) (d : Data) (more : List ℕ) → bytes ≡ data_head h ++ drop 42 bytes → FitsDataHead h → FitsData d → bytes ≡ data_spelling d ++ more → (h ≡ head_of d) × (drop 42 bytes ≡ body_spelling d.body ++ more)
+unfolding data_spelling
+head_is bytes h d more read fits fits_data e = same_data_head h (head_of d) (drop 42 bytes) (body_spelling d.body ++ more) fits fits_data.head (sym read ∙ e ∙ append_assoc (data_head (head_of d)) (body_spelling d.body) more)
+
+full : (body : Body) → body_length body ≢ 0 → None ≡ back_in body
+full (Full bytes) long = refl
+full (Back place) long = absurd (long refl)
+
+pub has_data : (bytes : List ℕ) (h : DataHead) (d : Data) (more : List ℕ) → bytes ≡ data_head h ++ drop 42 bytes → FitsDataHead h → FitsData d → bytes ≡ data_spelling d ++ more → h.length ≢ 0 → None ≡ back_in d.body
+has_data bytes h d more read fits fits_data e long = full d.body (λ none. long (ap (λ (g : DataHead). g.length) (head_is bytes h d more read fits fits_data e).0 ∙ none))
+
+short_body : (body : Body) (behind more : List ℕ) → FitsBody body → body_length body ≡ 0 → behind ≡ body_spelling body ++ more → length behind < 8 → None ≡ back_in body
+short_body (Full bytes) behind more fits none e short = refl
+short_body (Back place) behind more fits none e short = absurd (omega (arith, ap length e, length-append (be64 place) more, length-be64 place))
+
+pub no_room : (bytes : List ℕ) (h : DataHead) (d : Data) (more : List ℕ) → bytes ≡ data_head h ++ drop 42 bytes → FitsDataHead h → FitsData d → bytes ≡ data_spelling d ++ more → h.length ≡ 0 → length bytes < 50 → None ≡ back_in d.body
+no_room bytes h d more read fits fits_data e none short =
+    let r = head_is bytes h d more read fits fits_data e in
+    short_body d.body (drop 42 bytes) more fits_data.body (sym (ap (λ (g : DataHead). g.length) r.0) ∙ none) r.1 (omega (arith, length-drop 42 bytes, ap length e, length-append (data_spelling d) more, long_data d fits_data.body))
+
+body_back : (body : Body) (place : ℕ) (behind rest more : List ℕ) → FitsBody body → body_length body ≡ 0 → behind ≡ body_spelling body ++ more → behind ≡ be64 place ++ rest → place < 2 ^ 64 → Some place ≡ back_in body
+body_back (Full bytes) place behind rest more fits none e read lt = absurd (omega arith)
+body_back (Back at) place behind rest more fits none e read lt = ap Some (same_be64 place at rest more lt fits (sym read ∙ e)).0
+
+pub points_back : (bytes : List ℕ) (h : DataHead) (d : Data) (more : List ℕ) (place : ℕ) → bytes ≡ data_head h ++ drop 42 bytes → FitsDataHead h → FitsData d → bytes ≡ data_spelling d ++ more → h.length ≡ 0 → drop 42 bytes ≡ be64 place ++ drop 50 bytes → place < 2 ^ 64 → Some place ≡ back_in d.body
+points_back bytes h d more place read fits fits_data e none there lt =
+    let r = head_is bytes h d more read fits fits_data e in
+    body_back d.body place (drop 42 bytes) (drop 50 bytes) more fits_data.body (sym (ap (λ (g : DataHead). g.length) r.0) ∙ none) r.1 there lt
+
+-- ---- the way back
+
+abbrev pub Leads : List Earlier → ℕ → ℕ → Option ℕ → Type 0
+Leads records oid at None = means_value records at ≡ true
+Leads records oid at (Some back) = (back < at) × (back ≡ 0 → means_value records at ≡ false) × (back ≢ 0 → IsPlace records oid back × (value_at back records ≡ value_at at records))
+
+meant : (records : List Earlier) (oid at back : ℕ) (zero : Bool) → eqb back 0 ≡ zero → value_at at records ≡ cond zero None (value_at back records) → (zero || list_any (is_row oid back) (rows records)) ≡ true → (back ≡ 0 → means_value records at ≡ false) × (back ≢ 0 → IsPlace records oid back × (value_at back records ≡ value_at at records))
+meant records oid at back true is has right = (λ none. ap is_some has, λ some. absurd (false≢true (sym (ne_eqb back 0 some) ∙ is)))
+meant records oid at back false is has right = (λ none. absurd (false≢true (sym is ∙ eq-eqb back 0 none)), λ some. (right, sym has))
+
+body_leads : (records : List Earlier) (oid at : ℕ) (body : Body) → value_at at records ≡ value_of records body → is_right_body (rows records) oid body ≡ true → IsBefore at body → Leads records oid at (back_in body)
+body_leads records oid at (Full bytes) has right before = ap is_some has
+body_leads records oid at (Back back) has right before =
+    let m = meant records oid at back _ refl has right in
+    (before, m.0, m.1)
+
+-- what a record is found to point back to leads on
+pub leads : (bytes rest : List ℕ) (records : List Earlier) (oid at : ℕ) (o : Option ℕ) → rest ≡ drop at bytes → ((d : Data) (more : List ℕ) → FitsData d → rest ≡ data_spelling d ++ more → o ≡ back_in d.body) → AllStand bytes records → IsPlace records oid at → Leads records oid at o
+leads bytes rest records oid at o e says all is =
+    let found = all oid at is in
+    let s = found.1.stands in
+    subst (Leads records oid at) (sym (says s.written s.behind s.fits (e ∙ s.spelled)))
+    (body_leads records oid at s.written.body (found.1.value ∙ s.value) (subst (λ (o : ℕ). is_right_body (rows records) o s.written.body ≡ true) found.1.object s.right) s.before)
+
+-- a record stands before the end
+pub within : (bytes : List ℕ) (records : List Earlier) (oid at : ℕ) → AllStand bytes records → IsPlace records oid at → length bytes ≤ at → ⊥
+within bytes records oid at all is le =
+    let s = (all oid at is).1.stands in
+    too_short (drop at bytes) s.written s.behind s.fits s.spelled (omega (arith, length-drop at bytes))
+
+-- ---- counting
+
+pub place_of : (records : List Earlier) (rows : List Row) (i : ℕ) (d : Row) → ArePlaces records rows → i < length rows → IsPlace records (get_or rows i d).oid (get_or rows i d).place
+place_of records [] i d all lt = absurd (omega arith)
+place_of records (row ∷ rows) zero d all lt = all.0
+place_of records (row ∷ rows) (suc i) d all lt = place_of records rows i d all.1 (omega arith)
+
+-- one row more is counted where it means a value
+pub counts_on : (records : List Earlier) (rows : List Row) (i count next : ℕ) (row : Row) (has : Bool) → row ≡ get_or rows i row → i < length rows → has ≡ means_value records row.place → next ≡ count + cond has 1 0
+    → count ≡ length (filter (λ (row : Row). means_value records row.place) (take i rows)) → next ≡ length (filter (λ (row : Row). means_value records row.place) (take (i + 1) rows))
+counts_on records rows i count next row has is lt means put counted =
+    put ∙ ap (λ (n : ℕ). n + cond has 1 0) counted
+    ∙ ap (λ (b : Bool). length (filter (λ (row : Row). means_value records row.place) (take i rows)) + cond b 1 0) (means ∙ ap (λ (r : Row). means_value records r.place) is)
+    ∙ sym (length-filter_more (λ (row : Row). means_value records row.place) rows i row lt)
