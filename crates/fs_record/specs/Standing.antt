@@ -1,10 +1,9 @@
 -- Where the records of a file's history stand in its bytes.
 --
 -- FileStorage format notes. This is what a storage needs that reads one record at its place.
-use Rattle.std.specs.Prelude.{◌≡◌, ℕ, ◌<◌, ◌==◌, true, List, [], ◌∷◌, ◌++◌, drop, Option, Some, None}
+use Rattle.std.specs.Prelude.{◌≡◌, ℕ, ◌<◌, true, List, ◌++◌, drop, Option, Some, None}
 use Rattle.std.specs.List.{list_any}
 use Rattle.zbase.specs.Values.{Revision}
-use Rattle.zbase.specs.declared.ids.Row.{Row}
 use Rattle.fs_record.specs.declared.body.Body.{Body}
 use Rattle.fs_record.specs.declared.body.Body.TheVariants.{Full, Back}
 use Rattle.fs_record.specs.Spelling.{Data, data_spelling}

@@ -1,6 +1,5 @@
 -- The records of a file's history stand in its bytes, in the history's order.
-use Rattle.std.proofs.Common.{◌≡◌, ◌≢◌, ℕ, ◌+◌, ◌<◌, ◌≤◌, Bool, true, false, cond, ◌&&◌, ◌||◌, eqb, List, [], ◌∷◌, ◌++◌, length, drop, map, flat_map, Option, Some, None, refl, sym, ap, subst, ◌∙◌, append_assoc, append-nil, arith}
-use Rattle.std.specs.Prelude.{◌==◌, if◌then◌else◌}
+use Rattle.std.proofs.Common.{◌≡◌, ℕ, ◌+◌, ◌<◌, ◌≤◌, Bool, true, false, cond, ◌&&◌, ◌||◌, eqb, List, [], ◌∷◌, ◌++◌, length, drop, map, flat_map, Option, Some, None, refl, sym, ap, subst, ◌∙◌, append_assoc, append-nil, arith}
 use Rattle.std.specs.List.{list_any, list_all, AllByRecursion}
 use Rattle.std.proofs.lemmas.List.{length-append, drop_at, drop-drop, drop-append-le, map-append}
 use Rattle.std.proofs.lemmas.List.Folds.{list_any-append}
@@ -15,9 +14,9 @@ use Rattle.fs_record.specs.declared.body.Body.TheVariants.{Full, Back}
 use Rattle.fs_record.specs.declared.damage.Damage.{Damage}
 use Rattle.fs_record.specs.declared.damage.Damage.TheVariants.{BadTid, BadPrev, BadBack}
 use Rattle.fs_record.specs.Spelling.{txn_head, txn_head_of, Data, Inside, Records, Skipped, Block, data_spelling, block_spelling, texts_spelling, inside_spelling, long_of}
-use Rattle.fs_record.specs.SpellingLaws.{long_data, length-block, length-texts, length-txn_head}
+use Rattle.fs_record.specs.SpellingLaws.{long_data, length-texts, length-txn_head}
 use Rattle.fs_record.specs.Fits.{FitsData, FitsInside}
-use Rattle.fs_record.specs.File.{Earlier, Front, IsFile, AreRight, IsRight, rows, is_row, is_own, has_body, is_right_body, value_at, value_of, values_of, last_place, fault_in, records_from, records_place, transaction_of, longer, after_in, front_of, bytes_of}
+use Rattle.fs_record.specs.File.{Earlier, Front, IsFile, AreRight, rows, is_row, is_own, has_body, is_right_body, value_at, value_of, values_of, last_place, fault_in, records_from, records_place, transaction_of, longer, after_in, front_of, bytes_of}
 use Rattle.fs_record.specs.FileLaws.{file_place}
 use Rattle.fs_record.specs.Standing.{IsBefore, StandsAt, IsPlace, IsRevision, LastStands}
 

@@ -19,8 +19,8 @@ pub use body::{Body, Item, TxnTexts};
 pub use damage::Damage;
 pub use heads::{DataHead, RecordRefusal, TxnHead};
 pub use laws::{
-    file_is_history, one_more, one_opening, one_spelling, reading_finds,
-    records_are_revisions, written_behind,
+    file_is_history, one_more, one_opening, one_spelling, reading_finds, records_are_revisions,
+    written_behind,
 };
 pub use reading::{read_data_head, read_txn_head};
 pub use writing::write_txn;

@@ -5,12 +5,11 @@ use Rattle.std.specs.Option.{is_some}
 use Rattle.std.specs.List.{list_any, AllByRecursion}
 use Rattle.std.proofs.lemmas.List.{length-map}
 use Rattle.std.proofs.lemmas.Bool.{eqb-true, eq-eqb, ne_eqb, false≢true}
-use Rattle.zbase.specs.History.{History, Value}
 use Rattle.zbase.specs.Values.{Revision, revisions, newest, value_of, value}
 use Rattle.zbase.specs.declared.ids.Row.{Row}
-use Rattle.fs_record.specs.File.{Earlier, Front, rows, is_row, last_place}
+use Rattle.fs_record.specs.File.{Earlier, Front, rows, is_row}
 use Rattle.fs_record.specs.Opening.{Cut}
-use Rattle.fs_record.specs.Standing.{IsPlace, IsRevision, LastStands}
+use Rattle.fs_record.specs.Standing.{IsRevision, LastStands}
 use Rattle.fs_record.specs.StandingLaws.{each_stands, last_stands}
 use Rattle.fs_scan.specs.declared.opening.Scanned.{Scanned}
 use Rattle.fs_scan.specs.declared.checking.Checked.{Checked}

@@ -8,7 +8,6 @@ use Rattle.std.proofs.lemmas.List.{length-append, length-drop}
 use Rattle.std.proofs.lemmas.Bool.{eq-eqb, ne_eqb, false≢true}
 use Rattle.zbase.specs.Numbers.{be64}
 use Rattle.zbase.specs.NumberLaws.{length-be64, same_be64}
-use Rattle.zbase.specs.History.{Value}
 use Rattle.fs_record.specs.declared.heads.DataHead.{DataHead}
 use Rattle.fs_record.specs.declared.body.Body.{Body}
 use Rattle.fs_record.specs.declared.body.Body.TheVariants.{Full, Back}
@@ -16,7 +15,7 @@ use Rattle.fs_record.specs.Spelling.{data_head, head_of, Data, data_spelling, bo
 use Rattle.fs_record.specs.SpellingLaws.{same_data_head, long_data}
 use Rattle.fs_record.specs.Fits.{FitsDataHead, FitsBody, FitsData}
 use Rattle.fs_record.specs.File.{Earlier, rows, is_row, is_right_body, value_at, value_of}
-use Rattle.fs_record.specs.Standing.{IsBefore, IsPlace, IsRevision}
+use Rattle.fs_record.specs.Standing.{IsBefore, IsPlace}
 use Rattle.fs_scan.specs.Present.{AllStand, ArePlaces, back_in, means_value}
 
 -- ---- one record

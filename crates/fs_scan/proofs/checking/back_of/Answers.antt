@@ -1,4 +1,4 @@
-use Rattle.std.proofs.Common.{arith, sym}
+use Rattle.std.proofs.Common.{arith}
 use Rattle.fs_scan.proofs.Present.{too_short, has_data, no_room, points_back}
 use Rattle.fs_scan.proofs.checking.back_of.Goals as goal
 

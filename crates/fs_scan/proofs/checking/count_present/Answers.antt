@@ -1,7 +1,6 @@
 use Rattle.std.proofs.Common.{rules, arith, subst, ap, sym, ◌∙◌, refl, ◌≡◌, ◌≤◌, true, false, ◌+◌, cond, Bool, ℕ, List, length, filter}
 use Rattle.std.proofs.lemmas.List.{take_all}
 use Rattle.fs_scan.specs.Present.{means_value}
-use Rattle.fs_record.specs.File.{Earlier}
 use Rattle.fs_record.specs.Standing.{IsPlace}
 use Rattle.zbase.specs.declared.ids.Row.{Row}
 use Rattle.fs_scan.proofs.Present.{place_of, counts_on}

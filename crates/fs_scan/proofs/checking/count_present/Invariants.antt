@@ -1,4 +1,4 @@
-use Rattle.std.proofs.Common.{◌≡◌, ◌≤◌, ℕ, List, filter, length, take}
+use Rattle.std.proofs.Common.{◌≡◌, ◌≤◌, List, filter, length, take}
 use Rattle.zbase.specs.declared.ids.Row.{Row}
 use Rattle.fs_record.specs.File.{Earlier}
 use Rattle.fs_scan.specs.Present.{AllStand, ArePlaces, means_value}
