@@ -1,5 +1,5 @@
 -- Operands with operators between, read one after the other.
-use Rattle.std.proofs.Common.{◌≡◌, ℕ, zero, suc, ◌-◌, ◌≤◌, ◌<◌, List, [], ◌∷◌, length, Option, Some, None, refl, sym, ap, ◌∙◌, arith}
+use Rattle.std.proofs.Common.{◌≡◌, ℕ, zero, suc, ◌-◌, ◌≤◌, List, [], ◌∷◌, length, Some, None, refl, sym, ap, ◌∙◌, arith}
 use Rattle.dtml_expr.specs.Trees.{Tree}
 use Rattle.dtml_expr.specs.Tokens.{Token}
 use Rattle.dtml_expr.specs.Grammar.{Joins}

@@ -1,13 +1,12 @@
 -- What is in the grammar is read, whatever follows it that doesn't go on with it.
-use Rattle.std.proofs.Common.{◌≡◌, ◌⊎◌, inl, inr, ℕ, zero, suc, ◌+◌, ◌-◌, ◌≤◌, ◌<◌, ◌^◌, Bool, true, false, leb, ltb, List, [], ◌∷◌, ◌++◌, length, Option, Some, None, refl, sym, ap, subst, ◌∙◌, append_assoc, append-nil, arith}
+use Rattle.std.proofs.Common.{◌≡◌, inl, inr, ℕ, zero, suc, ◌-◌, ◌≤◌, ◌^◌, List, [], ◌∷◌, ◌++◌, length, Option, Some, None, refl, sym, ap, subst, ◌∙◌, append_assoc, append-nil, arith}
 use Rattle.std.proofs.lemmas.List.{length-append}
 use Rattle.std.proofs.lemmas.Bool.{lt-ltb, le-leb}
-use Rattle.dtml_expr.specs.Trees as trees
 use Rattle.dtml_expr.specs.Trees.{Tree, Trees}
-use Rattle.dtml_expr.specs.Tokens.{Token, Name, Compared, And, Or, Not, Plus, Minus, Star, Dot, Open, Close}
+use Rattle.dtml_expr.specs.Tokens.{Token, Name, Compared, And, Or, Not, Plus, Minus, Star, Dot, Close}
 use Rattle.dtml_expr.specs.Grammar as grammar
 use Rattle.dtml_expr.specs.Grammar.{IsItem, Joins, IsChain, times, adds, ands, ors, only, joined, IsProduct, IsSum, IsComparison, IsAnd, IsOr, IsNegated, IsNothing, IsNot}
-use Rattle.dtml_expr.specs.Reading.{◌>>=◌, Reader, Stops, closed, head_at, behind_dot, dots_at, item_at, chain, chain_at, product_at, sum_at, order_at, comparison_at, and_at, or_at, nothing_at, behind_not, negated_or, not_at}
+use Rattle.dtml_expr.specs.Reading.{Reader, Stops, head_at, behind_dot, dots_at, item_at, chain, chain_at, product_at, sum_at, order_at, comparison_at, and_at, or_at, nothing_at, behind_not, negated_or, not_at}
 use Rattle.dtml_expr.proofs.Chains.{step, stop}
 use Rattle.dtml_expr.proofs.Rules.{at_not, dots_end, comparison_plain, comparison_reads, and_reads, or_reads}
 

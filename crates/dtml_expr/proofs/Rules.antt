@@ -1,10 +1,10 @@
 -- The readers of the rules, step by step.
-use Rattle.std.proofs.Common.{◌≡◌, ℕ, zero, suc, ◌-◌, ◌<◌, ◌≤◌, List, [], ◌∷◌, length, Option, Some, None, refl, sym, ap, subst, ◌∙◌, arith}
+use Rattle.std.proofs.Common.{◌≡◌, ℕ, zero, suc, ◌-◌, ◌<◌, List, ◌∷◌, length, Option, Some, None, refl, sym, ap, subst, ◌∙◌, arith}
 use Rattle.dtml_expr.specs.Trees as trees
 use Rattle.dtml_expr.specs.Trees.{Tree, Trees}
-use Rattle.dtml_expr.specs.Tokens.{Token, Number, Quoted, Name, Compared, Or, And, Not, Plus, Minus, Star, Dot, Open, Close}
+use Rattle.dtml_expr.specs.Tokens.{Token, Name, Compared, Not, Dot, Close}
 use Rattle.dtml_expr.specs.Grammar.{adds, ands, ors, only, joined}
-use Rattle.dtml_expr.specs.Reading.{◌>>=◌, Reader, Fails, sign_token, sign_join, chain_at, item_at, head_at, dots_at, behind_dot, name_at, sum_at, order_at, compared, comparison_at, and_at, or_at, nothing_at, behind_not, negated_or, not_at, inner_at, behind_close, closed, bracketed_at}
+use Rattle.dtml_expr.specs.Reading.{◌>>=◌, Reader, Fails, sign_token, sign_join, chain_at, item_at, head_at, dots_at, behind_dot, name_at, sum_at, order_at, compared, comparison_at, and_at, or_at, behind_not, not_at, inner_at, behind_close, closed, bracketed_at}
 use Rattle.dtml_expr.specs.declared.expr.Order.{Order}
 use Rattle.dtml_expr.specs.declared.front.Sign.{Sign}
 use Rattle.dtml_expr.specs.declared.front.Sign.TheVariants as signs

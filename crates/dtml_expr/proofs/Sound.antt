@@ -1,12 +1,12 @@
 -- What is read is in the grammar.
-use Rattle.std.proofs.Common.{◌≡◌, ◌⊎◌, inl, inr, ℕ, zero, suc, ◌+◌, ◌≤◌, ◌<◌, ◌^◌, pos, neg_ℤ, Bool, true, false, cond, leb, ltb, List, [], ◌∷◌, ◌++◌, length, Option, Some, None, refl, sym, ap, subst, ◌∙◌, append_assoc, append-nil, arith}
+use Rattle.std.proofs.Common.{◌≡◌, ◌⊎◌, inl, inr, ℕ, zero, suc, ◌≤◌, ◌<◌, ◌^◌, pos, neg_ℤ, Bool, true, false, cond, leb, ltb, List, [], ◌∷◌, ◌++◌, Option, Some, None, refl, sym, ap, subst, ◌∙◌, append_assoc, append-nil, arith}
 use Rattle.std.proofs.lemmas.Bool.Decides.{nat_tests}
 use Rattle.dtml_expr.specs.Trees as trees
 use Rattle.dtml_expr.specs.Trees.{Tree, Trees}
-use Rattle.dtml_expr.specs.Tokens.{Token, Number, Quoted, Name, Compared, Or, And, Not, Plus, Minus, Star, Dot, Open, Close}
+use Rattle.dtml_expr.specs.Tokens.{Token, Number, Quoted, Name, Compared, Not, Minus, Dot, Open, Close}
 use Rattle.dtml_expr.specs.Grammar as grammar
 use Rattle.dtml_expr.specs.Grammar.{IsItem, Joins, IsChain, times, adds, ands, ors, only, joined, IsProduct, IsSum, IsComparison, IsAnd, IsOr, IsNegated, IsNothing, IsNot}
-use Rattle.dtml_expr.specs.Reading.{◌>>=◌, Read, Reader, positive, negative, before, negative_at, behind_close, closed, bracketed_at, head_at, behind_dot, dots_at, item_at, onward, chain, chain_at, product_at, sum_at, order_at, compared, comparison_at, and_at, or_at, nothing_at, behind_not, negated_or, not_at}
+use Rattle.dtml_expr.specs.Reading.{◌>>=◌, Reader, before, behind_close, closed, bracketed_at, head_at, dots_at, item_at, onward, chain, chain_at, product_at, sum_at, order_at, compared, comparison_at, and_at, or_at, nothing_at, behind_not, negated_or, not_at}
 use Rattle.dtml_expr.specs.declared.expr.Order.{Order}
 use Rattle.dtml_expr.proofs.Rules.{at_not, at_order, at_close}
 

@@ -1,11 +1,11 @@
 -- Reading the tokens of a text one after the other.
-use Rattle.std.proofs.Common.{◌≡◌, ◌⊎◌, inl, inr, ℕ, zero, suc, ◌+◌, ◌^◌, ◌<◌, ◌≤◌, Bool, true, false, cond, eqb, leb, ltb, List, [], ◌∷◌, ◌++◌, length, get_or, drop, Option, Some, None, option_map, refl, sym, ap, subst, ◌∙◌, append_assoc, append-nil, arith}
-use Rattle.std.specs.List.{prefix_len, position_or_len, take_while, before_first, after_first}
+use Rattle.std.proofs.Common.{◌≡◌, ◌⊎◌, inl, inr, ℕ, ◌+◌, ◌^◌, ◌<◌, Bool, true, false, cond, eqb, leb, ltb, List, [], ◌∷◌, ◌++◌, length, get_or, drop, Option, Some, None, refl, sym, ap, subst, ◌∙◌, append_assoc, append-nil, arith}
+use Rattle.std.specs.List.{prefix_len, position_or_len, take_while}
 use Rattle.std.specs.Char.{is_ascii_digit, is_ascii_alphabetic}
 use Rattle.std.specs.Str.Parse.{digits_value}
 use Rattle.std.proofs.lemmas.List.{length-drop}
 use Rattle.std.proofs.lemmas.Bool.Decides.{nat_tests}
-use Rattle.dtml_expr.specs.Tokens.{Token, Front, is_blank, is_name_byte, is_quote, with_equals, alone, longer, before, sign_at, number_at, word_at, quoted_at, token_at, AreTokens, end, blank, token}
+use Rattle.dtml_expr.specs.Tokens.{Token, Front, is_blank, is_name_byte, is_quote, with_equals, alone, longer, before, sign_at, number_at, quoted_at, token_at, AreTokens, end, blank, token}
 
 -- ---- what begins a token
 

@@ -1,5 +1,5 @@
 -- A text has at most one list of tokens, and at most one expression.
-use Rattle.std.proofs.Common.{◌≡◌, ℕ, ◌<◌, ◌≤◌, List, [], ◌∷◌, ◌++◌, length, Option, Some, None, refl, sym, ap, subst, ◌∙◌, append-nil, arith}
+use Rattle.std.proofs.Common.{◌≡◌, ℕ, ◌<◌, List, [], ◌∷◌, length, Option, Some, refl, sym, ap, subst, ◌∙◌, append-nil, arith}
 use Rattle.dtml_expr.specs.Trees.{Tree}
 use Rattle.dtml_expr.specs.Tokens.{Token, Front, token_at, AreTokens, end, blank, token}
 use Rattle.dtml_expr.specs.Grammar.{IsOr, IsNot, IsExpr}

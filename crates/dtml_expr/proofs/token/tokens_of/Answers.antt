@@ -1,8 +1,8 @@
-use Rattle.std.proofs.Common.{◌≡◌, ◌∙◌, ◌<◌, ◌++◌, ◌∷◌, [], List, ℕ, true, false, Some, None, length, get_or, map, sym, ap, arith, rules}
+use Rattle.std.proofs.Common.{◌≡◌, ◌∙◌, ◌<◌, true, false, Some, length, get_or, sym, arith, rules}
 use Rattle.std.proofs.lemmas.Bool.Decides.{nat_tests}
 use Rattle.std.proofs.lemmas.List.{map-append}
 use Rattle.std.proofs.lemmas.Str.{IsCharBoundary-after_ascii}
-use Rattle.dtml_expr.specs.Tokens.{Token, is_blank, token_at}
+use Rattle.dtml_expr.specs.Tokens.{is_blank, token_at}
 use Rattle.dtml_expr.specs.Views.{token_view, token_views}
 use Rattle.dtml_expr.proofs.TokenSteps.{skips, goes_on, fails, ends, shorter, blank_is_ascii}
 use Rattle.dtml_expr.proofs.token.tokens_of.Goals as goal
