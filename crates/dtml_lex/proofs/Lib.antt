@@ -1,0 +1,13 @@
+pub mod Runs
+pub mod Stripping
+pub mod AttributeLoop
+pub mod PlainLoop
+pub mod Fronts
+pub mod AttributesRead
+pub mod AttributesSpelled
+pub mod Tags
+pub mod Entities
+pub mod Beginnings
+pub mod PlainText
+pub mod Parts
+pub mod Whole
