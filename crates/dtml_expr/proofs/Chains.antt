@@ -12,13 +12,13 @@ pub record Reading (S : Type 0) (first : Tree → S) (joins : Joins S) (operand 
   pub within : length rest ≤ length all
   pub on : (fuel : ℕ) → length all ≤ fuel → (k : ℕ) × (length rest ≤ k) × (chain joins (operand fuel) k s rest ≡ chain_at first joins (operand fuel) fuel all)
 
-step : {S : Type 0} (joins : Joins S) (operand : Reader) (k : ℕ) (s : S) (x : Token) (after : List Token) (join : S → Tree → S) → joins x ≡ Some join → length (x ∷ after) ≤ k
+pub step : {S : Type 0} (joins : Joins S) (operand : Reader) (k : ℕ) (s : S) (x : Token) (after : List Token) (join : S → Tree → S) → joins x ≡ Some join → length (x ∷ after) ≤ k
     → chain joins operand k s (x ∷ after) ≡ (operand after >>= λ y. chain joins operand (k - 1) (join s y.0) y.1)
 unfolding chain
 step joins operand zero s x after join is le = absurd (omega arith)
 step joins operand (suc k) s x after join is le = let e : suc k - 1 ≡ k = omega arith in rw (e, is) refl
 
-stop : {S : Type 0} (joins : Joins S) (operand : Reader) (k : ℕ) (s : S) (rest : List Token) → Stops joins rest → chain joins operand k s rest ≡ Some (s, rest)
+pub stop : {S : Type 0} (joins : Joins S) (operand : Reader) (k : ℕ) (s : S) (rest : List Token) → Stops joins rest → chain joins operand k s rest ≡ Some (s, rest)
 unfolding chain
 stop joins operand zero s rest none = refl
 stop joins operand (suc k) s [] none = refl

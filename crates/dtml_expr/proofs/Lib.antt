@@ -1,6 +1,9 @@
 pub mod Chains
+pub mod Complete
 pub mod Cuts
 pub mod Digits
 pub mod Rules
+pub mod Sound
 pub mod TokenSteps
+pub mod Unique
 pub mod ViewLemmas

@@ -30,11 +30,11 @@ sign_adds signs.Minus = refl
 
 -- ---- names behind dots
 
-at_dot : (ts after : List Token) → behind_dot ts ≡ Some after → ts ≡ Dot ∷ after
+pub at_dot : (ts after : List Token) → behind_dot ts ≡ Some after → ts ≡ Dot ∷ after
 at_dot (Dot ∷ ts) after e = ap (λ (l : List Token). Dot ∷ l) (some_is ts after e)
 at_dot _ after e = absurd cc
 
-at_name : (ts rest : List Token) (name : List ℕ) → name_at ts ≡ Some (name, rest) → ts ≡ Name name ∷ rest
+pub at_name : (ts rest : List Token) (name : List ℕ) → name_at ts ≡ Some (name, rest) → ts ≡ Name name ∷ rest
 at_name (Name n ∷ ts) rest name e = ap (λ (x : List ℕ × List Token). Name x.0 ∷ x.1) (some_is (n, ts) (name, rest) e)
 at_name _ rest name e = absurd cc
 
@@ -75,7 +75,7 @@ fails_by u a b e h = subst (Fails u) e h
 
 -- ---- comparisons
 
-at_order : (ts rest : List Token) (order : Order) → order_at ts ≡ Some (order, rest) → ts ≡ Compared order ∷ rest
+pub at_order : (ts rest : List Token) (order : Order) → order_at ts ≡ Some (order, rest) → ts ≡ Compared order ∷ rest
 at_order (Compared o ∷ ts) rest order e = ap (λ (x : Order × List Token). Compared x.0 ∷ x.1) (some_is (o, ts) (order, rest) e)
 at_order _ rest order e = absurd cc
 
@@ -118,7 +118,7 @@ or_reads nots fuel ts us rest h = rw h refl
 
 -- ---- levels
 
-at_not : (ts rest : List Token) → behind_not ts ≡ Some rest → ts ≡ Not ∷ rest
+pub at_not : (ts rest : List Token) → behind_not ts ≡ Some rest → ts ≡ Not ∷ rest
 at_not (Not ∷ ts) rest e = ap (λ (l : List Token). Not ∷ l) (some_is ts rest e)
 at_not _ rest e = absurd cc
 
@@ -165,7 +165,7 @@ inner_reads fuel levels ts rest behind t some h close = inner_below fuel levels 
 pub inner_open : (fuel levels : ℕ) (ts rest : List Token) (t : Tree) → 0 < levels → or_at (not_at fuel (levels - 1)) fuel ts ≡ Some (t, rest) → behind_close rest ≡ None → bracketed_at (inner_at fuel levels) ts ≡ None
 inner_open fuel levels ts rest t some h none = inner_below fuel levels ts some ∙ rw (h, none) refl
 
-at_close : (ts rest : List Token) → behind_close ts ≡ Some rest → ts ≡ Close ∷ rest
+pub at_close : (ts rest : List Token) → behind_close ts ≡ Some rest → ts ≡ Close ∷ rest
 at_close (Close ∷ ts) rest e = ap (λ (l : List Token). Close ∷ l) (some_is ts rest e)
 at_close _ rest e = absurd cc
 

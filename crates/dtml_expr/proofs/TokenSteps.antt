@@ -23,7 +23,7 @@ sign_at_none a (b ∷ bs) e f = (elim (eqb b 61) as (λ t. longer (cond t (befor
 ])
 
 -- white space begins no token
-no_token : (b : ℕ) (bs : List ℕ) → is_blank b ≡ true → token_at (b ∷ bs) ≡ None
+pub no_token : (b : ℕ) (bs : List ℕ) → is_blank b ≡ true → token_at (b ∷ bs) ≡ None
 unfolding token_at
 no_token b bs e = elim (blanks b e) [
   | inl h ↦ subst (λ z. token_at (z ∷ bs) ≡ None) (sym h) (sign_at_none 9 bs refl refl)

@@ -3,3 +3,4 @@ pub mod Views
 pub mod Tokens
 pub mod Grammar
 pub mod Reading
+pub mod Refusals

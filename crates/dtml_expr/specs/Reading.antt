@@ -4,7 +4,7 @@ use Rattle.std.specs.Borrow.{Bor}
 use Rattle.dtml_expr.specs.Trees as trees
 use Rattle.dtml_expr.specs.Trees.{Tree, Trees}
 use Rattle.dtml_expr.specs.Tokens.{Token, Number, Quoted, Name, Compared, Or, And, Not, Plus, Minus, Star, Dot, Open, Close, AreTokens}
-use Rattle.dtml_expr.specs.Grammar.{Joins, times, adds, ands, ors, only, joined}
+use Rattle.dtml_expr.specs.Grammar.{Joins, times, adds, ands, ors, only, joined, IsExpr}
 use Rattle.dtml_expr.specs.Views.{view, token_views}
 use Rattle.dtml_expr.specs.declared.expr.Expr.{Expr}
 use Rattle.dtml_expr.specs.declared.token.Token as code
@@ -176,10 +176,13 @@ unfoldable pub inner_at : ℕ → ℕ → Reader
 inner_at fuel zero = nothing_at
 inner_at fuel (suc levels) = or_at (not_at fuel levels) fuel
 
--- what all of the tokens are
-abbrev pub whole : Tree × List Token → Option Tree
-whole (t, []) = Some t
-whole (t, x ∷ ts) = None
+-- ---- the whole text
 
-abbrev pub expr_at : List Token → Option Tree
-expr_at ts = or_at (not_at (length ts) 64) (length ts) ts >>= whole
+-- There is no expression only where the text has none.
+abbrev pub ParsesNot : Unread → List ℕ → Type 0
+ParsesNot unread.Memory text = Unit {0}
+ParsesNot unread.Refused text = (tree : Tree) → IsExpr text tree → ⊥
+
+abbrev pub Parses : Result Expr Unread → List ℕ → Type 0
+Parses (Ok expr) text = IsExpr text (view expr)
+Parses (Err e) text = ParsesNot e text

@@ -2,11 +2,13 @@
 #![tactic(auto)]
 
 mod expr;
+mod laws;
 mod reading;
 mod token;
 mod unread;
 
 pub use expr::{Expr, Exprs, Order};
+pub use laws::one_expression;
 pub use reading::parse_expr;
 
 #[cfg(test)]

@@ -1,8 +1,9 @@
-ghost use Rattle.std.specs.Prelude.{◌≡◌, ◌≤◌, ◌∷◌, length, option_map, IfOk, MatchOption};
+ghost use Rattle.std.specs.Prelude.{◌≡◌, ◌≤◌, ◌∷◌, length, option_map, IfOk, IfErr, MatchOption};
 ghost use Rattle.dtml_expr.specs.Trees as trees;
 ghost use Rattle.dtml_expr.specs.Trees.{Tree};
 ghost use Rattle.dtml_expr.specs.Tokens as spec;
-ghost use Rattle.dtml_expr.specs.Grammar.{times, adds, ands, ors, joined};
+ghost use Rattle.dtml_expr.specs.Grammar.{times, adds, ands, ors, joined, IsExpr};
+ghost use Rattle.dtml_expr.specs.Refusals.{Refuses};
 ghost use Rattle.dtml_expr.specs.Reading as reading;
 ghost use Rattle.dtml_expr.specs.Reading.{Gives, Reads};
 ghost use Rattle.dtml_expr.specs.Views.{view, list_view, token_views};
@@ -392,7 +393,9 @@ fn bracketed<'t, 'a>(
 }
 
 /// The expression that all of a text is.
-fn expr_of(alloc: Global, source: &str) -> Result<Expr, Unread> {
+fn expr_of(alloc: Global, source: &str) -> Result<Expr, Unread>
+    ensures { reading.Parses result source.now }
+{
     let tokens = tokens_of(alloc, source)?;
     let (expr, rest) = or_of(alloc, LEVELS, tokens.as_slice())?;
     if rest.is_empty() {
@@ -403,8 +406,13 @@ fn expr_of(alloc: Global, source: &str) -> Result<Expr, Unread> {
 }
 
 /// The expression that all of `source` is. `at` is the place of the tag that it stands in, a number of bytes from
-/// the start of the template's source; a refusal hands it through.
-pub fn parse_expr(alloc: Global, source: &str, at: usize) -> Result<Expr, DtmlRefusal> {
+/// the start of the template's source; a refusal hands it through. It is `BadExpression(at)` exactly where no rule
+/// fits the text, where more than 64 levels of brackets and `not` are open at a place, or where a number doesn't fit
+/// 64 bits with its sign. Want of memory leaves nothing behind.
+pub fn parse_expr(alloc: Global, source: &str, at: usize) -> Result<Expr, DtmlRefusal>
+    ensures found { IfOk result (λ expr. IsExpr source.now (view expr)) }
+    ensures refused { IfErr result (Refuses source.now at) }
+{
     match expr_of(alloc, source) {
         Ok(expr) => Ok(expr),
         Err(Unread::Memory) => Err(DtmlRefusal::Memory),
