@@ -1,0 +1,10 @@
+pub mod BadExpressions
+pub mod Bindings
+pub mod Names
+pub mod Once
+pub mod OneRefusal
+pub mod Refused
+pub mod Sizes
+pub mod Steps
+pub mod Trees
+pub mod ViewLemmas

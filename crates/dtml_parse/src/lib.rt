@@ -1,0 +1,19 @@
+//! Templates of DTML as trees.
+//!
+//! DTML is Zope's Document Template Markup Language (Zope Book, "Basic DTML" and its appendix "DTML Reference").
+//! `specs/Table` says which attributes a tag may have, `specs/Pieces` what a part of a source says by itself,
+//! `specs/Grammar` which tree a source is, and `specs/Refusals` which refusal comes first where it is none.
+#![tactic(auto)]
+
+mod block;
+mod laws;
+mod piece;
+mod table;
+mod tree;
+
+pub use block::parse;
+pub use laws::one_tree;
+pub use tree::{Arg, Arm, Arms, Binding, Bindings, Node, Nodes, Tree, VarTag};
+
+#[cfg(test)]
+mod tests;
