@@ -6,7 +6,7 @@ use std::test::Fail;
 use zbase::Text;
 
 /// Each source with its tree.
-const TREES: [(&str, &str); 79] = [
+static TREES: [(&str, &str); 79] = [
     ("", ""),
     ("Hello", "'Hello'"),
     ("&dtml-x", "'&dtml-x'"),
@@ -140,7 +140,7 @@ const TREES: [(&str, &str); 79] = [
 ];
 
 /// Each refusal with a source, in which `^` stands before the tag that is told.
-const REFUSED: [(&str, &str); 127] = [
+static REFUSED: [(&str, &str); 127] = [
     ("unclosed", "^<dtml-if a>x"),
     ("stray", "<dtml-if a>x^</dtml-in>"),
     ("attribute", "^<dtml-var a a>"),
@@ -340,22 +340,18 @@ fn show_tag(alloc: Global, out: &mut String, name: &str, at: u32) -> Result<(), 
     out.push_str(format!(in alloc; "{name}@{at}")?.as_str())
 }
 
-/// A tag with an argument and a block.
-#[cycle(shown)]
-fn show_block(
+/// A tag with its argument, and the opening bracket of its block.
+fn show_head(
     alloc: Global,
     out: &mut String,
     name: &str,
     at: u32,
     arg: &Arg,
-    block: &Tree,
 ) -> Result<(), AllocError> {
     show_tag(alloc, out, name, at)?;
     out.push_str("(")?;
     show_arg(alloc, out, arg)?;
-    out.push_str("){")?;
-    show(alloc, out, block)?;
-    out.push_str("}")
+    out.push_str("){")
 }
 
 #[cycle(shown)]
@@ -373,7 +369,9 @@ fn show_else(alloc: Global, out: &mut String, block: &Option<Tree>) -> Result<()
 #[cycle(shown)]
 fn show_arms(alloc: Global, out: &mut String, arms: &Arms) -> Result<(), AllocError> {
     for arm in arms.items.as_slice() {
-        show_block(alloc, out, "", arm.at, &arm.arg, &arm.block)?;
+        show_head(alloc, out, "", arm.at, &arm.arg)?;
+        show(alloc, out, &arm.block)?;
+        out.push_str("}")?;
     }
     Ok(())
 }
@@ -400,7 +398,11 @@ fn show_node(alloc: Global, out: &mut String, node: &Node) -> Result<(), AllocEr
             show_else(alloc, out, otherwise)?;
             out.push_str("]")
         }
-        Node::Unless(at, arg, block) => show_block(alloc, out, "unless", *at, arg, block),
+        Node::Unless(at, arg, block) => {
+            show_head(alloc, out, "unless", *at, arg)?;
+            show(alloc, out, block)?;
+            out.push_str("}")
+        }
         Node::Loop {
             at,
             arg,
@@ -419,7 +421,11 @@ fn show_node(alloc: Global, out: &mut String, node: &Node) -> Result<(), AllocEr
             out.push_str("}")?;
             show_else(alloc, out, otherwise)
         }
-        Node::With(at, arg, block) => show_block(alloc, out, "with", *at, arg, block),
+        Node::With(at, arg, block) => {
+            show_head(alloc, out, "with", *at, arg)?;
+            show(alloc, out, block)?;
+            out.push_str("}")
+        }
         Node::Let(at, bindings, block) => {
             show_tag(alloc, out, "let", *at)?;
             out.push_str("(")?;
@@ -448,13 +454,13 @@ fn show(alloc: Global, out: &mut String, tree: &Tree) -> Result<(), AllocError> 
 
 #[test]
 fn sources_are_read(rt: HostRuntime) -> Result<(), Fail> {
-    for (source, wanted) in TREES {
+    for (source, wanted) in TREES.as_slice() {
         let mut shown = String::new(rt.alloc());
         match parse(rt.alloc(), source) {
             Ok(tree) => show(rt.alloc(), &mut shown, &tree)?,
             Err(refusal) => assert!(rt; false, "{source}: {refusal:?}"),
         }
-        assert_eq!(rt; shown.as_str(), wanted, "{source}");
+        assert_eq!(rt; shown.as_str(), *wanted, "{source}");
     }
     Ok(())
 }
@@ -483,12 +489,12 @@ fn refusal_of(alloc: Global, source: &str) -> (&'static str, usize) {
 
 #[test]
 fn sources_are_refused(rt: HostRuntime) -> Result<(), Fail> {
-    for (word, marked) in REFUSED {
+    for (word, marked) in REFUSED.as_slice() {
         let (front, rest) = marked.split_once("^").ok_or("each row has a mark")?;
         let source = format!(in rt.alloc(); "{front}{rest}")?;
         assert_eq!(rt;
             refusal_of(rt.alloc(), source.as_str()),
-            (word, front.len()),
+            (*word, front.len()),
             "{marked}"
         );
     }
