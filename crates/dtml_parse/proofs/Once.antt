@@ -28,7 +28,7 @@ found_is x y e = cc
 
 pub part_once : (source : List ℕ) (at : ℕ) (p q : SourcePart) → IsPartAt source at p → IsPartAt source at q → (p.kind ≡ q.kind) × (p.end ≡ q.end)
 part_once source at p q hp hq =
-    let same = found_is (p.kind, drop p.end source) (q.kind, drop q.end source) (sym hp.kind ∙ hq.kind) in
+    let same = found_is (p.kind, drop p.end source) (q.kind, drop q.end source) (sym hp.read ∙ hq.read) in
     let lengths : length (drop p.end source) ≡ length (drop q.end source) = ap (λ (x : PartKind × List ℕ). length x.1) same in
     (ap (λ (x : PartKind × List ℕ). x.0) same, omega (arith, lengths, length-drop p.end source, length-drop q.end source, hp.boundary.0, hq.boundary.0))
 

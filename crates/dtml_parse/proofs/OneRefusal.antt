@@ -47,7 +47,7 @@ module _ (one : OneExpr) (source : List ℕ) where
   unlawful_other at p q hp hq f t = true_false (is_lawful q.kind) t (sym (ap is_lawful (part_once source at p q hp hq).0) ∙ f)
 
   no_part : (at : ℕ) (refusal : DtmlRefusal) (place : ℕ) (levels : ℕ) (outer : Option Open) (part : SourcePart) → IsRefused source levels outer at (refusals.BadTag place) → IsPartAt source at part → ⊥
-  no_part at refusal place levels outer part h is = let k = is.kind in let n = h.2 in cc
+  no_part at refusal place levels outer part h is = let k = is.read in let n = h.2 in cc
 
   -- of two refusals of one part, the second doesn't stand before the first
   refused_once : (levels : ℕ) (outer : Option Open) (at : ℕ) (r q : DtmlRefusal) → Real r → Real q → IsRefused source levels outer at r → IsRefused source levels outer at q → r ≡ q

@@ -185,7 +185,7 @@ module _ (one : OneExpr) (source : List ℕ) where
   pub refused_not : (levels : ℕ) (outer : Option Open) (at : ℕ) (refusal : DtmlRefusal) (piece : Piece) (behind : ℕ) → (refusal ≡ refusals.Memory → ⊥) → Stands source at piece behind → stray_piece outer piece ≡ false
       → (has_block piece ≡ true → 0 < levels) → IsRefused source levels outer at refusal → ⊥
   refused_not levels outer at refusals.Memory piece behind real s straight deep h = real refl
-  refused_not levels outer at (refusals.BadTag place) piece behind real s straight deep h = let k = s.1.kind in let n = h.2 in cc
+  refused_not levels outer at (refusals.BadTag place) piece behind real s straight deep h = let k = s.1.read in let n = h.2 in cc
   refused_not levels outer at (refusals.Unclosed place) piece behind real s straight deep h = omega (arith, h.1, inside source at piece behind s)
   refused_not levels outer at (refusals.Stray place) piece behind real s straight deep h =
       true_false (strays outer h.1.kind) h.3 (ap (strays outer) (part_once source at h.1 s.0 h.2 s.1).0 ∙ (strays_is outer s.0.kind piece s.2.1 ∙ straight))
