@@ -1,7 +1,7 @@
 #!/usr/bin/env python3
 """Checks files of 10,000 and of 1,000,000 records beside `sha1sum` of them.
 
-Each object has one record; the ids rise, or come in random order. The check is `fs_scan`'s, in the program `check/`.
+Each object has one record; the ids rise, or come in random order. The check is `fs_scan`'s, in the program `checking/`.
 """
 
 import argparse
@@ -53,7 +53,7 @@ def main():
     with tempfile.TemporaryDirectory() as made:
         made = pathlib.Path(made)
         (made / "repository").mkdir()
-        program = scratch(made / "repository", "check", ["fs_scan", "zio"])
+        program = scratch(made / "repository", "checking", ["fs_scan", "zio"])
         a_record = {}
         for order in ("rising", "random"):
             for count in (given.few, given.records):

@@ -1,9 +1,9 @@
 -- Why there is no argument.
-use Rattle.std.proofs.Common.{◌≡◌, ℕ, List}
+use Rattle.std.proofs.Common.{ℕ, List}
 use Rattle.dtml_lex.specs.declared.refusal.DtmlRefusal.{DtmlRefusal}
 use Rattle.dtml_lex.specs.declared.refusal.DtmlRefusal.TheVariants as refusals
 use Rattle.dtml_expr.specs.Refusals.{Refuses}
-use Rattle.dtml_parse.specs.Table.{Given, Expression}
+use Rattle.dtml_parse.specs.Table.{Expression}
 use Rattle.dtml_parse.specs.Pieces.{NoArg}
 use Rattle.dtml_parse.specs.Parsing.{IsBadExpression}
 

@@ -1,5 +1,5 @@
 -- What stands at a place of a source is one.
-use Rattle.std.proofs.Common.{◌≡◌, ◌∙◌, ℕ, suc, ◌-◌, ◌≤◌, ◌<◌, Bool, true, false, List, [], ◌∷◌, length, drop, length-drop, Option, Some, None, refl, sym, ap, ap₂, subst, arith}
+use Rattle.std.proofs.Common.{◌≡◌, ◌∙◌, ℕ, List, [], ◌∷◌, length, drop, length-drop, Option, Some, None, refl, sym, ap, ap₂, subst, arith}
 use Rattle.dtml_lex.specs.declared.part.TagName.{TagName}
 use Rattle.dtml_lex.specs.declared.part.TagName.TheVariants as tags
 use Rattle.dtml_lex.specs.declared.part.Attribute.{Attribute}
@@ -7,7 +7,6 @@ use Rattle.dtml_lex.specs.declared.part.PartKind.{PartKind}
 use Rattle.dtml_lex.specs.declared.part.PartKind.TheVariants as kinds
 use Rattle.dtml_lex.specs.declared.part.SourcePart.{SourcePart}
 use Rattle.dtml_lex.specs.Source.{IsPartAt}
-use Rattle.dtml_lex.specs.Reading.{part_at}
 use Rattle.dtml_expr.specs.Trees as exprs
 use Rattle.dtml_expr.specs.Grammar.{IsExpr}
 use Rattle.dtml_parse.specs.Trees.{Arg, Marks, Bound}

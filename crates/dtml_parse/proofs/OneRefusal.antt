@@ -1,19 +1,19 @@
 -- A source has one first refusal.
-use Rattle.std.proofs.Common.{◌≡◌, ◌∙◌, ◌⊎◌, inl, inr, ℕ, zero, suc, ◌≤◌, ◌<◌, ◌+◌, Bool, true, false, List, length, Option, Some, None, refl, sym, ap, ap₂, subst, arith}
+use Rattle.std.proofs.Common.{◌≡◌, ◌∙◌, ◌⊎◌, inl, inr, ℕ, zero, suc, ◌≤◌, ◌<◌, Bool, true, false, List, length, Option, Some, None, refl, sym, ap, subst, arith}
 use Rattle.dtml_lex.specs.declared.part.TagName.{TagName}
 use Rattle.dtml_lex.specs.declared.part.TagName.TheVariants as tags
 use Rattle.dtml_lex.specs.declared.part.SourcePart.{SourcePart}
 use Rattle.dtml_lex.specs.declared.refusal.DtmlRefusal.{DtmlRefusal}
 use Rattle.dtml_lex.specs.declared.refusal.DtmlRefusal.TheVariants as refusals
 use Rattle.dtml_lex.specs.Source.{IsPartAt}
-use Rattle.dtml_parse.specs.Trees.{Arg, Item, Items, Arms, none, more, last, arm}
+use Rattle.dtml_parse.specs.Trees.{Arg, Items, Arms, none, more, last, arm}
 use Rattle.dtml_parse.specs.Pieces as pieces
 use Rattle.dtml_parse.specs.Pieces.{Piece, MeansNothing, is_lawful}
 use Rattle.dtml_parse.specs.Grammar.{Stands, HasArm, IsItem, IsBlock, AreArms}
 use Rattle.dtml_parse.specs.Refusals.{Open, strays, has_block, single_tag, arm_tag, IsOpenAt, IsRefused, Enters, only_block, loop_block, loop_else, arm_block, if_else, Behind, IsNext, IsFirst, Refuses}
 use Rattle.dtml_parse.proofs.Once.{OneExpr, part_once, stands_once}
-use Rattle.dtml_parse.proofs.Trees.{code, inside, Ends, same_item, same_block, same_first}
-use Rattle.dtml_parse.proofs.Refused.{stray_piece, strays_is, means_not, true_false, part_inside, block_code, no_stray_code, enters_piece, Follows, Whole, refused_not, elif_ends, first_arms, rest_arms, refutes, walk}
+use Rattle.dtml_parse.proofs.Trees.{inside, same_item, same_block, same_first}
+use Rattle.dtml_parse.proofs.Refused.{strays_is, means_not, true_false, part_inside, block_code, no_stray_code, enters_piece, Follows, Whole, refused_not, elif_ends, first_arms, refutes, walk}
 
 abbrev Real : DtmlRefusal → Type 0
 Real refusal = refusal ≡ refusals.Memory → ⊥

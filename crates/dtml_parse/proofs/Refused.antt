@@ -1,5 +1,5 @@
 -- Where a source has a refusal, it is no template.
-use Rattle.std.proofs.Common.{◌≡◌, ◌∙◌, ◌⊎◌, inl, inr, ℕ, zero, suc, ◌≤◌, ◌<◌, ◌+◌, Bool, true, false, not, ◌&&◌, List, [], ◌∷◌, length, Option, Some, None, refl, sym, ap, ap₂, subst, arith}
+use Rattle.std.proofs.Common.{◌≡◌, ◌∙◌, ◌⊎◌, inl, inr, ℕ, zero, suc, ◌≤◌, ◌<◌, Bool, true, false, not, ◌&&◌, List, [], ◌∷◌, length, Option, Some, None, refl, sym, ap, subst, arith}
 use Rattle.dtml_lex.specs.declared.part.TagName.{TagName}
 use Rattle.dtml_lex.specs.declared.part.TagName.TheVariants as tags
 use Rattle.dtml_lex.specs.declared.part.Attribute.{Attribute}
@@ -15,9 +15,9 @@ use Rattle.dtml_parse.specs.Pieces as pieces
 use Rattle.dtml_parse.specs.Pieces.{Piece, Says, SaysNothing, IsBound, BindsNothing, AreBound, OneBindsNothing, Means, MeansNothing, is_lawful}
 use Rattle.dtml_parse.specs.Parsing.{is_ending}
 use Rattle.dtml_parse.specs.Grammar.{Stands, Encloses, Within, HasArm, IsItem, IsBlock, AreArms, IsElse, Reads}
-use Rattle.dtml_parse.specs.Refusals.{Open, is_tag, strays, has_block, single_tag, arm_tag, IsRefused, Enters, only_block, loop_block, loop_else, arm_block, if_else, Behind, IsNext, IsFirst, Refuses}
+use Rattle.dtml_parse.specs.Refusals.{Open, is_tag, strays, has_block, single_tag, arm_tag, IsRefused, Enters, only_block, loop_block, loop_else, arm_block, if_else, IsNext, IsFirst, Refuses}
 use Rattle.dtml_parse.proofs.Once.{OneExpr, part_once, stands_once}
-use Rattle.dtml_parse.proofs.Trees.{code, item_code, begins, inside, Ends, Ceases, Turn, else_begins, turn_ends, arms_end, ceases_not, codes, same_item, same_block, same_first}
+use Rattle.dtml_parse.proofs.Trees.{code, item_code, begins, inside, Ends, Ceases, Turn, else_begins, turn_ends, arms_end, ceases_not, same_item, same_block, same_first}
 
 -- whether a piece belongs to another tag than the innermost open one
 abbrev pub stray_piece : Option Open → Piece → Bool

@@ -1,5 +1,5 @@
 -- What the parts of the reader need to know of the grammar and of the refusals, step by step.
-use Rattle.std.proofs.Common.{◌≡◌, ◌∙◌, ◌⊎◌, inl, inr, ℕ, zero, suc, ◌≤◌, ◌<◌, ◌+◌, Bool, true, false, not, ◌&&◌, List, [], ◌∷◌, length, Option, Some, None, refl, sym, ap, subst, arith}
+use Rattle.std.proofs.Common.{◌≡◌, ◌∙◌, inl, inr, ℕ, zero, suc, ◌≤◌, ◌<◌, Bool, true, false, not, List, length, Option, Some, None, refl, sym, ap, subst, arith}
 use Rattle.std.specs.Str.{IsCharBoundary}
 use Rattle.dtml_lex.specs.declared.part.TagName.{TagName}
 use Rattle.dtml_lex.specs.declared.part.TagName.TheVariants as tags
@@ -16,8 +16,8 @@ use Rattle.dtml_parse.specs.Table.{is_none}
 use Rattle.dtml_parse.specs.Pieces as pieces
 use Rattle.dtml_parse.specs.Pieces.{Piece, IsPiece, Means, is_lawful}
 use Rattle.dtml_parse.specs.Grammar.{Stands, Encloses, Within, HasArm, IsItem, IsBlock, AreArms, IsElse}
-use Rattle.dtml_parse.specs.Refusals.{Open, is_tag, strays, has_block, single_tag, arm_tag, IsRefused, Enters, only_block, arm_block, Behind, IsNext, IsFirst, Refuses}
-use Rattle.dtml_parse.specs.Parsing.{ends_block, is_ending, IsNoPiece, stop_at, Stops, Turns, IsInside}
+use Rattle.dtml_parse.specs.Refusals.{Open, is_tag, strays, has_block, single_tag, arm_tag, IsRefused, only_block, arm_block, IsNext, IsFirst, Refuses}
+use Rattle.dtml_parse.specs.Parsing.{ends_block, is_ending, IsNoPiece, Turns, IsInside}
 
 -- ---- refusals
 

@@ -1,8 +1,8 @@
 -- A block that stands at a place, up to a part that ends it or to the end, is one.
-use Rattle.std.proofs.Common.{◌≡◌, ◌∙◌, ◌⊎◌, inl, inr, ℕ, suc, ◌≤◌, ◌<◌, ◌+◌, Bool, true, false, List, length, refl, sym, ap, ap₂, subst, arith}
+use Rattle.std.proofs.Common.{◌≡◌, ◌∙◌, ◌⊎◌, inl, inr, ℕ, suc, ◌<◌, true, List, length, refl, sym, ap, ap₂, subst, arith}
 use Rattle.dtml_lex.specs.declared.part.TagName.{TagName}
 use Rattle.dtml_lex.specs.declared.part.TagName.TheVariants as tags
-use Rattle.dtml_parse.specs.Trees.{Arg, Marks, Bound, Item, Items, Arms, Otherwise, Plain, Var, Call, If, Unless, Loop, With, Let, Comment, none, more, last, arm, absent, present}
+use Rattle.dtml_parse.specs.Trees.{Arg, Item, Items, Arms, Otherwise, Plain, Var, Call, If, Unless, Loop, With, Let, Comment, none, more, last, arm, absent, present}
 use Rattle.dtml_parse.specs.Pieces as pieces
 use Rattle.dtml_parse.specs.Pieces.{Piece}
 use Rattle.dtml_parse.specs.Parsing.{is_ending}

@@ -1,7 +1,7 @@
 -- Trees as contracts see them: what lies in memory in rows is seen as lists.
 use Rattle.std.proofs.Common.{◌≡◌, ◌∙◌, sym, ℕ, Bool, List, [], ◌∷◌, ◌++◌, Option, None, Some, refl, ap, ap₂}
 use Rattle.dtml_parse.specs.Trees as trees
-use Rattle.dtml_parse.specs.Views.{arg_view, bounds_view, node_view, row_view, list_view, view, arms_view, else_view, arm_row_view, arm_list_view, otherwise_view, piece_view}
+use Rattle.dtml_parse.specs.Views.{arg_view, bounds_view, node_view, row_view, list_view, view, arms_view, arm_row_view, arm_list_view, otherwise_view, piece_view}
 use Rattle.dtml_parse.specs.declared.tree.Tree.{Tree}
 use Rattle.dtml_parse.specs.declared.tree.Arg.{Arg}
 use Rattle.dtml_parse.specs.declared.tree.Arm.{Arm}

@@ -9,7 +9,7 @@
 --              <dtml-unless ARG> block </dtml-unless>, and so `with`, `let` and `comment`
 --
 -- Zope Book, appendix "DTML Reference".
-use Rattle.std.specs.Prelude.{◌≡◌, ℕ, suc, ◌≤◌, Bool, List, length}
+use Rattle.std.specs.Prelude.{◌≡◌, ℕ, suc, ◌≤◌, List, length}
 use Rattle.dtml_lex.specs.declared.part.TagName.{TagName}
 use Rattle.dtml_lex.specs.declared.part.TagName.TheVariants as tags
 use Rattle.dtml_lex.specs.declared.part.SourcePart.{SourcePart}

@@ -1,5 +1,5 @@
 -- Which refusal comes first in a source.
-use Rattle.std.specs.Prelude.{◌≡◌, ◌⊎◌, ℕ, zero, suc, ◌<◌, ◌≤◌, Bool, true, false, not, ◌||◌, ◌&&◌, List, length, drop, Option, Some, None}
+use Rattle.std.specs.Prelude.{◌≡◌, ◌⊎◌, ℕ, zero, suc, ◌<◌, ◌≤◌, Bool, true, false, not, ◌&&◌, List, length, drop, Option, Some, None}
 use Rattle.dtml_lex.specs.declared.part.TagName.{TagName}
 use Rattle.dtml_lex.specs.declared.part.TagName.TheVariants as tags
 use Rattle.dtml_lex.specs.declared.part.PartKind.{PartKind}

@@ -1,5 +1,5 @@
 -- Templates as contracts see them.
-use Rattle.std.specs.Prelude.{ℕ, List, [], ◌∷◌, map, Option, None, Some}
+use Rattle.std.specs.Prelude.{List, [], ◌∷◌, map, Option, None, Some}
 use Rattle.dtml_expr.specs.Views as exprs
 use Rattle.dtml_parse.specs.Trees as trees
 use Rattle.dtml_parse.specs.Table as table

@@ -1,4 +1,4 @@
-use Rattle.std.proofs.Common.{◌≡◌, ◌∙◌, ◌<◌, ◌≤◌, ◌-◌, ◌++◌, ◌∷◌, [], ℕ, suc, List, length, Option, Some, None, IfSome, true, false, refl, sym, ap, subst, rules, arith}
+use Rattle.std.proofs.Common.{◌≡◌, ◌∙◌, ℕ, suc, Option, Some, None, IfSome, true, false, refl, sym, ap, subst, rules, arith}
 use Rattle.std.proofs.lemmas.Result.{err_from_is_err_and}
 use Rattle.dtml_lex.specs.declared.part.TagName.TheVariants as tags
 use Rattle.dtml_lex.specs.declared.part.SourcePart.{SourcePart}
@@ -6,13 +6,13 @@ use Rattle.dtml_lex.specs.Source.{IsPartAt}
 use Rattle.dtml_lex.specs.declared.refusal.DtmlRefusal.TheVariants as refusals
 use Rattle.dtml_parse.specs.Trees as trees
 use Rattle.dtml_parse.specs.Pieces as pieces
-use Rattle.dtml_parse.specs.Grammar.{Stands, HasArm, IsItem, IsBlock, AreArms}
-use Rattle.dtml_parse.specs.Refusals.{Open, loop_block, loop_else, if_else}
+use Rattle.dtml_parse.specs.Grammar.{Stands, IsItem, IsBlock, AreArms}
+use Rattle.dtml_parse.specs.Refusals.{loop_block, loop_else, if_else}
 use Rattle.dtml_parse.specs.Parsing.{ends_block, stop_at}
-use Rattle.dtml_parse.specs.Views.{arg_view, bounds_view, list_view, view, arm_list_view, arms_view, otherwise_view, piece_view, node_view}
+use Rattle.dtml_parse.specs.Views.{arg_view, bounds_view, list_view, view, arm_list_view, piece_view, node_view}
 use Rattle.dtml_parse.specs.declared.piece.Piece.{Piece}
 use Rattle.dtml_parse.specs.declared.tree.Arms.{roll-Arms}
-use Rattle.dtml_parse.proofs.Steps.{now, inner, not_lexed, no_stray, no_piece, one_more, snoc, snoc_arm, stands_forward, item_forward, block_forward, memory_first, in_arm, behind_block, done_arms, next_tag, in_single, too_deep, encloses}
+use Rattle.dtml_parse.proofs.Steps.{inner, not_lexed, no_stray, no_piece, one_more, snoc, snoc_arm, stands_forward, item_forward, block_forward, memory_first, in_arm, behind_block, done_arms, next_tag, in_single, too_deep, encloses}
 use Rattle.dtml_parse.proofs.ViewLemmas.{list_view_push, arm_list_push, arms_made, if_view, loop_view, unless_view, with_view, let_view, comment_view, closes_if, closes_in}
 use Rattle.dtml_parse.proofs.block.+parse.Goals as goal
 

@@ -1,4 +1,4 @@
-use Rattle.std.proofs.Common.{◌≡◌, ◌+◌, ◌*◌, ◌-◌, length}
+use Rattle.std.proofs.Common.{◌+◌, ◌*◌, ◌-◌, length}
 use Rattle.std.specs.Str.{IsCharBoundary}
 use Rattle.dtml_parse.specs.Pieces as pieces
 use Rattle.dtml_parse.specs.Grammar.{Stands, IsBlock, AreArms}
