@@ -6,26 +6,11 @@ use evaluator::{Kind, Reply, Shown, ShownList};
 use std::alloc::Global;
 use zbase::{Memory, Oid, Text};
 
-// A plain reply whose body is this text and a line end.
-fn line_of(alloc: Global, status: u16, mut body: Text) -> Result<Reply, Memory>
-    ensures { IfOk result (λ reply. reply ≡ one_line status body) }
-{
-    body.push_str("\n")?;
-    Ok(Reply {
-        status,
-        kind: Kind::Plain,
-        head_only: false,
-        body,
-        shown: ShownList::new(alloc),
-        denied: None,
-    })
-}
-
 /// A plain reply of one line.
 pub fn one_line(alloc: Global, status: u16, text: &str) -> Result<Reply, Memory>
     ensures { IfOk result (λ reply. reply ≡ one_line status text.now) }
 {
-    line_of(alloc, status, Text::from_str(alloc, text)?)
+    Reply::one_line(alloc, status, Text::from_str(alloc, text)?)
 }
 
 /// The reply where a path leads nowhere at this segment.
@@ -34,7 +19,7 @@ pub fn not_found(alloc: Global, segment: &str) -> Result<Reply, Memory>
 {
     let mut text = Text::from_str(alloc, "not found: ")?;
     text.push_str(segment)?;
-    line_of(alloc, 404, text)
+    Reply::one_line(alloc, 404, text)
 }
 
 /// The reply where an object has a form that isn't read yet.
@@ -43,7 +28,7 @@ pub fn not_yet(alloc: Global, oid: Oid) -> Result<Reply, Memory>
 {
     let mut text = Text::from_str(alloc, "not yet: ")?;
     text.push_hex16(oid.0)?;
-    line_of(alloc, 500, text)
+    Reply::one_line(alloc, 500, text)
 }
 
 /// The page of a document that everyone may view.
