@@ -12,7 +12,7 @@ use Rattle.fs_record.specs.File.{Earlier, value_of, values_of}
 use Rattle.fs_scan.specs.declared.data.Found.{Found}
 use Rattle.fs_scan.specs.declared.wholes.OidValue.{OidValue}
 use Rattle.fs_scan.specs.Found.{DataStands, NoData, data_in, body_in}
-use Rattle.fs_scan.specs.Extent.{texts_in}
+use Rattle.fs_record.specs.Reading.{texts_read}
 use Rattle.fs_scan.specs.Plain.{IsFull, AreFull}
 use Rattle.fs_scan.specs.Wholes.{records_in}
 use Rattle.fs_scan.specs.Copied.{CopiesValues, NoValues}
@@ -110,7 +110,7 @@ taken_at : (k n a m : ℕ) (rest : List ℕ) → k ≡ n → a ≡ 23 + m → ta
 taken_at k n a m rest e f = rw (e, f) (ap (take n) (sym (drop-drop m 23 rest)))
 
 pub texts_are : (rest : List ℕ) (h : TxnHead) (k1 k2 k3 a2 a3 : ℕ) (u d x : List ℕ) → k1 ≡ h.user → k2 ≡ h.description → k3 ≡ h.extension → a2 ≡ 23 + h.user → a3 ≡ 23 + (h.user + h.description)
-    → u ≡ take k1 (drop 23 rest) → d ≡ take k2 (drop a2 rest) → x ≡ take k3 (drop a3 rest) → record { user = u; description = d; extension = x } ≡ texts_in h (drop 23 rest)
+    → u ≡ take k1 (drop 23 rest) → d ≡ take k2 (drop a2 rest) → x ≡ take k3 (drop a3 rest) → record { user = u; description = d; extension = x } ≡ texts_read h (drop 23 rest)
 unfolding made_texts
 texts_are rest h k1 k2 k3 a2 a3 u d x e1 e2 e3 f2 f3 p q r =
-    texts_made u d x (texts_in h (drop 23 rest)) (p ∙ ap (λ (n : ℕ). take n (drop 23 rest)) e1) (q ∙ taken_at k2 h.description a2 h.user rest e2 f2) (r ∙ taken_at k3 h.extension a3 (h.user + h.description) rest e3 f3)
+    texts_made u d x (texts_read h (drop 23 rest)) (p ∙ ap (λ (n : ℕ). take n (drop 23 rest)) e1) (q ∙ taken_at k2 h.description a2 h.user rest e2 f2) (r ∙ taken_at k3 h.extension a3 (h.user + h.description) rest e3 f3)

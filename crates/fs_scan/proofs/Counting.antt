@@ -28,16 +28,13 @@ or_true : (a b : Bool) → b ≡ true → (a || b) ≡ true
 or_true true b e = refl
 or_true false b e = e
 
-other_of : (a b : Bool) → a ≡ false → (a || b) ≡ true → b ≡ true
-other_of a b p e = rw p at e
-
-same_row : (oid place p : ℕ) (row : Row) → eqb row.oid oid ≡ true → row.place ≡ p → is_row oid p row ≡ true
-same_row oid place p row is at = rw (is, eq-eqb row.place p at) refl
+same_row : (oid p : ℕ) (row : Row) → eqb row.oid oid ≡ true → row.place ≡ p → is_row oid p row ≡ true
+same_row oid p row is at = rw (is, eq-eqb row.place p at) refl
 
 there_if : (oid p : ℕ) (found : Option ℕ) (row : Row) (rest : Bool) (here : Bool) → eqb row.oid oid ≡ here → (cond here (Some row.place) found ≡ Some p) ⊎ (rest ≡ true) → (found ≡ Some p) ⊎ ((is_row oid p row || rest) ≡ true)
 there_if oid p found row rest here is (inr any) = inr (or_true (is_row oid p row) rest any)
 there_if oid p found row rest false is (inl e) = inl e
-there_if oid p found row rest true is (inl e) = inr (rw (same_row oid row.place p row is (let same : Some row.place ≡ Some p = e in cc)) refl)
+there_if oid p found row rest true is (inl e) = inr (rw (same_row oid p row is (let same : Some row.place ≡ Some p = e in cc)) refl)
 
 -- the last record was found before, or is there
 last_there : (oid p : ℕ) (found : Option ℕ) (all : List Row) → last_row oid found all ≡ Some p → (found ≡ Some p) ⊎ (list_any (is_row oid p) all ≡ true)

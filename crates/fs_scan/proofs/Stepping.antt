@@ -15,7 +15,8 @@ use Rattle.fs_scan.specs.declared.judging.Marks.{Marks}
 use Rattle.fs_scan.specs.declared.extent.Extent.{Extent}
 use Rattle.fs_scan.specs.declared.extent.Extent.{Extent}
 use Rattle.fs_scan.specs.Marked.{Marked, AreRecords, NoRecords, Read, places_from}
-use Rattle.fs_scan.specs.Extent.{texts_in, area_in, block_in, IsWhole}
+use Rattle.fs_record.specs.Reading.{texts_read}
+use Rattle.fs_scan.specs.Extent.{area_in, block_in, IsWhole}
 use Rattle.fs_scan.specs.Taking.{fault_by, Takes, IsDamageAt}
 
 -- the inside counts by its spelling
@@ -36,7 +37,7 @@ head_fits rest w i whole e = record {
 inside_stands : (rest : List ℕ) (w : Extent) (i : Inside) → IsWhole rest w → inside_spelling i ≡ area_in w rest → FitsInside w.head.status i → Stands (block_in w rest i) rest (drop (w.long + 8) rest)
 inside_stands rest w i whole e fits =
     let skipped = block_in w rest (Skipped (area_in w rest)) in
-    let alike = spelled_alike w.head.tid w.head.status (texts_in w.head (drop 23 rest)) (Skipped (area_in w rest)) i w.tail (sym e) in
+    let alike = spelled_alike w.head.tid w.head.status (texts_read w.head (drop 23 rest)) (Skipped (area_in w rest)) i w.tail (sym e) in
     record {
       fits = record { head = head_fits rest w i whole e; tail = whole.tail; inside = fits };
       spelled = whole.spelled ∙ ap (λ (s : List ℕ). s ++ drop (w.long + 8) rest) alike;
@@ -84,7 +85,7 @@ fault_is : (rest : List ℕ) (w : Extent) (place last : ℕ) (rows : List Row) (
     → fault_in place last rows (block_in w rest (Records ds)) (Records ds) ≡ fault_by last w.head.tid w.head.status w.tail w.head.length marks
 unfolding fault_in
 fault_is rest w place last rows marks ds whole e m =
-    let long : long_of (block_in w rest (Records ds)) ≡ w.head.length = ap (λ (s : List ℕ). 23 + length (texts_spelling (texts_in w.head (drop 23 rest))) + length s) e ∙ whole.size ∙ whole.long in
+    let long : long_of (block_in w rest (Records ds)) ≡ w.head.length = ap (λ (s : List ℕ). 23 + length (texts_spelling (texts_read w.head (drop 23 rest))) + length s) e ∙ whole.size ∙ whole.long in
     rw (long, m.own, m.prev, m.back, m.version) refl
 
 pub records_stand : (rest : List ℕ) (w : Extent) (ds : List Data) → IsWhole rest w → (w.head.status ≡ 117 → ⊥) → AreRecords (area_in w rest) ds → Stands (block_in w rest (Records ds)) rest (drop (w.long + 8) rest)
@@ -99,7 +100,7 @@ records_right rest w place t old rows new marks whole u r none added =
       inside = Records r.ds;
       stands = records_stand rest w r.ds whole u r.are;
       right = fault_is rest w place t old marks r.ds whole (sym r.are.spelled) r.marked ∙ none;
-      size = ap (λ (s : List ℕ). 23 + length (texts_spelling (texts_in w.head (drop 23 rest))) + length s) (sym r.are.spelled) ∙ whole.size;
+      size = ap (λ (s : List ℕ). 23 + length (texts_spelling (texts_read w.head (drop 23 rest))) + length s) (sym r.are.spelled) ∙ whole.size;
       rows = added ∙ ap (λ (s : List Row). old ++ s) r.rows ∙ ap (λ (n : ℕ). old ++ places_from n r.ds) (omega (arith, whole.from, whole.user, whole.description, whole.extension));
     }
 

@@ -1,17 +1,13 @@
 -- A transaction down to where its data records begin and end.
 use Rattle.std.specs.Prelude.{◌≡◌, ℕ, ◌+◌, ◌-◌, ◌<◌, ◌≤◌, ◌^◌, true, false, List, ◌++◌, length, take, drop}
 use Rattle.fs_record.specs.declared.heads.TxnHead.{TxnHead}
-use Rattle.fs_record.specs.declared.body.TxnTexts.{TxnTexts}
 use Rattle.fs_record.specs.Spelling.{Inside, Skipped, Block, block_spelling, long_of}
 use Rattle.fs_record.specs.Fits.{FitsTxnHead}
 use Rattle.fs_record.specs.Opening.{is_end, NoBlock}
+use Rattle.fs_record.specs.Reading.{texts_read}
 use Rattle.fs_scan.specs.declared.extent.Extent.{Extent}
 use Rattle.fs_scan.specs.declared.extent.Parts.{Parts}
 use Rattle.fs_scan.specs.declared.extent.Parts.TheVariants as parts
-
--- the three texts behind the head, one behind the other
-abbrev pub texts_in : TxnHead → List ℕ → TxnTexts
-texts_in h behind = record { user = take h.user behind; description = take h.description (drop h.user behind); extension = take h.extension (drop (h.user + h.description) behind) }
 
 -- what stands between the texts and the second length
 abbrev pub area_in : Extent → List ℕ → List ℕ
@@ -19,7 +15,7 @@ area_in w rest = take (w.long - w.from) (drop w.from rest)
 
 -- the transaction, with what is taken for its inside
 abbrev pub block_in : Extent → List ℕ → Inside → Block
-block_in w rest inside = record { tid = w.head.tid; status = w.head.status; texts = texts_in w.head (drop 23 rest); inside = inside; tail = w.tail }
+block_in w rest inside = record { tid = w.head.tid; status = w.head.status; texts = texts_read w.head (drop 23 rest); inside = inside; tail = w.tail }
 
 -- the bytes begin with this transaction, whatever its inside is taken for
 pub record IsWhole (rest : List ℕ) (w : Extent) : Type 0 where

@@ -1,6 +1,7 @@
 ghost use Rattle.std.specs.Prelude.{◌≡◌, ◌+◌, ◌<◌, ◌≤◌, length, drop, take, Some, IfOk, MatchOption};
+ghost use Rattle.fs_record.specs.Reading.{texts_read};
 ghost use Rattle.fs_scan.specs.Copied.{CopiesValues, NoValues, CopiesWhole, NoWhole};
-ghost use Rattle.fs_scan.specs.Extent.{texts_in, IsWhole};
+ghost use Rattle.fs_scan.specs.Extent.{IsWhole};
 
 use crate::data::data_at;
 use crate::extent::Extent;
@@ -12,7 +13,7 @@ use zbase::{Bytes, Memory, Oid};
 // The texts behind a transaction's head.
 fn copy_texts(alloc: Global, rest: &[u8], head: &TxnHead) -> Result<TxnTexts, Memory>
     requires { 23 + head.now.user + head.now.description + head.now.extension ≤ length rest.now }
-    ensures { IfOk result (λ texts. texts ≡ texts_in head.now (drop 23 rest.now)) }
+    ensures { IfOk result (λ texts. texts ≡ texts_read head.now (drop 23 rest.now)) }
 {
     let description = 23 + head.user as usize;
     let extension = description + head.description as usize;

@@ -2,7 +2,8 @@
 //!
 //! `step::take_one` says of any bytes what stands at a place in a file: the end, a damage or a right transaction.
 //! `read_plain_file` reads all transactions of a file that has nothing but committed ones that aren't packed and
-//! hold their data (`specs/Plain`), with their values (`specs/Wholes`).
+//! hold their data (`specs/Plain`), with their values (`specs/Wholes`). `scan` tells of any file where it ends and
+//! where each object's last record stands (`specs/Scanned`), and `check` its numbers (`specs/Checked`).
 #![tactic(auto)]
 
 #[cfg(test)]
