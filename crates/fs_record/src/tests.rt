@@ -149,7 +149,7 @@ fn write(alloc: Global, out: &mut Bytes, start: u64, case: &Case) -> Result<(), 
     let texts = texts_of(alloc, case)?;
     let items = items_of(alloc, case.records)?;
     let items = items.as_slice();
-    write_txn(alloc, out, start, Tid(FIRST), case.status, &texts, items)?;
+    write_txn(out, start, Tid(FIRST), case.status, &texts, items)?;
     Ok(())
 }
 

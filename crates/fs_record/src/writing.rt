@@ -6,7 +6,6 @@ ghost use Rattle.fs_record.specs.Spelling.{txn_head, data_head, data_spelling, t
 ghost use Rattle.fs_record.specs.Written.{data_of, records_of, transaction, HasBody, FitsItem, IsWritable};
 
 use crate::{Body, DataHead, Item, TxnHead, TxnTexts};
-use std::alloc::Global;
 use std::mem;
 use zbase::{Bytes, Memory, Tid};
 
@@ -203,7 +202,6 @@ fn append_txn(
 ///
 /// FileStorage format notes, "transaction record" and "data record".
 pub fn write_txn(
-    alloc: Global,
     out: &mut Bytes,
     start: u64,
     tid: Tid,
@@ -220,6 +218,7 @@ pub fn write_txn(
     ensures err { OnErr result (out.new ≡ out.old) }
     ensures writable { OnOk result (IsWritable start tid status texts.now items.now) }
 {
+    let alloc = out.alloc();
     let mut bytes = mem::replace(out, Bytes::new(alloc)).into_vec();
     let written = append_txn(&mut bytes, start, tid, status, texts, items);
     *out = Bytes::from_vec(bytes);
