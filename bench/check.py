@@ -12,7 +12,7 @@ import subprocess
 import tempfile
 import time
 
-from programs import scratch
+from programs import lines_of, scratch
 
 FIRST = 0x0331620000000000
 
@@ -30,11 +30,6 @@ def write_file(path, oids, size):
             out.write(head + records + struct.pack(">Q", length))
             place += length + 8
     return path, len(oids), place
-
-
-def best(command, rounds, seconds):
-    """The least that `seconds` says of so many runs of a command."""
-    return min(seconds(command) for _ in range(rounds))
 
 
 def by_the_clock(command):
@@ -61,13 +56,11 @@ def main():
                 if order == "random":
                     random.Random(1).shuffle(oids)
                 path, records, end = write_file(made / f"{order}-{count}.fs", oids, given.size)
-                done = subprocess.run(["rt", "run", "--", *[str(path)] * given.rounds], cwd=program, capture_output=True, text=True)
-                lines = [line.split() for line in done.stdout.splitlines() if line.startswith("checked ")]
-                if len(lines) != given.rounds:
-                    raise SystemExit(done.stdout + done.stderr)
+                lines = [line for line in lines_of(program, *[str(path)] * given.rounds) if line[:1] == ["checked"]]
+                assert len(lines) == given.rounds
                 assert all(int(line[2]) == records and int(line[3]) == end for line in lines)
                 seconds = min(int(line[4]) for line in lines) / 1e6
-                digest = best(["sha1sum", str(path)], given.rounds, by_the_clock)
+                digest = min(by_the_clock(["sha1sum", str(path)]) for _ in range(given.rounds))
                 a_record[order, count] = seconds / records
                 print(f"{order} ids, {records} records, {end} bytes: {seconds:.3f} s, sha1sum {digest:.3f} s, ratio {seconds / digest:.2f}")
             grown = a_record[order, given.records] / a_record[order, given.few]

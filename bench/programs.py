@@ -6,6 +6,7 @@ Their files end in `.in`, since they are none of the crates that the gate checks
 import pathlib
 import shutil
 import subprocess
+import tempfile
 
 HOME = pathlib.Path(__file__).resolve().parent.parent
 
@@ -40,3 +41,23 @@ def scratch(folder, name, uses):
     (folder / "crates.txt").write_text("\n".join(lines + [f"{name}: {' '.join(uses)}", ""]))
     subprocess.run(["git", "init", "-q"], cwd=folder, check=True)
     return crates / name
+
+
+def lines_of(program, *words):
+    """What a program prints for these words: each line as its words. Where it doesn't end well, what it said is raised."""
+    done = subprocess.run(["rt", "run", "--", *words], cwd=program, capture_output=True, text=True)
+    if done.returncode:
+        raise SystemExit(done.stdout + done.stderr)
+    return [line.split() for line in done.stdout.splitlines()]
+
+
+def best_of(name, uses):
+    """The least time of each kind and size, in seconds, that a program prints as lines of a kind, a size and microseconds."""
+    with tempfile.TemporaryDirectory() as made:
+        lines = lines_of(scratch(pathlib.Path(made), name, uses))
+    best = {}
+    for words in lines:
+        if len(words) == 3 and words[1].isdigit() and words[2].isdigit():
+            key = words[0], int(words[1])
+            best[key] = min(int(words[2]) / 1e6, best.get(key, 1e9))
+    return best
