@@ -1,29 +1,68 @@
--- What stands in a text behind the word of a request of the first worker.
-use Rattle.std.proofs.Common.{◌≡◌, ℕ, ◌<◌, ◌^◌, List, ◌∷◌, ◌++◌, length, get_or, drop, ◌+◌, length-append, sym, ap, ◌∙◌, arith}
+-- What stands in a text behind the word of an item.
+use Rattle.std.proofs.Common.{◌≡◌, ◌≢◌, ℕ, ◌<◌, ◌^◌, List, ◌∷◌, ◌++◌, length, get_or, drop, ◌+◌, length-append, append_assoc, sym, ap, ◌∙◌, arith}
 use Rattle.std.specs.Prelude.{codes, decimal}
 use Rattle.std.proofs.lemmas.List.{append_cancel_left, drop_at}
+use Rattle.zbase.specs.Hex.{hex16_text}
 use Rattle.schedule.specs.declared.item.Item2.{Item2}
+use Rattle.schedule.specs.Items.{item_text, workers}
 use Rattle.schedule.specs.BadLines.{BeginsItem}
 use Rattle.schedule.proofs.OneSchedule.{number_ends, regroup_request}
 
--- what follows the number of the first worker
-pub behind_worker : (fields rest : List ℕ) → fields ≡ decimal 0 ++ 32 ∷ rest → BeginsItem (codes "request " ++ fields) → (bytes : List ℕ) × (more : List ℕ) × (length bytes < 2 ^ 64) × (rest ≡ decimal (length bytes) ++ 10 ∷ (bytes ++ 10 ∷ more))
-behind_worker fields rest e (Item2.Request w bytes, more, line, first, text) =
-    let w_is : w ≡ 0 = first in
-    let f : codes "request " ++ fields ≡ codes "request " ++ (decimal w ++ 32 ∷ (decimal (length bytes) ++ 10 ∷ (bytes ++ 10 ∷ more))) = text ∙ regroup_request w bytes more in
-    let tails : fields ≡ decimal w ++ 32 ∷ (decimal (length bytes) ++ 10 ∷ (bytes ++ 10 ∷ more)) = append_cancel_left (codes "request ") _ _ f in
-    let same = number_ends 0 w 32 rest (decimal (length bytes) ++ 10 ∷ (bytes ++ 10 ∷ more)) (omega arith) (omega (arith, w_is)) (omega arith) (sym e ∙ tails) in
-    (bytes, more, line.1, same.1)
-behind_worker fields rest e (Item2.Step w, more, line, first, text) = (let differ = ap (λ bytes. get_or bytes 0 0) text in absurd (omega (arith, differ)))
-behind_worker fields rest e (Item2.Clock t, more, line, first, text) = absurd first
-behind_worker fields rest e (Item2.Stop n seed, more, line, first, text) = absurd first
-behind_worker fields rest e (Item2.Fail n seed, more, line, first, text) = absurd first
-behind_worker fields rest e (Item2.End, more, line, first, text) = absurd first
+pub regroup_step : (w : ℕ) (r : List ℕ) → item_text (Item2.Step w) ++ r ≡ codes "step " ++ (decimal w ++ 10 ∷ r)
+regroup_step w r = simp append_assoc
 
--- what follows the length: the bytes and LF
-pub behind_length : (fields rest : List ℕ) (len : ℕ) (others : List ℕ) → fields ≡ decimal 0 ++ 32 ∷ rest → len < 2 ^ 64 → rest ≡ decimal len ++ 10 ∷ others → BeginsItem (codes "request " ++ fields) → (more : List ℕ) × (len < length others) × (drop len others ≡ 10 ∷ more)
-behind_length fields rest len others e small f begins =
-    let parts = behind_worker fields rest e begins in
+pub regroup_clock : (t : ℕ) (r : List ℕ) → item_text (Item2.Clock t) ++ r ≡ codes "clock " ++ (hex16_text t ++ 10 ∷ r)
+regroup_clock t r = simp append_assoc
+
+-- a request begins there: its worker, its length, its bytes and LF
+pub a_request : (fields : List ℕ) → BeginsItem (codes "request " ++ fields) → (w : ℕ) × (bytes : List ℕ) × (more : List ℕ) × (w < workers) × (length bytes < 2 ^ 64) × (fields ≡ decimal w ++ 32 ∷ (decimal (length bytes) ++ 10 ∷ (bytes ++ 10 ∷ more)))
+a_request fields (Item2.Request w bytes, more, line, arms, text) = (w, bytes, more, line.0, line.1, append_cancel_left (codes "request ") _ _ (text ∙ regroup_request w bytes more))
+a_request fields (Item2.Step w, more, line, arms, text) = (let differ = ap (λ bytes. get_or bytes 0 0) text in absurd (omega (arith, differ)))
+a_request fields (Item2.Clock t, more, line, arms, text) = (let differ = ap (λ bytes. get_or bytes 0 0) text in absurd (omega (arith, differ)))
+a_request fields (Item2.Stop n seed, more, line, arms, text) = absurd arms
+a_request fields (Item2.Fail n seed, more, line, arms, text) = absurd arms
+a_request fields (Item2.End, more, line, arms, text) = absurd arms
+
+-- a step begins there: its worker and LF
+pub a_step : (fields : List ℕ) → BeginsItem (codes "step " ++ fields) → (w : ℕ) × (more : List ℕ) × (w < workers) × (fields ≡ decimal w ++ 10 ∷ more)
+a_step fields (Item2.Request w bytes, more, line, arms, text) = (let differ = ap (λ bytes. get_or bytes 0 0) text in absurd (omega (arith, differ)))
+a_step fields (Item2.Step w, more, line, arms, text) = (w, more, line, append_cancel_left (codes "step ") _ _ (text ∙ regroup_step w more))
+a_step fields (Item2.Clock t, more, line, arms, text) = (let differ = ap (λ bytes. get_or bytes 0 0) text in absurd (omega (arith, differ)))
+a_step fields (Item2.Stop n seed, more, line, arms, text) = absurd arms
+a_step fields (Item2.Fail n seed, more, line, arms, text) = absurd arms
+a_step fields (Item2.End, more, line, arms, text) = absurd arms
+
+-- a clock begins there: its stamp and LF
+pub a_clock : (fields : List ℕ) → BeginsItem (codes "clock " ++ fields) → (t : ℕ) × (more : List ℕ) × (t < 2 ^ 64) × (fields ≡ hex16_text t ++ 10 ∷ more)
+a_clock fields (Item2.Request w bytes, more, line, arms, text) = (let differ = ap (λ bytes. get_or bytes 0 0) text in absurd (omega (arith, differ)))
+a_clock fields (Item2.Step w, more, line, arms, text) = (let differ = ap (λ bytes. get_or bytes 0 0) text in absurd (omega (arith, differ)))
+a_clock fields (Item2.Clock t, more, line, arms, text) = (t, more, line, append_cancel_left (codes "clock ") _ _ (text ∙ regroup_clock t more))
+a_clock fields (Item2.Stop n seed, more, line, arms, text) = absurd arms
+a_clock fields (Item2.Fail n seed, more, line, arms, text) = absurd arms
+a_clock fields (Item2.End, more, line, arms, text) = absurd arms
+
+-- no item begins without one of the three words
+pub no_word : (text : List ℕ) → ((fields : List ℕ) → text ≢ codes "request " ++ fields) → ((fields : List ℕ) → text ≢ codes "step " ++ fields) → ((fields : List ℕ) → text ≢ codes "clock " ++ fields) → BeginsItem text → ⊥
+no_word text r s c (Item2.Request w bytes, more, line, arms, e) = r _ (e ∙ regroup_request w bytes more)
+no_word text r s c (Item2.Step w, more, line, arms, e) = s _ (e ∙ regroup_step w more)
+no_word text r s c (Item2.Clock t, more, line, arms, e) = c _ (e ∙ regroup_clock t more)
+no_word text r s c (Item2.Stop n seed, more, line, arms, e) = arms
+no_word text r s c (Item2.Fail n seed, more, line, arms, e) = arms
+no_word text r s c (Item2.End, more, line, arms, e) = arms
+
+-- what follows the worker of a request
+pub behind_worker : (fields rest : List ℕ) (w : ℕ) → w < workers → fields ≡ decimal w ++ 32 ∷ rest → BeginsItem (codes "request " ++ fields) → (bytes : List ℕ) × (more : List ℕ) × (length bytes < 2 ^ 64) × (rest ≡ decimal (length bytes) ++ 10 ∷ (bytes ++ 10 ∷ more))
+behind_worker fields rest w below e begins =
+    let parts = a_request fields begins in
+    let bytes = parts.1 in
+    let more = parts.2 in
+    let same = number_ends w parts.0 32 rest (decimal (length bytes) ++ 10 ∷ (bytes ++ 10 ∷ more)) (omega (arith, below)) (omega (arith, parts.3)) (omega arith) (sym e ∙ parts.5) in
+    (bytes, more, parts.4, same.1)
+
+-- what follows its length: the bytes and LF
+pub behind_length : (fields rest : List ℕ) (w len : ℕ) (others : List ℕ) → w < workers → fields ≡ decimal w ++ 32 ∷ rest → len < 2 ^ 64 → rest ≡ decimal len ++ 10 ∷ others → BeginsItem (codes "request " ++ fields) → (more : List ℕ) × (len < length others) × (drop len others ≡ 10 ∷ more)
+behind_length fields rest w len others below e small f begins =
+    let parts = behind_worker fields rest w below e begins in
     let bytes = parts.0 in
     let more = parts.1 in
     let same = number_ends len (length bytes) 10 others (bytes ++ 10 ∷ more) small parts.2 (omega arith) (sym f ∙ parts.3) in

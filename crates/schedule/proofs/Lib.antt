@@ -12,4 +12,6 @@ pub mod OneSchedule
 pub mod Fronts
 pub mod BadItems
 pub mod BadLineLaws
+pub mod Decided
+pub mod Stamps
 pub mod ReadOrBad

@@ -6,11 +6,11 @@
 use Rattle.std.specs.Prelude.{◌≡◌, ◌≢◌, ◌⊎◌, ℕ, ◌+◌, List, [], ◌++◌, length, flat_map}
 use Rattle.std.specs.List.{AllByRecursion}
 use Rattle.schedule.specs.declared.item.Item2.{Item2}
-use Rattle.schedule.specs.Items.{item_text, first_line, HasLine, IsOfFirstWorker, AreOfFirstWorker}
+use Rattle.schedule.specs.Items.{item_text, first_line, HasLine, ArmsNothing, ArmNothing}
 
--- an item that the first worker can run begins here, with its line
+-- an item that arms nothing begins here, with its line
 abbrev pub BeginsItem : List ℕ → Type 0
-BeginsItem bytes = (item : Item2) × (rest : List ℕ) × HasLine item × IsOfFirstWorker item × (bytes ≡ item_text item ++ rest)
+BeginsItem bytes = (item : Item2) × (rest : List ℕ) × HasLine item × ArmsNothing item × (bytes ≡ item_text item ++ rest)
 
 -- neither such an item nor the end begins here
 pub record IsBadLine (bytes : List ℕ) : Type 0 where
@@ -26,7 +26,7 @@ pub record GoesOn (bytes : List ℕ) : Type 0 where
 -- good lines, and what stands behind them
 pub record GoodLines (text : List ℕ) (items : List Item2) (rest : List ℕ) : Type 0 where
   pub lines : AllByRecursion HasLine items
-  pub first_worker : AreOfFirstWorker items
+  pub arm_nothing : ArmNothing items
   pub text_is : text ≡ first_line ++ flat_map item_text items ++ rest
 
 -- the first line isn't the one of schedules

@@ -1,17 +1,19 @@
 use zbase::{Bytes, Items, Tid};
 
-/// One line of a schedule.
+/// One line of a schedule. There are sixteen workers, 0 to 15.
 #[derive(Debug, Drop)]
 pub enum Item2 {
     /// `request W LEN`: the worker is given a request of these bytes.
     Request(u32, Bytes),
     /// `step W`: one event of the worker.
     Step(u32),
-    /// `clock HEX`: the stamp for later votes.
+    /// `clock HEX`: the stamp for later votes, in sixteen hexadecimal digits.
     Clock(Tid),
-    /// `stop N SEED`: the machine stops at the N-th device call, and the seed picks what the disk has then.
+    /// `stop N SEED`: the machine stops at the N-th device call, and the seed picks what the disk has then. So far
+    /// it is written and not read.
     Stop(u64, u64),
-    /// `fail N SEED`: the N-th device call fails, and the seed picks what it leaves.
+    /// `fail N SEED`: the N-th device call fails, and the seed picks what it leaves. So far it is written and not
+    /// read.
     Fail(u64, u64),
     /// `end`: the run ends.
     End,

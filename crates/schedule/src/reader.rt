@@ -1,14 +1,14 @@
 ghost use Rattle.std.specs.Prelude.{◌≡◌, ◌≢◌, ◌++◌, ◌∷◌, ◌<◌, ◌≤◌, ◌^◌, ℕ, List, Err, codes, decimal, IfOk, IfSome, MatchOption};
 ghost use Rattle.std.specs.Char.{digit_value};
 ghost use Rattle.schedule.specs.Rows.{Lacks};
-ghost use Rattle.schedule.specs.Items.{HasLine, IsOfFirstWorker, AreOfFirstWorker, IsSchedule, item_text};
+ghost use Rattle.schedule.specs.Items.{ArmNothing, ArmsNothing, HasLine, IsSchedule, item_text, workers};
 ghost use Rattle.schedule.specs.BadLines.{BeginsItem, IsBadAt};
 ghost use Rattle.schedule.specs.declared.reader.Stop.TheVariants.{Bad, Memory};
 ghost use Rattle.schedule.specs.declared.reader.ScheduleRefusal.TheVariants.{BadLine};
 
 use crate::{Item2, Schedule};
 use std::alloc::{AllocError, Global};
-use zbase::{Bytes, Memory as NoMemory};
+use zbase::{Bytes, Memory as NoMemory, Tid, read_hex16};
 
 /// Why bytes are no schedule.
 #[derive(Clone, Copy, Debug, PartialEq, Eq)]
@@ -20,6 +20,9 @@ pub enum ScheduleRefusal {
     /// Want of memory.
     Memory,
 }
+
+// There are sixteen workers.
+const WORKERS: u64 = 16;
 
 // Why an item was not read.
 #[derive(Clone, Copy, Debug, PartialEq, Eq)]
@@ -85,24 +88,25 @@ fn number_at(alloc: Global, bytes: &[u8], end: u8) -> Result<(u64, &[u8]), Stop>
     Ok((read_decimal(alloc, number)?, rest))
 }
 
-// The number of the one worker that schedules name so far and the byte that ends it, and what is behind them.
+// A worker's number and the byte that ends it, and what is behind them.
 fn worker_at(alloc: Global, bytes: &[u8], end: u8) -> Result<(u32, &[u8]), Stop>
     requires no_digit { 10 ≤ digit_value end }
-    ensures first { IfOk result (λ read. (read.0 ≡ 0) × (bytes.now ≡ decimal 0 ++ end ∷ read.1.now)) }
-    ensures bad { result ≡ Err Bad → (rest : List ℕ) → bytes.now ≢ decimal 0 ++ end ∷ rest }
+    ensures number { IfOk result (λ read. bytes.now ≡ decimal read.0 ++ end ∷ read.1.now) }
+    ensures worker { IfOk result (λ read. read.0 < workers) }
+    ensures bad { result ≡ Err Bad → (w : ℕ) (rest : List ℕ) → w < workers → bytes.now ≢ decimal w ++ end ∷ rest }
 {
     let (number, rest) = number_at(alloc, bytes, end)?;
-    if number != 0 {
+    if number >= WORKERS {
         return Err(Stop::Bad);
     }
-    Ok((0, rest))
+    Ok((number as u32, rest))
 }
 
 // The request whose line goes on here behind its word, and what is behind it.
 fn request_at(alloc: Global, fields: &[u8]) -> Result<(Item2, &[u8]), Stop>
     ensures text { IfOk result (λ read. codes "request " ++ fields.now ≡ item_text read.0 ++ read.1.now) }
     ensures line { IfOk result (λ read. HasLine read.0) }
-    ensures first { IfOk result (λ read. IsOfFirstWorker read.0) }
+    ensures arms_nothing { IfOk result (λ read. ArmsNothing read.0) }
     ensures bad { result ≡ Err Bad → BeginsItem (codes "request " ++ fields.now) → ⊥ }
 {
     let (worker, rest) = worker_at(alloc, fields, b' ')?;
@@ -119,27 +123,52 @@ fn request_at(alloc: Global, fields: &[u8]) -> Result<(Item2, &[u8]), Stop>
     ))
 }
 
+// The step whose line goes on here behind its word, and what is behind it.
+fn step_at(alloc: Global, fields: &[u8]) -> Result<(Item2, &[u8]), Stop>
+    ensures text { IfOk result (λ read. codes "step " ++ fields.now ≡ item_text read.0 ++ read.1.now) }
+    ensures line { IfOk result (λ read. HasLine read.0) }
+    ensures arms_nothing { IfOk result (λ read. ArmsNothing read.0) }
+    ensures bad { result ≡ Err Bad → BeginsItem (codes "step " ++ fields.now) → ⊥ }
+{
+    let (worker, rest) = worker_at(alloc, fields, b'\n')?;
+    Ok((Item2::Step(worker), rest))
+}
+
+// The clock whose line goes on here behind its word, and what is behind it.
+fn clock_at(fields: &[u8]) -> Result<(Item2, &[u8]), Stop>
+    ensures text { IfOk result (λ read. codes "clock " ++ fields.now ≡ item_text read.0 ++ read.1.now) }
+    ensures line { IfOk result (λ read. HasLine read.0) }
+    ensures arms_nothing { IfOk result (λ read. ArmsNothing read.0) }
+    ensures bad { result ≡ Err Bad → BeginsItem (codes "clock " ++ fields.now) → ⊥ }
+{
+    let (digits, rest) = split_byte(fields, b'\n').ok_or(Stop::Bad)?;
+    let stamp = read_hex16(digits).ok_or(Stop::Bad)?;
+    Ok((Item2::Clock(Tid(stamp)), rest))
+}
+
 // The item at the front, and what is behind it.
 fn item_at(alloc: Global, bytes: &[u8]) -> Result<(Item2, &[u8]), Stop>
     ensures text { IfOk result (λ read. bytes.now ≡ item_text read.0 ++ read.1.now) }
     ensures line { IfOk result (λ read. HasLine read.0) }
-    ensures first { IfOk result (λ read. IsOfFirstWorker read.0) }
+    ensures arms_nothing { IfOk result (λ read. ArmsNothing read.0) }
     ensures bad { result ≡ Err Bad → BeginsItem bytes.now → ⊥ }
 {
-    if let Some(fields) = after(bytes, b"step ") {
-        let (worker, rest) = worker_at(alloc, fields, b'\n')?;
-        return Ok((Item2::Step(worker), rest));
+    if let Some(fields) = after(bytes, b"request ") {
+        return request_at(alloc, fields);
     }
-    let fields = after(bytes, b"request ").ok_or(Stop::Bad)?;
-    request_at(alloc, fields)
+    if let Some(fields) = after(bytes, b"step ") {
+        return step_at(alloc, fields);
+    }
+    let fields = after(bytes, b"clock ").ok_or(Stop::Bad)?;
+    clock_at(fields)
 }
 
 /// The schedule that the bytes spell, all of them.
 ///
-/// So far the lines of schedules are `request 0 LEN`, `step 0` and `end`; any other line is bad.
+/// So far lines that arm a stop or a failure are bad.
 pub fn read_schedule(alloc: Global, bytes: &[u8]) -> Result<Schedule, ScheduleRefusal>
     ensures schedule { IfOk result (λ items. IsSchedule bytes.now items) }
-    ensures first_worker { IfOk result AreOfFirstWorker }
+    ensures arms_nothing { IfOk result ArmNothing }
     ensures bad_line { (n : ℕ) → result ≡ Err (BadLine n) → IsBadAt bytes.now n }
 {
     let mut items = Schedule::new(alloc);

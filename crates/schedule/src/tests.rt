@@ -147,21 +147,34 @@ fn transactions_are_written(rt: HostRuntime) -> Result<(), Fail> {
 
 #[test]
 fn a_schedule_is_read(rt: HostRuntime) -> Result<(), Fail> {
-    let text = b"zope schedule 1\nrequest 0 5\nend\nx\nstep 0\nrequest 0 0\n\nend\n";
+    let text =
+        b"zope schedule 1\nrequest 0 5\nend\nx\nstep 0\nclock 0331620000000000\nrequest 15 0\n\nstep 15\nend\n";
     let items = read_schedule(rt.alloc(), text)?;
     let [
         Item2::Request(0, message),
         Item2::Step(0),
-        Item2::Request(0, empty),
+        Item2::Clock(stamp),
+        Item2::Request(15, empty),
+        Item2::Step(15),
     ] = items.as_slice()
     else {
         return Err(Fail::from("other items"));
     };
     assert_eq!(rt; message.as_slice(), b"end\nx".as_slice());
+    assert_eq!(rt; stamp.0, FIRST.0);
     assert!(rt; empty.is_empty());
     let none = read_schedule(rt.alloc(), b"zope schedule 1\nend\n")?;
     assert!(rt; none.is_empty());
     Ok(())
+}
+
+/// The number of the first bad line, and 0 for a schedule.
+fn bad_line(alloc: Global, text: &str) -> u64 {
+    match read_schedule(alloc, text.as_bytes()) {
+        Ok(_) => 0,
+        Err(ScheduleRefusal::BadLine(line)) => line,
+        Err(ScheduleRefusal::Memory) => u64::MAX,
+    }
 }
 
 #[test]
@@ -171,23 +184,19 @@ fn a_bad_line_has_its_number(rt: HostRuntime) {
         ("zope schedule 1", 1),
         ("zope schedule 2\nend\n", 1),
         ("zope schedule 1\r\nend\n", 1),
-        ("zope schedule 1\n", 2),
-        ("zope schedule 1\nend", 2),
         ("zope schedule 1\nEND\n", 2),
-        ("zope schedule 1\nstep 0\n", 3),
-        ("zope schedule 1\nstep 0\nste", 3),
-        ("zope schedule 1\nstep 0\nstep 0", 3),
         ("zope schedule 1\nend\nstep 0\n", 3),
         ("zope schedule 1\nend\n\n", 3),
-        ("zope schedule 1\nstep 1\nend\n", 2),
-        ("zope schedule 1\nstep 00\nend\n", 2),
-        ("zope schedule 1\nstep +0\nend\n", 2),
-        ("zope schedule 1\nstep  0\nend\n", 2),
-        ("zope schedule 1\nstep 0 \nend\n", 2),
-        ("zope schedule 1\nstep\nend\n", 2),
-        ("zope schedule 1\nstep 0\nclock 0331620000000000\nend\n", 3),
+        ("zope schedule 1\nclock 0331620000000000\nend\nx", 4),
         ("zope schedule 1\nstop 1 0\nend\n", 2),
         ("zope schedule 1\nfail 1 0\nend\n", 2),
+        ("zope schedule 1\nstep 0\nstop 1 0\nend\n", 3),
+        (
+            "zope schedule 1\nclock 0331620000000000\nstep 3\nfail 1 0\nend\n",
+            4,
+        ),
+        ("zope schedule 1\nrequest 1 4\na\nb\n\nstop 1 0\nend\n", 3),
+        ("zope schedule 1\nrequest 1 4\na\nb\n\nend\n", 0),
         ("zope schedule 1\nrequest 0\nend\n", 2),
         ("zope schedule 1\nrequest 0 01\nx\nend\n", 2),
         ("zope schedule 1\nrequest 0 2\nx\nend\n", 2),
@@ -199,25 +208,86 @@ fn a_bad_line_has_its_number(rt: HostRuntime) {
             "zope schedule 1\nrequest 0 000000000000000000001\nx\nend\n",
             2,
         ),
-        (
-            "zope schedule 1\nstep 0\nstep 100000000000000000000\nend\n",
-            3,
-        ),
-        ("zope schedule 1\nrequest 1 1\nx\nend\n", 2),
-        ("zope schedule 1\nrequest 0 9\nx\n", 2),
-        ("zope schedule 1\nrequest 0 1\nx", 2),
-        ("zope schedule 1\nrequest 0 1\nx\n", 3),
         ("zope schedule 1\nrequest 0 1\nx\nend\nend\n", 4),
         (
             "zope schedule 1\nrequest 0 1\nx\nstep 0\nrequest 0 1\nxy\nend\n",
             4,
         ),
     ] {
-        let Err(refusal) = read_schedule(rt.alloc(), text.as_bytes()) else {
-            assert!(rt; false, "{text}");
-            continue;
-        };
-        assert_eq!(rt; refusal, ScheduleRefusal::BadLine(line), "{text}");
+        assert_eq!(rt; bad_line(rt.alloc(), text), line, "{text}");
+    }
+}
+
+#[test]
+fn workers_are_read(rt: HostRuntime) {
+    for (text, line) in [
+        ("zope schedule 1\nstep 0\nend\n", 0),
+        ("zope schedule 1\nstep 9\nstep 10\nend\n", 0),
+        ("zope schedule 1\nstep 15\nrequest 15 1\nx\nend\n", 0),
+        ("zope schedule 1\nstep 15\nstep 16\nend\n", 3),
+        ("zope schedule 1\nrequest 16 1\nx\nend\n", 2),
+        ("zope schedule 1\nstep 00\nend\n", 2),
+        ("zope schedule 1\nstep 01\nend\n", 2),
+        ("zope schedule 1\nstep +1\nend\n", 2),
+        ("zope schedule 1\nstep -1\nend\n", 2),
+        ("zope schedule 1\nrequest 01 1\nx\nend\n", 2),
+        ("zope schedule 1\nrequest +1 1\nx\nend\n", 2),
+        ("zope schedule 1\nstep f\nend\n", 2),
+        ("zope schedule 1\nstep  0\nend\n", 2),
+        ("zope schedule 1\nstep 0 \nend\n", 2),
+        ("zope schedule 1\nstep\nend\n", 2),
+        ("zope schedule 1\nstep \nend\n", 2),
+        ("zope schedule 1\nstep 4294967296\nend\n", 2),
+        (
+            "zope schedule 1\nstep 0\nstep 100000000000000000000\nend\n",
+            3,
+        ),
+    ] {
+        assert_eq!(rt; bad_line(rt.alloc(), text), line, "{text}");
+    }
+}
+
+#[test]
+fn clocks_are_read(rt: HostRuntime) {
+    for (text, line) in [
+        ("zope schedule 1\nclock 0000000000000000\nend\n", 0),
+        ("zope schedule 1\nclock ffffffffffffffff\nend\n", 0),
+        ("zope schedule 1\nclock 033162000000000\nend\n", 2),
+        ("zope schedule 1\nclock 03316200000000000\nend\n", 2),
+        ("zope schedule 1\nclock 033162000000000A\nend\n", 2),
+        ("zope schedule 1\nclock 033162000000000g\nend\n", 2),
+        ("zope schedule 1\nclock  331620000000000\nend\n", 2),
+        ("zope schedule 1\nclock 0331620000000000 \nend\n", 2),
+        ("zope schedule 1\nclock 0331620000000000\r\nend\n", 2),
+        ("zope schedule 1\nclock 0331620000000000 1\nend\n", 2),
+        ("zope schedule 1\nclock\nend\n", 2),
+        ("zope schedule 1\nclock \nend\n", 2),
+    ] {
+        assert_eq!(rt; bad_line(rt.alloc(), text), line, "{text}");
+    }
+}
+
+#[test]
+fn input_that_ends_early_is_bad(rt: HostRuntime) {
+    for (text, line) in [
+        ("zope schedule 1\n", 2),
+        ("zope schedule 1\nend", 2),
+        ("zope schedule 1\nstep 0\n", 3),
+        ("zope schedule 1\nstep 0\nste", 3),
+        ("zope schedule 1\nstep 0\nstep ", 3),
+        ("zope schedule 1\nstep 0\nstep 1", 3),
+        ("zope schedule 1\nclock 0331620000000000\n", 3),
+        ("zope schedule 1\nclock 0331", 2),
+        ("zope schedule 1\nclock 0331620000000000", 2),
+        ("zope schedule 1\nrequest", 2),
+        ("zope schedule 1\nrequest 2", 2),
+        ("zope schedule 1\nrequest 2 ", 2),
+        ("zope schedule 1\nrequest 2 9", 2),
+        ("zope schedule 1\nrequest 2 9\nx\n", 2),
+        ("zope schedule 1\nrequest 2 1\nx", 2),
+        ("zope schedule 1\nrequest 2 1\nx\n", 3),
+    ] {
+        assert_eq!(rt; bad_line(rt.alloc(), text), line, "{text}");
     }
 }
 
@@ -244,6 +314,55 @@ fn lines_of_schedules_are_written(rt: HostRuntime) -> Result<(), Fail> {
         (Item2::End, "end\n"),
     ] {
         assert!(rt; is_item(alloc, &item, text.as_bytes())?, "{text}");
+    }
+    Ok(())
+}
+
+/// The text of the schedule of one item.
+fn schedule_of(alloc: Global, item: &Item2) -> Result<Bytes, Memory> {
+    let mut text = bytes(alloc, b"zope schedule 1\n")?;
+    write_item(item, &mut text)?;
+    write_item(&Item2::End, &mut text)?;
+    Ok(text)
+}
+
+fn is_same(a: &Item2, b: &Item2) -> bool {
+    match (a, b) {
+        (Item2::Request(v, x), Item2::Request(w, y)) => v == w && x.as_slice() == y.as_slice(),
+        (Item2::Step(v), Item2::Step(w)) => v == w,
+        (Item2::Clock(t), Item2::Clock(u)) => t.0 == u.0,
+        _ => false,
+    }
+}
+
+#[test]
+fn what_is_written_is_read(rt: HostRuntime) -> Result<(), Fail> {
+    let alloc = rt.alloc();
+    for item in [
+        Item2::Request(15, bytes(alloc, b"\nend\n\xff")?),
+        Item2::Request(0, bytes(alloc, b"")?),
+        Item2::Step(0),
+        Item2::Step(15),
+        Item2::Clock(Tid(0)),
+        Item2::Clock(FIRST),
+        Item2::Clock(Tid(u64::MAX)),
+    ] {
+        let items = read_schedule(alloc, schedule_of(alloc, &item)?.as_slice())?;
+        let [read] = items.as_slice() else {
+            return Err(Fail::from("other items"));
+        };
+        assert!(rt; is_same(read, &item));
+    }
+    for (item, line) in [
+        (Item2::Stop(1, 0), 2),
+        (Item2::Fail(20, u64::MAX), 2),
+        (Item2::End, 3),
+    ] {
+        let text = schedule_of(alloc, &item)?;
+        let Err(refusal) = read_schedule(alloc, text.as_slice()) else {
+            return Err(Fail::from("a schedule"));
+        };
+        assert_eq!(rt; refusal, ScheduleRefusal::BadLine(line));
     }
     Ok(())
 }
