@@ -5,3 +5,4 @@ pub mod Children
 pub mod Fields
 pub mod Parts
 pub mod Whole
+pub mod Again

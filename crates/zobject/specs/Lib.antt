@@ -4,3 +4,5 @@ pub mod Reading
 pub mod Kinds
 pub mod Given
 pub mod Folders
+pub mod Documents
+pub mod ReadingLaws

@@ -5,7 +5,7 @@ ghost use Rattle.zobject.specs.Record.{is_stored_id};
 ghost use Rattle.zobject.specs.Reading.{number_at, front_at, text_at, kind_at, head_at, nothing_at, no_lists_at};
 ghost use Rattle.zobject.specs.Kinds.{letter};
 
-use crate::texts::{Kind, child_name, source, stored_id, title};
+use crate::texts::{Kind, child_name, source_text, stored_id, title};
 
 /// The fields that each object has first.
 #[derive(Clone, Copy)]
@@ -118,7 +118,7 @@ pub(crate) fn source_of(bytes: &[u8]) -> Option<(&str, &[u8])>
 {
     let (len, rest) = u32_of(bytes)?;
     let (text, rest) = cut(len as usize, rest)?;
-    Some((source(text)?, rest))
+    Some((source_text(text)?, rest))
 }
 
 /// The fields that each object has first.

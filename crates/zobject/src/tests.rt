@@ -1,6 +1,10 @@
-use crate::{Part2, find_child, id_text, read_bare};
+use crate::{
+    Children, Local, Locals, Object, Part2, Properties, Property, Roles, Setting, Settings, User,
+    Users, document_with, find_child, id_text, read_bare, write_object,
+};
+use std::alloc::Global;
 use std::test::Fail;
-use zbase::{Bytes, Oid};
+use zbase::{Bytes, Memory, Oid, Text};
 
 /// A folder with the child `a`, of the id 1.
 const FOLDER: &[u8; 34] =
@@ -146,4 +150,104 @@ fn ids(rt: HostRuntime) {
     ] {
         assert!(rt; id_text(name.as_bytes()).is_none(), "{name}");
     }
+}
+
+/// The record of what is read from these bytes is the bytes again.
+fn is_written_again(alloc: Global, bytes: &[u8]) -> Result<bool, Memory> {
+    match read_bare(alloc, bytes)? {
+        None => Ok(false),
+        Some(object) => Ok(write_object(alloc, &object)?.as_slice() == bytes),
+    }
+}
+
+#[test]
+fn what_is_read_is_written_again(rt: HostRuntime) -> Result<(), Fail> {
+    assert!(rt; is_written_again(rt.alloc(), FOLDER)?);
+    assert!(rt; is_written_again(rt.alloc(), DOCUMENT)?);
+    Ok(())
+}
+
+#[test]
+fn a_document_takes_another_source(rt: HostRuntime) -> Result<(), Fail> {
+    let Some(document) = read_bare(rt.alloc(), DOCUMENT)? else {
+        return Err("the bytes are a document".into());
+    };
+    let document = document_with(document, Text::from_str(rt.alloc(), "hi")?);
+    let written = write_object(rt.alloc(), &document)?;
+    let other: &[u8] =
+        b"Z1D\x00\x01a\x00\x00\x00\x00\x00\x00\x00\x00\x00\x00\x00\x00\x00\x00\x00\x00\x00\x00\x00\x02hi";
+    assert_eq!(rt; written.as_slice(), other);
+    Ok(())
+}
+
+fn roles(alloc: Global) -> Result<Roles, Memory> {
+    let mut roles = Roles::new(alloc);
+    roles.push(Text::from_str(alloc, "Manager")?)?;
+    Ok(roles)
+}
+
+/// An object with one of each list.
+fn object(alloc: Global, part: Part2) -> Result<Object, Memory> {
+    let mut settings = Settings::new(alloc);
+    settings.push(Setting {
+        permission: 5,
+        acquire: true,
+        roles: roles(alloc)?,
+    })?;
+    let mut locals = Locals::new(alloc);
+    locals.push(Local {
+        user: Text::from_str(alloc, "jo")?,
+        roles: roles(alloc)?,
+    })?;
+    let mut properties = Properties::new(alloc);
+    properties.push(Property {
+        name: Text::from_str(alloc, "p")?,
+        value: Text::from_str(alloc, "v")?,
+    })?;
+    Ok(Object {
+        id: Text::from_str(alloc, "m")?,
+        parent: Oid(258),
+        title: Text::from_str(alloc, "T")?,
+        settings,
+        locals,
+        properties,
+        part,
+    })
+}
+
+/// The fields of the object that all kinds have, behind the letter of the kind.
+const FIELDS: &[u8; 54] =
+    b"\x00\x01m\x00\x00\x00\x00\x00\x00\x01\x02\x00\x01T\x00\x01\x05\x01\x00\x01\x00\x07Manager\x00\x01\x00\x02jo\x00\x01\x00\x07Manager\x00\x01\x00\x01p\x00\x01v";
+
+/// Whether the record of the object is the letter of its kind, the fields and this part.
+fn is_record(alloc: Global, part: Part2, letter: u8, text: &[u8]) -> Result<bool, Memory> {
+    let mut wanted = Bytes::from_slice(alloc, b"Z1")?;
+    wanted.push(letter)?;
+    wanted.append(FIELDS)?;
+    wanted.append(text)?;
+    Ok(write_object(alloc, &object(alloc, part)?)?.same(&wanted))
+}
+
+#[test]
+fn every_kind_has_its_record(rt: HostRuntime) -> Result<(), Fail> {
+    let alloc = rt.alloc();
+    let source = Text::from_str(alloc, "hi")?;
+    assert!(rt; is_record(alloc, Part2::Method(source), b'M', b"\x00\x00\x00\x02hi")?);
+    let mut users = Users::new(alloc);
+    users.push(User {
+        name: Text::from_str(alloc, "jo")?,
+        password: Text::from_str(alloc, "x")?,
+        roles: roles(alloc)?,
+    })?;
+    assert!(rt;
+        is_record(
+            alloc,
+            Part2::UserFolder(users),
+            b'U',
+            b"\x00\x01\x00\x02jo\x00\x01x\x00\x01\x00\x07Manager"
+        )?
+    );
+    let children = Children::new(alloc);
+    assert!(rt; is_record(alloc, Part2::Folder(children), b'F', b"\x00\x00")?);
+    Ok(())
 }

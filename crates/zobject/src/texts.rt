@@ -162,8 +162,8 @@ pub(crate) fn title(bytes: &[u8]) -> Option<&str>
     }
 }
 
-/// The text, where it is a source.
-pub(crate) fn source(bytes: &[u8]) -> Option<&str>
+/// The text, where it is a source: UTF-8 of at most 262,144 bytes. Takes no memory.
+pub fn source_text(bytes: &[u8]) -> Option<&str>
     ensures { option_map (λ t. t.now) result ≡ kept is_source bytes.now }
 {
     if bytes.len() <= MOST_SOURCE {
