@@ -1,0 +1,4 @@
+pub mod Splits
+pub mod Sources
+pub mod MessageLaws
+pub mod EditedPages
