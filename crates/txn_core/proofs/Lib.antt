@@ -1,0 +1,5 @@
+pub mod Lists
+pub mod QuietArms
+pub mod Voting
+pub mod Cores
+pub mod Endings

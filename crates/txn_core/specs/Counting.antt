@@ -1,0 +1,40 @@
+-- How many steps of a worker may be left, at most: a number that its steps lower.
+use Rattle.std.specs.Prelude.{ℕ, ◌≡◌, ◌+◌, ◌-◌, ◌*◌, ◌<◌, List, length, Option, Some, None, slice_get}
+use Rattle.evaluator.specs.Exec.{most_asks}
+use Rattle.connection.specs.States.{clashes_of}
+use Rattle.txn_core.specs.declared.slot.Slot.{Slot}
+use Rattle.txn_core.specs.declared.step_line.StepLine.{StepLine}
+
+-- an attempt begins, fetches each fact that it asks for, evaluates once more, votes and finishes
+abbrev pub attempt_steps : ℕ
+attempt_steps = most_asks + 4
+
+-- the attempts that are left behind so many conflicts, beside this one
+abbrev pub further_steps : ℕ → ℕ
+further_steps conflicts = (3 - conflicts) * attempt_steps
+
+abbrev pub left_of : {E R S : Type 0} → Slot E R S → ℕ
+left_of Slot.Idle = 0
+left_of (Slot.Fresh f) = (4 - length (clashes_of f.conflicts)) * attempt_steps
+left_of (Slot.Active a) = further_steps (length a.attempt.clashes) + (most_asks - length a.attempt.facts) + 3
+left_of (Slot.Computed a) = further_steps (length a.attempt.clashes) + 2
+left_of (Slot.Pending p) = 1
+
+abbrev pub left_at : {E R S : Type 0} → Option (Slot E R S) → ℕ
+left_at None = 0
+left_at (Some s) = left_of s
+
+-- the number of a worker
+abbrev pub left : {E R S : Type 0} → List (Slot E R S) → ℕ → ℕ
+left slots w = left_at (slice_get slots w)
+
+-- a step lowers the number, but where the worker has no request or waits for another's vote
+abbrev pub Lowers : StepLine → ℕ → ℕ → Type 0
+Lowers StepLine.Idle old new = new ≡ old
+Lowers (StepLine.Busy v) old new = new ≡ old
+Lowers _ old new = new < old
+
+-- where the worker has voted, this step ends its request
+abbrev pub EndsVote : {E R S : Type 0} → Slot E R S → Slot E R S → Type 0
+EndsVote (Slot.Pending p) next = next ≡ Slot.Idle
+EndsVote _ next = Unit {0}

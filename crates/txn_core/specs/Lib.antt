@@ -1,0 +1,4 @@
+pub mod Slots
+pub mod StepLines
+pub mod Counting
+pub mod Cores
