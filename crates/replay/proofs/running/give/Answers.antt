@@ -1,0 +1,18 @@
+use Rattle.std.proofs.Common.{◌≡◌, ◌∙◌, ℕ, sym, ap, inr, Some, None}
+use Rattle.schedule.specs.declared.item.Item2.{Item2}
+use Rattle.replay.specs.Printed.{terms_of}
+use Rattle.replay.proofs.Giving.{happens, not_idle}
+use Rattle.replay.proofs.running.give.Goals.{in-Ok, in-Err}
+use Rattle.replay.proofs.running.give.Goals as goal
+
+pub returns-then-worker-ge-WORKERS-clause-refused : goal.returns-then-worker-ge-WORKERS-clause-refused
+returns-then-worker-ge-WORKERS-clause-refused g c = λ _. inr (not_idle c.args.core.now c.args.worker c.is_sound.ensures.workers c.if-worker-ge-WORKERS.true)
+
+pub returns-clause-given : goal.returns-clause-given
+returns-clause-given g c =
+    let takes : g.E.Evaluator.takes c.args.bytes.now ≡ Some c.in-Some.request = ap g.E.Evaluator.takes (sym c.as_slice.ensures) ∙ sym c.in_ok-request.ensures ∙ c.in-Some.is in
+    elim c.match-give.branch [
+      | in-Ok w ↦ rw w.result-is (λ yes now limit end. happens (terms_of g.E.Evaluator.takes g.E.Evaluator.meaning limit end) g.E.Evaluator.meaning c.args.core.now c.give.new.self now now (Item2.Request c.args.worker c.args.bytes.now) _
+          (w.in-Ok.ensures.given (terms_of g.E.Evaluator.takes g.E.Evaluator.meaning limit end) now c.args.bytes.now takes))
+      | in-Err w ↦ rw w.result-is (λ yes. absurd cc)
+    ]

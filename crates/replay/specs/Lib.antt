@@ -1,0 +1,5 @@
+pub mod Printed
+pub mod ShownInOrder
+pub mod Losing
+pub mod BrokenOff
+pub mod Refusals

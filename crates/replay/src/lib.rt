@@ -1,0 +1,19 @@
+//! Schedules, run: items in, a report out.
+//!
+//! `replay` runs a schedule over a store, item by item, and writes what each step printed as it comes. Its contract
+//! is that of the whole report: the schedule *may have* it (`schedule`, *Explained*), over every lawful evaluator. So
+//! the printed history gives each committed request the reply and the objects of running the requests one by one.
+#![tactic(auto)]
+
+mod history_out;
+mod losing;
+mod printing;
+mod refusal;
+mod replies;
+mod running;
+#[cfg(test)]
+mod tests;
+
+pub use history_out::put_history;
+pub use refusal::RunRefusal;
+pub use running::replay;

@@ -1,0 +1,49 @@
+ghost use Rattle.std.specs.Prelude.{◌≡◌, IfOk};
+ghost use Rattle.http_out.specs.Replies.{IsStatus};
+ghost use Rattle.schedule.specs.Causes.{conflict_reply, memory_reply};
+ghost use Rattle.txn_core.specs.StepLines.{spent_reply};
+
+use evaluator::Reply;
+use std::alloc::Global;
+use txn_core::Spent;
+use zbase::{Memory, Text};
+
+/// The reply to a request that was given up, whose last conflict was over this object.
+#[tactic(auto, unfolding(schedule::specs::Causes::conflict_reply))]
+pub(crate) fn conflict_reply(alloc: Global, oid: u64) -> Result<Reply, Memory>
+    ensures reply { IfOk result (λ reply. reply ≡ conflict_reply oid) }
+    ensures status { IfOk result (λ reply. IsStatus reply.status) }
+{
+    let mut text = Text::from_str(alloc, "conflict: ")?;
+    text.push_hex16(oid)?;
+    Reply::one_line(alloc, 503, text)
+}
+
+/// The reply to a request for which something is spent.
+#[tactic(auto, unfolding(schedule::specs::Causes::tids_reply, schedule::specs::Causes::oids_reply, schedule::specs::Causes::full_reply))]
+pub(crate) fn spent_reply(alloc: Global, spent: Spent) -> Result<Reply, Memory>
+    ensures reply { IfOk result (λ reply. reply ≡ spent_reply spent) }
+    ensures status { IfOk result (λ reply. IsStatus reply.status) }
+{
+    let text = match spent {
+        Spent::Tids => Text::from_str(alloc, "transaction ids spent")?,
+        Spent::Oids { .. } => Text::from_str(alloc, "object ids spent")?,
+        Spent::Full { need, limit } => {
+            let mut text = Text::from_str(alloc, "full: ")?;
+            text.push_str(need.to_string(alloc)?.as_str())?;
+            text.push_str(" of ")?;
+            text.push_str(limit.to_string(alloc)?.as_str())?;
+            text
+        }
+    };
+    Reply::one_line(alloc, 503, text)
+}
+
+/// The reply to a request that met want of memory.
+#[tactic(auto, unfolding(schedule::specs::Causes::memory_reply))]
+pub(crate) fn memory_reply(alloc: Global) -> Result<Reply, Memory>
+    ensures reply { IfOk result (λ reply. reply ≡ memory_reply) }
+    ensures status { IfOk result (λ reply. IsStatus reply.status) }
+{
+    Reply::one_line(alloc, 503, Text::from_str(alloc, "out of memory")?)
+}

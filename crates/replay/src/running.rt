@@ -1,0 +1,167 @@
+ghost use Rattle.std.specs.Prelude.{◌≡◌, ◌⊎◌, ◌++◌, ◌∷◌, ◌<◌, ℕ, [], None, Some, false, true, IfOk, OnOk, OnErr, IsErrOf};
+ghost use Rattle.zbase.specs.Faults.{Counts};
+ghost use Rattle.schedule.specs.Courses.{Happens};
+ghost use Rattle.schedule.specs.Moments.{Free, clocked, doing};
+ghost use Rattle.schedule.specs.declared.item.Item2.{Item2};
+ghost use Rattle.txn_core.specs.Cores.{IsAtRest, IsIdle};
+ghost use Rattle.txn_core.specs.Slots.{moment_of};
+ghost use Rattle.schedule.specs.declared.line.Line.{Line};
+ghost use Rattle.schedule.specs.Explained.{history_lines};
+ghost use Rattle.replay.specs.Losing.{lost_marks};
+ghost use Rattle.replay.specs.BrokenOff.{BrokenOff, CannotRun};
+ghost use Rattle.replay.specs.Printed.{HappensPrinted, Prints, PrintsReport, Ran, terms_of};
+
+use crate::history_out::put_history;
+use crate::losing::put_lost;
+use crate::printing::{put_line, put_step};
+use crate::refusal::RunRefusal;
+use evaluator::Evaluator;
+use fs_store::Store;
+use schedule::{Item2, Line, runs_are_serial};
+use std::alloc::Global;
+use txn_core::Core;
+use zbase::{Bytes, Memory, Tid};
+use zdisk::Disk;
+use zio::{OutsideRefusal, Sink};
+
+/// There are workers 0 to 15.
+const WORKERS: u32 = 16;
+
+// Gives a worker a request; false where it isn't free, or the bytes aren't one message.
+fn give<D: Disk + Drop, E: Evaluator>(
+    core: &mut Core<D, E>,
+    worker: u32,
+    bytes: &Bytes,
+) -> Result<bool, Memory>
+    ensures limit { core.new.store.limit ≡ core.old.store.limit }
+    ensures refused { IfOk result (λ given. given ≡ false → (E.takes bytes.now ≡ None) ⊎ (IsIdle core.old worker → ⊥)) }
+    ensures given { IfOk result (λ given. given ≡ true → (now limit end : ℕ) →
+        Happens (terms_of E.takes E.meaning limit end) (clocked (moment_of E.meaning core.old.store core.old.slots) now) (Item2.Request worker bytes.now) [] (clocked (moment_of E.meaning core.new.store core.new.slots) now)) }
+{
+    core.is_sound();
+    if worker >= WORKERS {
+        return Ok(false);
+    }
+    let Some(request) = core.take(bytes.as_slice())? else {
+        return Ok(false);
+    };
+    match core.give(worker, request) {
+        Ok(()) => Ok(true),
+        Err(_) => Ok(false),
+    }
+}
+
+// Runs the item with this line number.
+fn run_item<D: Disk + Drop, E: Evaluator, K: Sink>(
+    alloc: Global,
+    core: &mut Core<D, E>,
+    number: u64,
+    item: &Item2,
+    clock: &mut Tid,
+    out: &mut K,
+) -> Result<(), RunRefusal>
+    ensures limit { core.new.store.limit ≡ core.old.store.limit }
+    ensures ok { (end : ℕ) → OnOk result (HappensPrinted (terms_of E.takes E.meaning core.old.store.limit end) (clocked (moment_of E.meaning core.old.store core.old.slots) clock.old) item.now (clocked (moment_of E.meaning core.new.store core.new.slots) clock.new) (K.written out.old) (K.written out.new)) }
+    ensures bad_line { (n end : ℕ) → IsErrOf result (RunRefusal.BadLine n) → (n ≡ number) × CannotRun (terms_of E.takes E.meaning core.old.store.limit end) (clocked (moment_of E.meaning core.old.store core.old.slots) clock.old) item.now × (K.written out.new ≡ K.written out.old) }
+    ensures counts { Counts (K.counter out.old) (K.counter out.new) (IsErrOf result RunRefusal.Output) }
+{
+    match item {
+        Item2::Request(worker, bytes) => match give(core, *worker, bytes) {
+            Ok(true) => Ok(()),
+            Ok(false) => Err(RunRefusal::BadLine(number)),
+            Err(_) => Err(RunRefusal::Memory),
+        },
+        Item2::Step(worker) => {
+            if *worker >= WORKERS {
+                return Err(RunRefusal::BadLine(number));
+            }
+            let line = core.step(*worker, *clock);
+            put_step(alloc, *worker, &line, out)?;
+            Ok(())
+        }
+        Item2::Clock(stamp) => {
+            *clock = *stamp;
+            Ok(())
+        }
+        Item2::Stop(_, _) => Err(RunRefusal::BadLine(number)),
+        Item2::Fail(_, _) => Err(RunRefusal::BadLine(number)),
+        Item2::End => Err(RunRefusal::BadLine(number)),
+    }
+}
+
+// Writes what closes a report: a line for each request that is cut off, and the history.
+fn put_closing<D: Disk + Drop, K: Sink>(
+    alloc: Global,
+    store: &Store<D>,
+    taken: &[bool; 16],
+    out: &mut K,
+) -> Result<(), OutsideRefusal>
+    ensures ok { OnOk result (Prints (K.written out.old) (K.written out.new) (lost_marks taken.now ++ history_lines store.now.history ++ Line.End ∷ [])) }
+    ensures counts { Counts (K.counter out.old) (K.counter out.new) (IsErrOf result OutsideRefusal.Failed) }
+{
+    put_lost(alloc, taken.as_slice(), out)?;
+    put_history(alloc, store, out)?;
+    put_line(alloc, &Line::End, out)
+}
+
+// Writes what opens a report, and runs the items from the first on.
+fn run_items<D: Disk + Drop, E: Evaluator, K: Sink>(
+    alloc: Global,
+    core: &mut Core<D, E>,
+    items: &[Item2],
+    out: &mut K,
+) -> Result<(), RunRefusal>
+    requires rest { IsAtRest E.meaning core.old }
+    ensures ran { OnOk result ((now : ℕ) × Ran (terms_of E.takes E.meaning core.old.store.limit core.old.store.end) core.old.store.history items.now (clocked (moment_of E.meaning core.new.store core.new.slots) now) (K.written out.old) (K.written out.new)) }
+    ensures bad_line { (n : ℕ) → IsErrOf result (RunRefusal.BadLine n) → BrokenOff (terms_of E.takes E.meaning core.old.store.limit core.old.store.end) core.old.store.history items.now n (K.written out.old) (K.written out.new) }
+    ensures counts { Counts (K.counter out.old) (K.counter out.new) (IsErrOf result RunRefusal.Output) }
+{
+    runs_are_serial::<E>();
+    core.store().is_sound();
+    put_line(alloc, &Line::Head, out)?;
+    let opened = Line::Opened(core.store().last(), core.store().len() as u64);
+    put_line(alloc, &opened, out)?;
+    let mut clock = Tid(0);
+    let mut number: u64 = 2;
+    for item in items {
+        run_item(alloc, core, number, item, &mut clock, out)?;
+        number = number.saturating_add(1);
+    }
+    Ok(())
+}
+
+/// Runs a schedule over a store, by an evaluator, and writes the report line by line. With `Ok` the store comes
+/// back, in which a vote that was out at the schedule's end doesn't stand.
+///
+/// The report is one that the schedule may have over the store's history, and ends in the history of the store that
+/// comes back. Where an item can't be run, the items before it are run and printed.
+pub fn replay<D: Disk + Drop, E: Evaluator, K: Sink>(
+    alloc: Global,
+    store: Store<D>,
+    items: &[Item2],
+    evaluator: E,
+    out: &mut K,
+) -> Result<Store<D>, RunRefusal>
+    requires { store.out ≡ None }
+    ensures explained { IfOk result (λ last. PrintsReport (terms_of E.takes E.meaning store.limit store.end) store.history items.now last.history (K.written out.old) (K.written out.new)) }
+    ensures bad_line { (n : ℕ) → IsErrOf result (RunRefusal.BadLine n) → BrokenOff (terms_of E.takes E.meaning store.limit store.end) store.history items.now n (K.written out.old) (K.written out.new) }
+    ensures counts { Counts (K.counter out.old) (K.counter out.new) (IsErrOf result RunRefusal.Output) }
+{
+    runs_are_serial::<E>();
+    store.is_sound();
+    let mut core = match Core::new(alloc, store, evaluator) {
+        Ok(core) => core,
+        Err(_) => return Err(RunRefusal::Memory),
+    };
+    match run_items(alloc, &mut core, items, out) {
+        Ok(()) => {
+            let (store, taken) = core.close();
+            put_closing(alloc, &store, &taken, out)?;
+            Ok(store)
+        }
+        Err(refusal) => {
+            let (_store, _taken) = core.close();
+            Err(refusal)
+        }
+    }
+}
