@@ -1,6 +1,7 @@
--- A refusal of the outside names no line.
-use Rattle.std.proofs.Common.{◌≡◌, ℕ, Result, Err}
+-- A refusal of the outside names no line, and is a fault of the sink where it was one.
+use Rattle.std.proofs.Common.{◌≡◌, ℕ, Result, Err, refl}
 use Rattle.std.specs.Prelude.{IsErrOf}
+use Rattle.zbase.specs.Faults.{Counter, Counts, counts_as}
 use Rattle.zio.specs.declared.refusal.OutsideRefusal.{OutsideRefusal}
 use Rattle.replay.specs.declared.refusal.RunRefusal.{RunRefusal}
 use Rattle.replay.specs.Refusals.{of_outside}
@@ -8,3 +9,7 @@ use Rattle.replay.specs.Refusals.{of_outside}
 pub no_line : {T : Type 0} (r : Result T RunRefusal) (e : RunRefusal) (o : OutsideRefusal) (n : ℕ) → r ≡ Err e → e ≡ of_outside o → IsErrOf r (RunRefusal.BadLine n) → ⊥
 no_line r e OutsideRefusal.Failed n p q is = cc
 no_line r e OutsideRefusal.Memory n p q is = cc
+
+pub outside_counts : {T U : Type 0} (a b : Counter) (r : Result T OutsideRefusal) (q : Result U RunRefusal) (o : OutsideRefusal) (e : RunRefusal) → r ≡ Err o → q ≡ Err e → e ≡ of_outside o → Counts a b (IsErrOf r OutsideRefusal.Failed) → Counts a b (IsErrOf q RunRefusal.Output)
+outside_counts a b r q OutsideRefusal.Failed e was is of counts = counts_as counts (λ _. cc) (λ _. cc)
+outside_counts a b r q OutsideRefusal.Memory e was is of counts = counts_as counts (λ f. cc) (λ f. cc)

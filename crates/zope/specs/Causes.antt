@@ -5,25 +5,25 @@
 use Rattle.std.specs.Prelude.{◌≡◌, ◌⊎◌, ℕ, ◌≤◌, ◌<◌, List, [], ◌∷◌, ◌++◌, length, drop, IfSome, Option, None, Some, codes, decimal}
 use Rattle.std.specs.Io.KnownBytes.{append_known}
 use Rattle.std.specs.Option.{option_map}
-use Rattle.zio.specs.declared.refusal.OutsideRefusal.{OutsideRefusal}
 use Rattle.zio.specs.Shelves.{Entry, file_at}
 use Rattle.fs_record.specs.File.{Front, magic}
 use Rattle.fs_scan.specs.Plain.{IsPlainFile}
 use Rattle.schedule.specs.declared.item.Item2.{Item2}
 use Rattle.schedule.specs.BadLines.{IsBadAt}
-use Rattle.schedule.specs.Items.{AreOfFirstWorker, IsSchedule}
+use Rattle.schedule.specs.Items.{ArmNothing, IsSchedule}
 use Rattle.schedule.specs.declared.reader.ScheduleRefusal.{ScheduleRefusal}
 use Rattle.zope.specs.declared.refusal.FileRefusal.{FileRefusal}
 use Rattle.zope.specs.declared.refusal.InputRefusal.{InputRefusal}
 use Rattle.zope.specs.declared.refusal.Refusal.{Refusal}
-use Rattle.zope.specs.declared.refusal.RunRefusal.{RunRefusal}
-use Rattle.zope.specs.BrokenOff.{BrokenOff}
-use Rattle.zope.specs.Messages.{message_of}
-use Rattle.zope.specs.Printed.{terms_of}
+use Rattle.fs_store.specs.Stores.{StoreView}
+use Rattle.publisher.specs.Messages.{message_of}
+use Rattle.publisher.specs.Site.{site}
+use Rattle.replay.specs.declared.refusal.RunRefusal.{RunRefusal}
+use Rattle.replay.specs.BrokenOff.{BrokenOff}
+use Rattle.replay.specs.Printed.{terms_of}
 use Rattle.zope.specs.Given.{Scheduled, Stored, most_file, most_input}
-use Rattle.zope.specs.Site.{page}
-use Rattle.zope.specs.Stores.{Opened, Opens}
-use Rattle.zope.specs.Words.{IsReplay, IsReplayOf}
+use Rattle.zope.specs.Stores.{Opens}
+use Rattle.zope.specs.Words.{IsReplay, IsReplayOf, IsReplayWith}
 
 -- where the shelf tells, its file of that name has so many bytes
 abbrev pub IsLength : Option (List Entry) → List ℕ → ℕ → Type 0
@@ -66,8 +66,8 @@ RunCause broken failed Refusal.Memory = Unit {0}
 RunCause broken failed _ = ⊥
 
 -- the run over that file was broken off at the line of that number
-abbrev pub Broke : Opened → List Item2 → Option (List ℕ) → Option (List ℕ) → ℕ → Type 0
-Broke s items old new n = BrokenOff (terms_of message_of page s.end) s.history items n old new
+abbrev pub Broke : StoreView → List Item2 → Option (List ℕ) → Option (List ℕ) → ℕ → Type 0
+Broke s items old new n = BrokenOff (terms_of message_of site s.limit s.end) s.history items n old new
 
 -- The cause of a refusal: of the words, of the input, of the file, or of the run. Until the run nothing is
 -- written.
@@ -76,7 +76,7 @@ Cause words files input source sink disk old new e =
     ((e ≡ Refusal.Usage) × (IsReplay words → ⊥) × (new ≡ old))
     ⊎ ((IsReplay words × InputCause input source e × (new ≡ old))
     ⊎ (((name : List ℕ) × (items : List Item2) × IsReplayOf words name × Scheduled input items × FileCause files name disk e × (new ≡ old))
-    ⊎ ((name : List ℕ) × (items : List Item2) × IsReplayOf words name × Scheduled input items × (bytes : List ℕ) × (s : Opened) × Stored files name bytes × Opens bytes s × RunCause (Broke s items old new) sink e)))
+    ⊎ ((name : List ℕ) × (limit : ℕ) × (items : List Item2) × IsReplayWith words name limit × Scheduled input items × (bytes : List ℕ) × (s : StoreView) × Stored files name bytes × Opens bytes limit s × RunCause (Broke s items old new) sink e)))
 
 -- the last line, which names the cause
 abbrev pub last_line : List ℕ → Refusal → List ℕ
@@ -122,15 +122,12 @@ of_run (RunRefusal.BadLine n) = Refusal.BadLine n
 of_run RunRefusal.Output = Refusal.Output
 of_run RunRefusal.Memory = Refusal.Memory
 
-abbrev pub of_outside : OutsideRefusal → RunRefusal
-of_outside OutsideRefusal.Failed = RunRefusal.Output
-of_outside OutsideRefusal.Memory = RunRefusal.Memory
-
 -- Nothing that is looked at is a cause: the words name a file that is there, is plain and isn't too long; the input
 -- spells a schedule that isn't too long, each line of which can be run; and no count rose.
 pub record NoCause (words : List (List ℕ)) (files : Option (List Entry)) (input : Option (List ℕ)) (source sink disk : Type 0) : Type 0 where
   pub name : List ℕ
-  pub command : IsReplayOf words name
+  pub limit : ℕ
+  pub command : IsReplayWith words name limit
   pub entries : List Entry
   pub shelf : files ≡ Some entries
   pub bytes : List ℕ
@@ -143,8 +140,8 @@ pub record NoCause (words : List (List ℕ)) (files : Option (List Entry)) (inpu
   pub within : length text ≤ most_input
   pub items : List Item2
   pub spells : IsSchedule text items
-  pub first : AreOfFirstWorker items
-  pub runs : (s : Opened) (n : ℕ) (old new : Option (List ℕ)) → Opens bytes s → Broke s items old new n → ⊥
+  pub arms_nothing : ArmNothing items
+  pub runs : (s : StoreView) (n : ℕ) (old new : Option (List ℕ)) → Opens bytes limit s → Broke s items old new n → ⊥
   pub source_calm : source → ⊥
   pub sink_calm : sink → ⊥
   pub disk_calm : disk → ⊥

@@ -2,7 +2,7 @@
 use Rattle.std.specs.Prelude.{ℕ, ◌≤◌, List, length, IfSome, Option}
 use Rattle.zio.specs.Shelves.{Entry}
 use Rattle.schedule.specs.declared.item.Item2.{Item2}
-use Rattle.schedule.specs.Items.{AreOfFirstWorker, IsSchedule}
+use Rattle.schedule.specs.Items.{ArmNothing, IsSchedule}
 use Rattle.zope.specs.Shelved.{HasFile}
 
 -- the most bytes of a schedule, and of a file
@@ -12,11 +12,11 @@ most_input = 67108864
 abbrev pub most_file : ℕ
 most_file = 268435456
 
--- where the source tells, all of the input is a schedule that the first worker can run
+-- where the source tells, all of the input is a schedule that arms nothing
 pub record Scheduled (input : Option (List ℕ)) (items : List Item2) : Type 0 where
   pub within : IfSome input (λ text. length text ≤ most_input)
   pub spells : IfSome input (λ text. IsSchedule text items)
-  pub first : AreOfFirstWorker items
+  pub arms_nothing : ArmNothing items
 
 -- where the shelf tells, its file of that name has these bytes, and not too many
 pub record Stored (files : Option (List Entry)) (name bytes : List ℕ) : Type 0 where

@@ -1,14 +1,6 @@
 pub mod Words
 pub mod Shelved
 pub mod Given
-pub mod Replies
-pub mod Messages
-pub mod Site
-pub mod SiteLaws
-pub mod Alone
 pub mod Stores
-pub mod Tasks
-pub mod Printed
 pub mod Replayed
-pub mod BrokenOff
 pub mod Causes

@@ -182,8 +182,8 @@ fn each_bad_line_has_its_number(rt: HostRuntime) -> Result<(), Fail> {
             "zope schedule 1\nrequest 0 100000000000000000000\na\nend\n",
             2,
         ),
-        ("zope schedule 1\nstep 0\nstep 1\nend\n", 3),
-        ("zope schedule 1\nstep 0\nrequest 1 0\n\nend\n", 3),
+        ("zope schedule 1\nstep 0\nstep 16\nend\n", 3),
+        ("zope schedule 1\nstep 0\nrequest 16 0\n\nend\n", 3),
         // an end of line that is missing, behind a number and behind a request's bytes
         ("zope schedule 1\nstep 0", 2),
         ("zope schedule 1\nrequest 0 1\naa\nend\n", 2),

@@ -1,29 +1,18 @@
 //! The top call, and the program.
 #![tactic(auto)]
 
-mod active;
 #[cfg(test)]
 mod cause_tests;
 mod command;
-mod history_out;
-mod http_out;
+#[cfg(test)]
+mod edit_tests;
 mod inputs;
-mod message;
 #[cfg(test)]
 mod page_tests;
-mod printing;
 mod refusal;
-mod replies;
-mod running;
-mod site;
-mod step_line;
-mod stepping;
-mod store;
-mod task;
 #[cfg(test)]
 mod tests;
 mod top;
-mod way;
 
 use std::env;
 use std::io::ErrorKind;

@@ -6,7 +6,7 @@ use std::test::Fail;
 use zbase::{Bytes, Memory};
 
 /// The file of one transaction with a root folder and the document `a`, whose source is `hello`.
-const HELLO: &str =
+pub const HELLO: &str =
     "46533231 0331620000000000 00000000000000ac 20 0000 0000 0000 0000000000000000 0331620000000000 0000000000000000 0000000000000004 0000 0000000000000022 5a3146 0000 0000000000000000 0000 0000 0000 0000 0001 0001 61 0000000000000001 0000000000000001 0331620000000000 0000000000000000 0000000000000004 0000 000000000000001f 5a3144 0001 61 0000000000000000 0000 0000 0000 0000 00000005 68656c6c6f 00000000000000ac";
 
 /// The root folder with the child `a`, object 1.
@@ -15,7 +15,7 @@ const ROOT: &str = "5a3146 0000 0000000000000000 0000 0000 0000 0000 0001 0001 6
 /// The document `a` of the root, whose source is `hello`.
 const DOCUMENT: &str = "5a3144 0001 61 0000000000000000 0000 0000 0000 0000 00000005 68656c6c6f";
 
-const GET_A: &str = "request 0 19\nGET /a HTTP/1.0\r\n\r\n\n";
+pub const GET_A: &str = "request 0 19\nGET /a HTTP/1.0\r\n\r\n\n";
 
 fn digit(byte: u8) -> Option<u8> {
     match byte {
@@ -26,7 +26,7 @@ fn digit(byte: u8) -> Option<u8> {
 }
 
 /// The bytes of hexadecimal digits, with spaces between them.
-fn from_hex(alloc: Global, text: &str) -> Result<Bytes, Memory> {
+pub fn from_hex(alloc: Global, text: &str) -> Result<Bytes, Memory> {
     let mut bytes = Bytes::new(alloc);
     let mut high = None;
     for byte in text.as_bytes() {

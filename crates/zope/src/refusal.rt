@@ -1,11 +1,11 @@
 ghost use Rattle.std.specs.Prelude.{◌≡◌};
-ghost use Rattle.zope.specs.Causes.{of_file, of_input, of_outside, of_run, of_schedule};
+ghost use Rattle.zope.specs.Causes.{of_file, of_input, of_run, of_schedule};
 ghost use Rattle.zope.specs.declared.refusal.FileRefusal.TheVariants.{Memory as FileMemory};
 ghost use Rattle.zope.specs.declared.refusal.InputRefusal.TheVariants.{Memory as InputMemory};
 
+use replay::RunRefusal;
 use schedule::ScheduleRefusal;
 use std::alloc::{AllocError, AllocFailed};
-use zio::OutsideRefusal;
 
 /// Why a command did not end well.
 #[derive(Clone, Copy, Debug, PartialEq, Eq)]
@@ -58,17 +58,6 @@ pub enum FileRefusal {
     Memory,
 }
 
-/// Why a run was broken off.
-#[derive(Clone, Copy, Debug, PartialEq, Eq)]
-pub enum RunRefusal {
-    /// The line with this number can't be run: its request is no message, or its worker has one already.
-    BadLine(u64),
-    /// The sink failed.
-    Output,
-    /// Want of memory outside a step.
-    Memory,
-}
-
 impl From<AllocError> for InputRefusal {
     ghost from_gives = { λ _ e. e ≡ InputMemory };
 
@@ -90,17 +79,6 @@ impl<T: Drop> From<AllocFailed<T>> for FileRefusal {
 
     fn from(_: AllocFailed<T>) -> FileRefusal {
         FileRefusal::Memory
-    }
-}
-
-impl From<OutsideRefusal> for RunRefusal {
-    ghost from_gives = { λ refusal e. e ≡ of_outside refusal };
-
-    fn from(refusal: OutsideRefusal) -> RunRefusal {
-        match refusal {
-            OutsideRefusal::Failed => RunRefusal::Output,
-            OutsideRefusal::Memory => RunRefusal::Memory,
-        }
     }
 }
 

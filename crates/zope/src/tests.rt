@@ -1,25 +1,8 @@
-ghost use Rattle.std.specs.Prelude.{◌≡◌, IfOk};
-ghost use Rattle.zope.specs.Messages.{message_of};
-ghost use Rattle.zope.specs.Site.{page};
-ghost use Rattle.zope.specs.SiteLaws.{site_asks_twice, site_changes_nothing, site_is_lawful, site_replies};
-
-use crate::history_out::put_history;
-use crate::http_out::reply_bytes;
-use crate::message::Message;
-use crate::running::replay;
-use crate::site::Site;
-use crate::store::Store;
 use crate::{Status, run};
-use evaluator::{Evaluator, Fact, Facts, Kind, Mark, Outcome, Reply, ShownList};
-use fs_record::TxnTexts;
-use fs_scan::{OidValue, Whole};
-use schedule::read_schedule;
 use std::alloc::Global;
 use std::test::Fail;
-use zbase::{Bytes, FaultPlan, Items, Memory, Oid, Text, Tid};
-use zio::{
-    MemoryClock, MemoryFile, MemoryHub, MemoryShelf, MemorySink, MemorySource, OutsideRefusal,
-};
+use zbase::{Bytes, FaultPlan, Memory, Text};
+use zio::{MemoryClock, MemoryFile, MemoryHub, MemoryShelf, MemorySink, MemorySource};
 
 const GET: &str = "request 0 18\nGET / HTTP/1.0\r\n\r\n\n";
 
@@ -158,8 +141,9 @@ fn a_line_that_is_no_schedule_prints_no_report(rt: HostRuntime) -> Result<(), Fa
     let alloc = rt.alloc();
     for (lines, why) in [
         ("", "bad line 2\n"),
-        ("step 1\nend\n", "bad line 2\n"),
-        ("step 0\nclock 0331620000000000\nend\n", "bad line 3\n"),
+        ("step 16\nend\n", "bad line 2\n"),
+        ("step 0\nclock 033162000000000\nend\n", "bad line 3\n"),
+        ("clock 0331620000000000\nstop 1 0\nend\n", "bad line 3\n"),
         ("end\nstep 0\n", "bad line 3\n"),
     ] {
         assert!(rt; ends(alloc, lines, 4, why)?, "{lines}");
@@ -174,6 +158,7 @@ fn a_line_that_cannot_run_keeps_what_was_printed(rt: HostRuntime) -> Result<(), 
         ("request 0 3\nGET\nend\n", "", 2),
         ("request 0 19\nGET / HTTP/1.0\r\n\r\n\n\nend\n", "", 2),
         ("step 0\nrequest 0 0\n\nend\n", "idle 0\n", 3),
+        ("step 15\nrequest 15 0\n\nend\n", "idle 15\n", 3),
     ] {
         let report = format!(in alloc;
             "zope report 1\nopen 0000000000000000 0\n{printed}bad line {line}\n"
@@ -215,6 +200,29 @@ fn other_words_are_usage(rt: HostRuntime) -> Result<(), Fail> {
     assert!(rt; is_usage(alloc, &["replay", "empty.fs", "empty.fs"])?);
     assert!(rt; is_usage(alloc, &["Replay", "empty.fs"])?);
     assert!(rt; is_usage(alloc, &["serve", "empty.fs"])?);
+    for limit in [
+        "",
+        "+1",
+        "-1",
+        "x",
+        "1x",
+        "281474976710656",
+        "000000000000000000001",
+    ] {
+        assert!(rt;
+            is_usage(alloc, &["replay", "empty.fs", "--limit", limit])?,
+            "{limit}"
+        );
+    }
+    assert!(rt; is_usage(alloc, &["replay", "empty.fs", "--limit"])?);
+    assert!(rt; is_usage(alloc, &["replay", "empty.fs", "--most", "1"])?);
+    assert!(rt; is_usage(alloc, &["replay", "empty.fs", "--limit", "1", "1"])?);
+    for limit in ["0", "4", "00000000000000000001", "281474976710655"] {
+        assert!(rt;
+            !is_usage(alloc, &["replay", "empty.fs", "--limit", limit])?,
+            "{limit}"
+        );
+    }
     assert!(rt; !is_usage(alloc, &["replay", "empty.fs"])?);
     Ok(())
 }
@@ -306,222 +314,5 @@ fn a_sink_that_fails_at_the_last_line_is_status_six(rt: HostRuntime) -> Result<(
         failing: Failing { output: 1, ..NONE },
     };
     assert!(rt; comes_to(rt.alloc(), &start, 6, "")?);
-    Ok(())
-}
-
-/// The site, but for memory: each of its evaluations finds none.
-#[derive(Drop)]
-struct Starved {
-    site: Site,
-}
-
-impl Evaluator for Starved {
-    type Request = Message;
-
-    type State = ();
-
-    ghost takes = { message_of };
-
-    ghost meaning = { page };
-
-    ghost fits = { λ _ _ _. Unit {0} };
-
-    fn take(&self, bytes: &[u8]) -> Result<Option<Message>, Memory> {
-        self.site.take(bytes)
-    }
-
-    fn fresh(&self) {}
-
-    fn eval(
-        &mut self,
-        _state: &mut (),
-        _known: &Facts,
-        _request: &Message,
-    ) -> Result<Outcome, Memory> {
-        Err(Memory)
-    }
-
-    ghost lawful = { site_is_lawful };
-
-    ghost few_asks = { site_asks_twice };
-
-    ghost changes = { site_changes_nothing };
-
-    ghost replies = { site_replies };
-}
-
-#[test]
-fn want_of_memory_in_a_step_ends_the_request_alone(rt: HostRuntime) -> Result<(), Fail> {
-    let alloc = rt.alloc();
-    let input = format!(in alloc;
-        "zope schedule 1\n{GET}step 0\nstep 0\nstep 0\n{GET}step 0\nend\n"
-    )?;
-    let items = read_schedule(alloc, input.as_bytes())?;
-    let starved = Starved {
-        site: Site::new(alloc),
-    };
-    let mut sink = MemorySink::new(alloc, FaultPlan::none(alloc));
-    assert_eq!(rt;
-        replay(
-            alloc,
-            &Store::new(Items::new(alloc), 4),
-            items.as_slice(),
-            starved,
-            &mut sink
-        ),
-        Ok(())
-    );
-    let report =
-        "zope report 1\nopen 0000000000000000 0\nbegin 0 0000000000000000\nmemory 0\nreply 0 none 151\nHTTP/1.1 503 Service Unavailable\r\nContent-Type: text/plain; charset=utf-8\r\nContent-Length: 14\r\nX-Transaction: none\r\nConnection: close\r\n\r\nout of memory\n\nidle 0\nbegin 0 0000000000000000\nlost 0\nhistory 0\nend\n";
-    assert_eq!(rt; sink.bytes(), report.as_bytes());
-    Ok(())
-}
-
-fn reply(alloc: Global, status: u16, kind: Kind, head_only: bool) -> Result<Reply, Memory>
-    ensures { IfOk result (λ reply. reply.status ≡ status) }
-{
-    Ok(Reply {
-        status,
-        kind,
-        head_only,
-        body: Text::from_str(alloc, "body")?,
-        shown: ShownList::new(alloc),
-        denied: None,
-    })
-}
-
-#[test]
-fn replies_are_printed(rt: HostRuntime) -> Result<(), Fail> {
-    let alloc = rt.alloc();
-    let page = reply(alloc, 200, Kind::Html, false)?;
-    assert_eq!(rt;
-        reply_bytes(alloc, &page, Mark::Commit(Tid(16)))?.as_slice(),
-        b"HTTP/1.1 200 OK\r\nContent-Type: text/html; charset=utf-8\r\nContent-Length: 4\r\nX-Transaction: commit 0000000000000010\r\nConnection: close\r\n\r\nbody".as_slice()
-    );
-    let head = reply(alloc, 401, Kind::Plain, true)?;
-    assert_eq!(rt;
-        reply_bytes(alloc, &head, Mark::Empty)?.as_slice(),
-        b"HTTP/1.1 401 Unauthorized\r\nWWW-Authenticate: basic realm=\"Zope\"\r\nContent-Type: text/plain; charset=utf-8\r\nContent-Length: 4\r\nX-Transaction: none\r\nConnection: close\r\n\r\n".as_slice()
-    );
-    Ok(())
-}
-
-#[test]
-fn statuses_have_their_phrases(rt: HostRuntime) -> Result<(), Fail> {
-    for (status, line) in [
-        (200, "HTTP/1.1 200 OK\r\n"),
-        (400, "HTTP/1.1 400 Bad Request\r\n"),
-        (401, "HTTP/1.1 401 Unauthorized\r\n"),
-        (404, "HTTP/1.1 404 Not Found\r\n"),
-        (411, "HTTP/1.1 411 Length Required\r\n"),
-        (413, "HTTP/1.1 413 Payload Too Large\r\n"),
-        (414, "HTTP/1.1 414 URI Too Long\r\n"),
-        (415, "HTTP/1.1 415 Unsupported Media Type\r\n"),
-        (431, "HTTP/1.1 431 Request Header Fields Too Large\r\n"),
-        (500, "HTTP/1.1 500 Internal Server Error\r\n"),
-        (501, "HTTP/1.1 501 Not Implemented\r\n"),
-        (503, "HTTP/1.1 503 Service Unavailable\r\n"),
-    ] {
-        let reply = reply(rt.alloc(), status, Kind::Plain, false)?;
-        let bytes = reply_bytes(rt.alloc(), &reply, Mark::Empty)?;
-        assert!(rt; bytes.as_slice().starts_with(line.as_bytes()), "{line}");
-    }
-    Ok(())
-}
-
-fn written(alloc: Global, oid: u64, value: &str) -> Result<OidValue, Memory> {
-    Ok(OidValue {
-        oid: Oid(oid),
-        value: Some(Bytes::from_slice(alloc, value.as_bytes())?),
-    })
-}
-
-/// A transaction of the user `jo` that writes one object.
-fn transaction(alloc: Global, tid: u64, oid: u64, value: &str) -> Result<Whole, Memory>
-    ensures { IfOk result (λ transaction. transaction.tid ≡ tid) }
-{
-    let mut values = Items::new(alloc);
-    values.push(written(alloc, oid, value)?)?;
-    let texts = TxnTexts {
-        user: Bytes::from_slice(alloc, b"jo")?,
-        description: Bytes::from_slice(alloc, value.as_bytes())?,
-        extension: Bytes::new(alloc),
-    };
-    Ok(Whole {
-        place: 4,
-        status: b' ',
-        tid: Tid(tid),
-        texts,
-        values,
-    })
-}
-
-/// A file of three transactions: two of object 1, and one of object 2 between them.
-fn three(alloc: Global) -> Result<Store, Memory> {
-    let mut transactions = Items::new(alloc);
-    transactions.push(transaction(alloc, 5, 1, "old")?)?;
-    transactions.push(transaction(alloc, 6, 2, "else")?)?;
-    transactions.push(transaction(alloc, 9, 1, "new")?)?;
-    Ok(Store::new(transactions, 400))
-}
-
-/// Whether the object has these bytes, none where there are none of them, and this serial.
-fn has_object(store: &Store, oid: u64, bytes: &[u8], tid: u64) -> Result<bool, Memory> {
-    let Fact::Object {
-        oid: _,
-        value,
-        serial,
-    } = store.object(Oid(oid))?
-    else {
-        return Ok(false);
-    };
-    let same = match value {
-        Some(value) => value.as_slice() == bytes,
-        None => bytes.is_empty(),
-    };
-    Ok(same && serial.0 == tid)
-}
-
-#[test]
-fn the_last_revision_of_an_object_counts(rt: HostRuntime) -> Result<(), Fail> {
-    let store = three(rt.alloc())?;
-    assert!(rt; has_object(&store, 1, b"new", 9)?);
-    assert!(rt; has_object(&store, 2, b"else", 6)?);
-    assert!(rt; has_object(&store, 0, b"", 0)?);
-    assert!(rt; has_object(&Store::new(Items::new(rt.alloc()), 4), 1, b"", 0)?);
-    Ok(())
-}
-
-#[test]
-fn a_history_is_printed_with_its_values(rt: HostRuntime) -> Result<(), Fail> {
-    let alloc = rt.alloc();
-    let store = three(alloc)?;
-    let mut sink = MemorySink::new(alloc, FaultPlan::none(alloc));
-    assert_eq!(rt; put_history(alloc, &store, &mut sink), Ok(()));
-    let text =
-        "history 3\ntransaction 0000000000000005 6a6f 6f6c64 - 1\nrecord 0000000000000001 6f6c64\ntransaction 0000000000000006 6a6f 656c7365 - 1\nrecord 0000000000000002 656c7365\ntransaction 0000000000000009 6a6f 6e6577 - 1\nrecord 0000000000000001 6e6577\n";
-    assert_eq!(rt; sink.bytes(), text.as_bytes());
-    let mut full = MemorySink::new(alloc, plan(alloc, 3)?);
-    assert_eq!(rt;
-        put_history(alloc, &store, &mut full),
-        Err(OutsideRefusal::Failed)
-    );
-    Ok(())
-}
-
-#[test]
-fn a_run_begins_at_the_last_transaction(rt: HostRuntime) -> Result<(), Fail> {
-    let alloc = rt.alloc();
-    let store = three(alloc)?;
-    let input = format!(in alloc; "zope schedule 1\n{GET}step 0\nstep 0\nend\n")?;
-    let items = read_schedule(alloc, input.as_bytes())?;
-    let mut sink = MemorySink::new(alloc, FaultPlan::none(alloc));
-    assert_eq!(rt;
-        replay(alloc, &store, items.as_slice(), Site::new(alloc), &mut sink),
-        Ok(())
-    );
-    let front =
-        b"zope report 1\nopen 0000000000000009 3\nbegin 0 0000000000000009\nfetch 0 object 0000000000000000\nlost 0\nhistory 3\n";
-    assert!(rt; sink.bytes().starts_with(front));
     Ok(())
 }

@@ -6,7 +6,7 @@ ghost use Rattle.zope.specs.Replayed.{Replayed};
 ghost use Rattle.zope.specs.Words.{IsReplay};
 
 use crate::command::replay_command;
-use crate::inputs::file_name;
+use crate::inputs::replay_words;
 use crate::refusal::Refusal;
 use schedule::{one_bad_line, one_schedule};
 use std::alloc::{AllocError, Global};
@@ -92,8 +92,8 @@ fn put_cause<K: Sink>(
     ensures ok { OnOk result (Names (map string_bytes words.now) refusal (K.written out.old) (K.written out.new)) }
     ensures counts { Counts (K.counter out.old) (K.counter out.new) (IsErrOf result OutsideRefusal.Failed) }
 {
-    match file_name(words) {
-        Some(name) => put_last_line(alloc, refusal, name, out),
+    match replay_words(words) {
+        Some((name, _)) => put_last_line(alloc, refusal, name, out),
         None => put_last_line(alloc, refusal, "", out),
     }
 }
@@ -140,7 +140,7 @@ pub fn run<F: Shelf, S: Source, K: Sink, H: Hub, C: Clock>(
     _hub: &mut H,
     _clock: &mut C,
 ) -> Status
-    // The words are `replay FILE`, and the report that was written explains the schedule.
+    // The words are `replay FILE`, maybe with a limit, and the report that was written explains the schedule.
     ensures replayed { result.0 ≡ 0 → Replayed (map string_bytes words.now) (F.files files.old) (S.left input.old) (K.written out.old) (K.written out.new) }
     // The file begins as one, and isn't of whole committed transactions that hold their data.
     ensures not_yet { result.0 ≡ 1 → Comes (map string_bytes words.now) (F.files files.old) (S.left input.old) (Rose (S.counter input.old) (S.counter input.new)) (Rose (K.counter out.old) (K.counter out.new)) (Rose (F.counter files.old) (F.counter files.new) ⊎ (F.sound_disks files.old → ⊥)) (K.written out.old) (K.written out.new) Refusal.NotYet }

@@ -9,6 +9,6 @@ returns-in_err-bytes-clause-cause g c =
 
 pub returns-clause-cause : goal.returns-clause-cause
 returns-clause-cause g c =
-    unopened (g.F.Shelf.files c.args.files.now) c.args.name.now c.as_slice.result.now _ c.open_file.result
-    (rw c.as_slice.ensures.value (record { has = c.in_ok-bytes.ensures.found; within = c.in_ok-bytes.ensures.within }))
+    unopened (g.F.Shelf.files c.args.files.now) c.args.name.now c.from_vec.result _ c.open_file.result
+    (rw c.from_vec.ensures (record { has = c.in_ok-bytes.ensures.found; within = c.in_ok-bytes.ensures.within }))
     c.open_file.ensures.damaged c.open_file.ensures.not_yet c.open_file.ensures.others
