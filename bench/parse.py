@@ -1,5 +1,5 @@
 #!/usr/bin/env python3
-"""Parses templates of 262,144 bytes beside templates of a quarter of that, by `dtml_parse`, in the program `parse/`."""
+"""Parses templates of 262,144 bytes and of a quarter of that, by `dtml_parse`, in the program `parse/`."""
 
 from programs import best_of
 
@@ -8,7 +8,7 @@ def main():
     best = best_of("parse", ["zbase", "dtml_parse"])
     for name in dict.fromkeys(name for name, _ in best):
         quarter, whole = best[name, 65536], best[name, 262144]
-        print(f"{name}: {quarter:.4f} s for a quarter, {whole:.4f} s, {whole / quarter / 4:.2f} of four quarters")
+        print(f"{name}: {quarter * 1000:.2f} ms for a quarter, {whole * 1000:.2f} ms, ratio to four quarters {whole / quarter / 4:.2f}")
 
 
 main()

@@ -16,8 +16,8 @@ use Rattle.dtml_parse.specs.Table.{is_none}
 use Rattle.dtml_parse.specs.Pieces as pieces
 use Rattle.dtml_parse.specs.Pieces.{Piece, IsPiece, Means, is_lawful}
 use Rattle.dtml_parse.specs.Grammar.{Stands, Encloses, Within, HasArm, IsItem, IsBlock, AreArms, IsElse}
-use Rattle.dtml_parse.specs.Refusals.{Open, is_tag, strays, has_block, single_tag, arm_tag, IsRefused, only_block, arm_block, IsNext, IsFirst, Refuses}
-use Rattle.dtml_parse.specs.Parsing.{ends_block, is_ending, IsNoPiece, Turns, IsInside}
+use Rattle.dtml_parse.specs.Refusals.{Open, is_tag, strays, has_block, single_tag, arm_tag, IsRefused, only_block, loop_block, loop_else, arm_block, IsNext, IsFirst, Refuses}
+use Rattle.dtml_parse.specs.Parsing.{ends_block, is_ending, IsNoPiece, Turns, IsInside, IsOfLoop}
 
 -- ---- refusals
 
@@ -217,6 +217,11 @@ inside source at piece behind h = omega (arith, h.1.forward, h.1.boundary.0)
 pub in_single : (source : List ℕ) (levels inside at start : ℕ) (piece : Piece) (name : TagName) (outer : Option Open) (refusal : DtmlRefusal) → levels ≡ suc inside → single_tag piece ≡ Some name → Stands source at piece start
     → IsFirst source inside (Some (record { at = at; name = name; goes_on = false })) start refusal → IsNext levels source outer refusal at
 in_single source levels inside at start piece name outer refusal e n s h = inner levels inside source outer refusal at e (record { at = at; name = name; goes_on = false }, start, only_block piece name n s, h)
+
+-- a refusal of a block of an `in`
+pub in_loop : (source : List ℕ) (levels at start : ℕ) (arg : Arg) (reverse skip : Bool) (refusal : DtmlRefusal) → Stands source at (pieces.In arg reverse skip) start → IsOfLoop source levels at start refusal → IsInside source levels at refusal
+in_loop source levels at start arg reverse skip refusal s (inl first) = (record { at = at; name = tags.In; goes_on = true }, start, loop_block arg reverse skip s, first)
+in_loop source levels at start arg reverse skip refusal s (inr (block, behind, stands, (to, other, first))) = (record { at = at; name = tags.In; goes_on = false }, to, loop_else arg reverse skip block start behind s stands other, first)
 
 pub too_deep : (source : List ℕ) (levels at behind : ℕ) (piece : Piece) (outer : Option Open) → levels ≡ 0 → Stands source at piece behind → has_block piece ≡ true → IsNext levels source outer (refusals.TooDeep at) at
 too_deep source levels at behind piece outer e s b = now levels source outer (refusals.TooDeep at) at (refl, e, piece, behind, s, b)

@@ -1,5 +1,5 @@
 -- What the parts of the reader promise one another.
-use Rattle.std.specs.Prelude.{◌≡◌, ℕ, Bool, true, false, List, length, Option, Some, None}
+use Rattle.std.specs.Prelude.{◌≡◌, ◌⊎◌, ℕ, Bool, true, false, List, length, Option, Some, None}
 use Rattle.dtml_lex.specs.declared.part.TagName.{TagName}
 use Rattle.dtml_lex.specs.declared.part.TagName.TheVariants as tags
 use Rattle.dtml_lex.specs.declared.part.PartKind.{PartKind}
@@ -10,7 +10,8 @@ use Rattle.dtml_lex.specs.declared.refusal.DtmlRefusal.TheVariants as refusals
 use Rattle.dtml_lex.specs.Source.{IsPartAt}
 use Rattle.dtml_parse.specs.Pieces as pieces
 use Rattle.dtml_parse.specs.Pieces.{Piece, is_lawful, MeansNothing}
-use Rattle.dtml_parse.specs.Refusals.{Open, Enters, IsFirst}
+use Rattle.dtml_parse.specs.Grammar.{Stands}
+use Rattle.dtml_parse.specs.Refusals.{Open, Enters, Behind, IsFirst}
 
 -- `BadExpression` at that place, and only where this holds; or memory ran out
 abbrev pub IsBadExpression : ℕ → Type 0 → DtmlRefusal → Type 0
@@ -57,3 +58,8 @@ Turns name _ = ⊥
 -- the refusal is of a block of the tag at a place, with so many levels inside
 abbrev pub IsInside : List ℕ → ℕ → ℕ → DtmlRefusal → Type 0
 IsInside source levels at refusal = (inner : Open) × (start : ℕ) × Enters source levels at inner start × IsFirst source levels (Some inner) start refusal
+
+-- the refusal is of the block of the `in` at a place, which begins at another, or of that of its `else`
+abbrev pub IsOfLoop : List ℕ → ℕ → ℕ → ℕ → DtmlRefusal → Type 0
+IsOfLoop source levels at start refusal = IsFirst source levels (Some (record { at = at; name = tags.In; goes_on = true })) start refusal
+    ⊎ Behind source levels start (λ behind. (to : ℕ) × Stands source behind pieces.Else to × IsFirst source levels (Some (record { at = at; name = tags.In; goes_on = false })) to refusal)

@@ -1,12 +1,11 @@
-ghost use Rattle.std.specs.Prelude.{◌≡◌, ◌≤◌, ◌<◌, ℕ, suc, List, true, false, length, IfOk, IfErr, OnOk, MatchResult, ◌++◌, ◌∷◌, [], Option, Some, Bool};
+ghost use Rattle.std.specs.Prelude.{◌≡◌, ◌≤◌, ◌<◌, ℕ, suc, List, true, false, length, IfOk, IfErr, OnOk, MatchResult, ◌++◌, ◌∷◌, [], Option, Some};
 ghost use Rattle.std.specs.Str.{IsCharBoundary};
 ghost use Rattle.dtml_lex.specs.declared.part.TagName.TheVariants as tags;
 ghost use Rattle.dtml_lex.specs.declared.refusal.DtmlRefusal.TheVariants as refusals;
-ghost use Rattle.dtml_parse.specs.Trees as trees;
 ghost use Rattle.dtml_parse.specs.Pieces as pieces;
 ghost use Rattle.dtml_parse.specs.Grammar.{Stands, IsItem, IsBlock, IsElse, Reads};
 ghost use Rattle.dtml_parse.specs.Refusals.{Open, is_tag, strays, IsRefused, IsNext, IsFirst, Refuses};
-ghost use Rattle.dtml_parse.specs.Parsing.{ends_block, is_ending, stop_at, Stops, Turns, IsInside};
+ghost use Rattle.dtml_parse.specs.Parsing.{ends_block, is_ending, stop_at, Stops, Turns, IsInside, IsOfLoop};
 ghost use Rattle.dtml_parse.specs.Views.{arg_view, piece_view, node_view, view, otherwise_view};
 
 use crate::piece::{Piece, piece_of};
@@ -244,7 +243,7 @@ fn in_of(
     requires small { length source.now ≤ 262144 }
     requires boundary { IsCharBoundary source.now start }
     ensures read { IfOk result (λ x. (middle : ℕ) × (behind : ℕ) × IsBlock source.now (view x.0) levels start middle × IsElse source.now (otherwise_view x.1) levels middle behind × Stands source.now behind (pieces.Close tags.In) x.2) }
-    ensures refused { (arg : trees.Arg) (reverse skip : Bool) → Stands source.now at (pieces.In arg reverse skip) start → IfErr result (IsInside source.now levels at) }
+    ensures refused { IfErr result (IsOfLoop source.now levels at start) }
 {
     let (block, stop) = block_of(alloc, source, levels, start)?;
     let (piece, _, end) = turn_of(alloc, at, TagName::In, stop)?;

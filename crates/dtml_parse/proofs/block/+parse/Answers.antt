@@ -1,4 +1,4 @@
-use Rattle.std.proofs.Common.{◌≡◌, ◌∙◌, ℕ, suc, Option, Some, None, IfSome, true, false, refl, sym, ap, subst, rules, arith}
+use Rattle.std.proofs.Common.{◌≡◌, ◌∙◌, inl, inr, ℕ, suc, Option, Some, None, IfSome, true, false, refl, sym, ap, subst, rules, arith}
 use Rattle.std.proofs.lemmas.Result.{err_from_is_err_and}
 use Rattle.dtml_lex.specs.declared.part.TagName.TheVariants as tags
 use Rattle.dtml_lex.specs.declared.part.SourcePart.{SourcePart}
@@ -7,12 +7,12 @@ use Rattle.dtml_lex.specs.declared.refusal.DtmlRefusal.TheVariants as refusals
 use Rattle.dtml_parse.specs.Trees as trees
 use Rattle.dtml_parse.specs.Pieces as pieces
 use Rattle.dtml_parse.specs.Grammar.{Stands, IsItem, IsBlock, AreArms}
-use Rattle.dtml_parse.specs.Refusals.{loop_block, loop_else, if_else}
+use Rattle.dtml_parse.specs.Refusals.{if_else}
 use Rattle.dtml_parse.specs.Parsing.{ends_block, stop_at}
 use Rattle.dtml_parse.specs.Views.{arg_view, bounds_view, list_view, view, arm_list_view, piece_view, node_view}
 use Rattle.dtml_parse.specs.declared.piece.Piece.{Piece}
 use Rattle.dtml_parse.specs.declared.tree.Arms.{roll-Arms}
-use Rattle.dtml_parse.proofs.Steps.{inner, not_lexed, no_stray, no_piece, one_more, snoc, snoc_arm, stands_forward, item_forward, block_forward, memory_first, in_arm, behind_block, done_arms, next_tag, in_single, too_deep, encloses}
+use Rattle.dtml_parse.proofs.Steps.{inner, not_lexed, no_stray, no_piece, one_more, snoc, snoc_arm, stands_forward, item_forward, block_forward, memory_first, in_arm, behind_block, done_arms, next_tag, in_single, in_loop, too_deep, encloses}
 use Rattle.dtml_parse.proofs.ViewLemmas.{list_view_push, arm_list_push, arms_made, if_view, loop_view, unless_view, with_view, let_view, comment_view, closes_if, closes_in}
 use Rattle.dtml_parse.proofs.block.+parse.Goals as goal
 
@@ -62,20 +62,13 @@ whole_block-returns-in_err-end-clause-refused t c =
 
 pub in_of-returns-in_err-block-clause-refused : goal.in_of-returns-in_err-block-clause-refused
 in_of-returns-in_err-block-clause-refused t c =
-    λ arg reverse skip stands.
     let p = err_from_is_err_and c.from_residual.result c.from_residual.ensures.1 in
-    rw (p.1, p.2) (record { at = c.args.at; name = tags.In; goes_on = true }, c.args.start, loop_block arg reverse skip stands, c.in_err-block.ensures.refused (Some (record { at = c.args.at; name = tags.In; goes_on = true })))
+    rw (p.1, p.2) (inl (c.in_err-block.ensures.refused (Some (record { at = c.args.at; name = tags.In; goes_on = true }))))
 
 pub in_of-returns-in_err-piece-clause-refused : goal.in_of-returns-in_err-piece-clause-refused
 in_of-returns-in_err-piece-clause-refused t c =
-    λ arg reverse skip stands.
     let p = err_from_is_err_and c.from_residual-in_err-piece.result c.from_residual-in_err-piece.ensures.1 in
-    rw (p.1, p.2) (
-      record { at = c.args.at; name = tags.In; goes_on = true },
-      c.args.start,
-      loop_block arg reverse skip stands,
-      behind_block c.args.source.now c.args.levels (Some (record { at = c.args.at; name = tags.In; goes_on = true })) (view c.in_ok-block.block) c.args.start (stop_at c.args.source.now c.in_ok-block.stop) c.in_err-piece.field-0.0 c.in_ok-block.ensures.read (c.in_err-piece.ensures.refused c.args.source.now c.args.levels c.in_ok-block.ensures.stops),
-    )
+    rw (p.1, p.2) (inl (behind_block c.args.source.now c.args.levels (Some (record { at = c.args.at; name = tags.In; goes_on = true })) (view c.in_ok-block.block) c.args.start (stop_at c.args.source.now c.in_ok-block.stop) c.in_err-piece.field-0.0 c.in_ok-block.ensures.read (c.in_err-piece.ensures.refused c.args.source.now c.args.levels c.in_ok-block.ensures.stops)))
 
 pub in_of-whole_block-requires : goal.in_of-whole_block-requires
 in_of-whole_block-requires t c =
@@ -84,16 +77,10 @@ in_of-whole_block-requires t c =
 
 pub in_of-returns-in_err-otherwise-clause-refused : goal.in_of-returns-in_err-otherwise-clause-refused
 in_of-returns-in_err-otherwise-clause-refused t c =
-    λ arg reverse skip stands.
     let turn = c.in_ok-piece.ensures.read c.args.source.now c.in_ok-block.ensures.stops in
     let other = subst (λ (x : Piece). Stands c.args.source.now (stop_at c.args.source.now c.in_ok-block.stop) (piece_view x) c.in_ok-piece.end) c.in-Else.is turn in
     let p = err_from_is_err_and c.from_residual-in_err-otherwise.result c.from_residual-in_err-otherwise.ensures.1 in
-    rw (p.1, p.2) (
-      record { at = c.args.at; name = tags.In; goes_on = false },
-      c.in_ok-piece.end,
-      loop_else arg reverse skip (view c.in_ok-block.block) c.args.start (stop_at c.args.source.now c.in_ok-block.stop) stands c.in_ok-block.ensures.read other,
-      c.in_err-otherwise.ensures.refused,
-    )
+    rw (p.1, p.2) (inr (view c.in_ok-block.block, stop_at c.args.source.now c.in_ok-block.stop, c.in_ok-block.ensures.read, (c.in_ok-piece.end, other, c.in_err-otherwise.ensures.refused)))
 
 pub in_of-returns-in_default-clause-read : goal.in_of-returns-in_default-clause-read
 in_of-returns-in_default-clause-read t c =
@@ -216,7 +203,7 @@ node_of-returns-in_err-block-in-In-clause-refused t c =
     let stood : Stands c.args.source.now c.args.at (piece_view c.args.piece) c.args.behind = assumption (c.requires.1) in
     let stands = subst (λ (x : Piece). Stands c.args.source.now c.args.at (piece_view x) c.args.behind) c.in-In.is stood in
     let p = err_from_is_err_and c.from_residual-in_err-block-in-In.result c.from_residual-in_err-block-in-In.ensures.1 in
-    rw (p.1, p.2) (λ outer. inner c.args.levels c.in_ok-inner-in-In.inner c.args.source.now outer c.in_err-block-in-In.field-0.0 c.args.at c.in_ok-inner-in-In.ensures (c.in_err-block-in-In.ensures.refused (arg_view c.in-In.arg) c.in-In.reverse c.in-In.skip_unauthorized stands))
+    rw (p.1, p.2) (λ outer. inner c.args.levels c.in_ok-inner-in-In.inner c.args.source.now outer c.in_err-block-in-In.field-0.0 c.args.at c.in_ok-inner-in-In.ensures (in_loop c.args.source.now c.in_ok-inner-in-In.inner c.args.at c.args.behind (arg_view c.in-In.arg) c.in-In.reverse c.in-In.skip_unauthorized c.in_err-block-in-In.field-0.0 stands c.in_err-block-in-In.ensures.refused))
 
 pub node_of-returns-in-In-clause-read : goal.node_of-returns-in-In-clause-read
 node_of-returns-in-In-clause-read t c =
