@@ -1,3 +1,4 @@
+pub mod Drafting
 pub mod LastIndex
 pub mod KeptRows
 pub mod Lasts

@@ -23,3 +23,6 @@ pub use reads::{Loaded, Seen};
 pub use refusal::VoteRefusal;
 pub use store::Store;
 pub use voted::Voted;
+
+#[cfg(test)]
+mod tests;
