@@ -1,8 +1,8 @@
 -- Slots that are ended one by one, from the last.
-use Rattle.std.proofs.Common.{◌≡◌, ℕ, zero, suc, ◌<◌, ◌⊎◌, List, [], ◌∷◌, ◌++◌, Option, Some, None, refl, sym, ap, ◌∙◌, subst, inl, inr, slice_get, length, arith, All, map, replicate}
+use Rattle.std.proofs.Common.{◌≡◌, ℕ, zero, suc, ◌<◌, ◌⊎◌, List, [], ◌∷◌, ◌++◌, Option, Some, None, refl, sym, ap, ◌∙◌, inl, inr, slice_get, length, arith, All, map, replicate}
 use Rattle.std.proofs.lemmas.Option.{slice_get_within, get_or_from_slice_get}
 use Rattle.evaluator.specs.Exec.{Eval}
-use Rattle.schedule.specs.Moments.{Doing, Free}
+use Rattle.schedule.specs.Moments.{Free}
 use Rattle.fs_store.specs.Stores.{StoreView, Out, voting}
 use Rattle.connection.specs.States.{PendingView}
 use Rattle.txn_core.specs.declared.slot.Slot.{Slot}
@@ -36,13 +36,13 @@ closing_popped st rest (Slot.Active a) all = kept st rest (Slot.Active a) (λ p 
 closing_popped st rest (Slot.Computed a) all = kept st rest (Slot.Computed a) (λ p e. cc) all
 closing_popped st rest (Slot.Pending p) all = record {
   each = λ v q e. absurd (
-    let a = all.each v q (get_front rest (Slot.Pending p) v (Slot.Pending q) e) in
-    let b = all.each (length rest) p (get_last rest (Slot.Pending p)) in
-    let both : Some a.0 ≡ Some b.0 = sym a.1 ∙ b.1 in
-    let same : a.0 ≡ b.0 = cc in
-    let at : v ≡ length rest = sym a.2 ∙ ap (λ (o : Out). o.holder) same ∙ b.2 in
-    let within : v < length rest = slice_get_within rest v (Slot.Pending q) e in
-    omega (arith, at, within));
+      let a = all.each v q (get_front rest (Slot.Pending p) v (Slot.Pending q) e) in
+      let b = all.each (length rest) p (get_last rest (Slot.Pending p)) in
+      let both : Some a.0 ≡ Some b.0 = sym a.1 ∙ b.1 in
+      let same : a.0 ≡ b.0 = cc in
+      let at : v ≡ length rest = sym a.2 ∙ ap (λ (o : Out). o.holder) same ∙ b.2 in
+      let within : v < length rest = slice_get_within rest v (Slot.Pending q) e in
+      omega (arith, at, within));
   voter = λ o e. absurd cc;
 }
 

@@ -1,6 +1,6 @@
 -- Each arm of a step that leaves the store alone: what a slot becomes is a step of the moment, and all keeps
 -- standing.
-use Rattle.std.proofs.Common.{◌≡◌, ◌≢◌, ℕ, ◌+◌, ◌-◌, ◌*◌, ◌<◌, ◌≤◌, ◌⊎◌, List, [], ◌∷◌, ◌++◌, Option, Some, None, refl, sym, ap, ◌∙◌, subst, inl, inr, map, length, slice_get, slice_set, arith, lit<}
+use Rattle.std.proofs.Common.{◌≡◌, ◌≢◌, ℕ, ◌+◌, ◌-◌, ◌*◌, ◌<◌, ◌≤◌, List, [], ◌∷◌, Option, Some, None, refl, sym, ap, ◌∙◌, subst, inl, inr, map, length, slice_get, slice_set, arith, lit<}
 use Rattle.std.proofs.lemmas.List.{length-set, length-append}
 use Rattle.zbase.specs.Values.{last}
 use Rattle.evaluator.specs.declared.ask.Ask.{Ask}
@@ -8,17 +8,17 @@ use Rattle.evaluator.specs.declared.draft.Draft.{Draft}
 use Rattle.evaluator.specs.declared.outcome.Outcome.{Outcome}
 use Rattle.evaluator.specs.declared.reply.Reply.{Reply}
 use Rattle.evaluator.specs.Exec.{Eval, most_asks}
-use Rattle.evaluator.specs.Facts.{fact, look}
+use Rattle.evaluator.specs.Facts.{look}
 use Rattle.schedule.specs.declared.line.Line.{Line}
 use Rattle.schedule.specs.Moments.{Terms, Attempt, Doing, Vote, Moment, turned, clocked}
 use Rattle.schedule.specs.Stepping.{Told, told, from_doing, from_asking, Steps}
 use Rattle.fs_store.specs.Stores.{StoreView, Out}
 use Rattle.connection.specs.declared.conflicts.Conflicts.{Conflicts}
-use Rattle.connection.specs.States.{FreshView, ActiveView, PendingView, clashes_of}
+use Rattle.connection.specs.States.{FreshView, ActiveView, clashes_of}
 use Rattle.connection.specs.Turns.{comes_to, learned}
 use Rattle.txn_core.specs.declared.slot.Slot.{Slot}
 use Rattle.txn_core.specs.declared.step_line.StepLine.{StepLine}
-use Rattle.txn_core.specs.Counting.{EndsVote, Lowers, attempt_steps, further_steps, left_of}
+use Rattle.txn_core.specs.Counting.{EndsVote, Lowers, Paces, attempt_steps, further_steps, left_of}
 use Rattle.txn_core.specs.StepLines.{step_lines}
 use Rattle.txn_core.specs.Slots.{doing_of, reply_at, vote_of, moment_of, ActiveStands, SlotStands, CoreStands, Advances}
 use Rattle.txn_core.proofs.Lists.{get_map, map_set, set_same, get_set, set_other}
@@ -74,19 +74,22 @@ ends_none (Slot.Pending p) next not = absurd (not tt)
 
 -- An arm that leaves the store alone: the table gives these lines, and the slot's worker then does what the next
 -- slot says.
-pub quiet : {E R S : Type 0} (eval : Eval R) (w now : ℕ) (st : StoreView) (slot next : Slot E R S) (line : StepLine) → (IsPending (Some slot) → ⊥) → SlotStands eval st w next → Lowers line (left_of slot) (left_of next)
+pub quiet : {E R S : Type 0} (eval : Eval R) (w now : ℕ) (st : StoreView) (slot next : Slot E R S) (line : StepLine) → (IsPending (Some slot) → ⊥) → SlotStands eval st w next → Lowers line (left_of slot) (left_of next) → Paces line slot next
     → ((terms : Terms R) → terms.eval ≡ eval → terms.limit ≡ st.limit → (sl : List (Slot E R S)) → HoldsNone st w
-        → (from_doing terms (clocked (moment_of eval st sl) now) w (Some (doing_of eval slot)) ≡ (step_lines terms.answer w line, turned (clocked (moment_of eval st sl) now) w (doing_of eval next))))
+    → (from_doing terms (clocked (moment_of eval st sl) now) w (Some (doing_of eval slot)) ≡ (step_lines terms.answer w line, turned (clocked (moment_of eval st sl) now) w (doing_of eval next))))
     → Advances eval w now st st slot next line
-quiet {E} {R} {S} eval w now st slot next line not stands lowers tells = record {
+quiet {E} {R} {S} eval w now st slot next line not stands lowers paces tells = record {
   limit = refl;
   lowers = lowers;
   ends = ends_none slot next not;
+  paces = paces;
   moves = λ sl here all.
-    let free = holds_none eval st sl w slot all here not in
-    (stands_quiet eval st sl w next all free stands, λ terms same limit.
-      let tell : Moment R → Told R = (λ m. (step_lines terms.answer w line, m)) in
-      inl (told_at terms eval st sl w now slot here ∙ tells terms same limit sl free ∙ ap tell (moment_quiet eval st sl w now next free)));
+      let free = holds_none eval st sl w slot all here not in (
+        stands_quiet eval st sl w next all free stands,
+        λ terms same limit.
+            let tell : Moment R → Told R = (λ m. (step_lines terms.answer w line, m)) in
+            inl (told_at terms eval st sl w now slot here ∙ tells terms same limit sl free ∙ ap tell (moment_quiet eval st sl w now next free)),
+      );
 }
 
 pub idle_advances : {E R S : Type 0} (eval : Eval R) (w now : ℕ) (st : StoreView) → Advances {E = E} {R = R} {S = S} eval w now st st Slot.Idle Slot.Idle StepLine.Idle
@@ -94,10 +97,13 @@ idle_advances {E} {R} {S} eval w now st = record {
   limit = refl;
   lowers = refl;
   ends = tt;
+  paces = tt;
   moves = λ sl here all.
-    let same : slice_set sl w Slot.Idle ≡ sl = set_same sl w Slot.Idle here in
-    (subst (λ k. CoreStands eval st k) (sym same) all, λ terms _ _.
-      subst (λ (k : List (Slot E R S)). Steps terms (clocked (moment_of eval st sl) now) w (Line.Idle w ∷ []) (clocked (moment_of eval st k) now)) (sym same) (inl (told_at terms eval st sl w now Slot.Idle here)));
+      let same : slice_set sl w Slot.Idle ≡ sl = set_same sl w Slot.Idle here in (
+        subst (λ k. CoreStands eval st k) (sym same) all,
+        λ terms _ _.
+            subst (λ (k : List (Slot E R S)). Steps terms (clocked (moment_of eval st sl) now) w (Line.Idle w ∷ []) (clocked (moment_of eval st k) now)) (sym same) (inl (told_at terms eval st sl w now Slot.Idle here)),
+      );
 }
 
 -- an attempt that begins has one step less before it than its request had
@@ -109,7 +115,7 @@ begin_lowers (Conflicts.Three a b c) = lit< tt
 
 pub begin_advances : {E R S : Type 0} (eval : Eval R) (w now : ℕ) (st : StoreView) (f : FreshView R) (a : ActiveView R) (t : ℕ) → a ≡ record { attempt = record { request = f.request; clashes = clashes_of f.conflicts; snapshot = last st.history; facts = [] }; ready = None } → t ≡ a.attempt.snapshot
     → Advances {E = E} {R = R} {S = S} eval w now st st (Slot.Fresh f) (Slot.Active a) (StepLine.Begun t)
-begin_advances eval w now st f a t is at = rw (at, is) (quiet eval w now st (Slot.Fresh f) _ (StepLine.Begun (last st.history)) (λ c. c) (refl, omega arith) (begin_lowers f.conflicts) (λ terms same limit sl free. refl))
+begin_advances eval w now st f a t is at = rw (at, is) (quiet eval w now st (Slot.Fresh f) _ (StepLine.Begun (last st.history)) (λ c. c) (refl, omega arith) (begin_lowers f.conflicts) refl (λ terms same limit sl free. refl))
 
 asked : {R : Type 0} (terms : Terms R) (eval : Eval R) (m : Moment R) (w : ℕ) (a : Attempt R) (o : Outcome) → terms.eval ≡ eval → comes_to eval a ≡ o → from_asking terms m w a (terms.eval (look a.facts) a.request) ≡ from_asking terms m w a o
 asked terms eval m w a o same e = ap (from_asking terms m w a) (ap (λ k. k (look a.facts) a.request) same ∙ e)
@@ -123,16 +129,16 @@ fetch_advances eval w now st a b ask stands e is few =
     let one : length (learned st.history a.attempt ask).facts ≡ length a.attempt.facts + 1 = length-append a.attempt.facts _ in
     let short : length (learned st.history a.attempt ask).facts ≤ most_asks = rw is at few in
     rw is (quiet eval w now st (Slot.Active a) _ (StepLine.Fetched ask) (λ c. c) (refl, stands.1)
-      (fetch_lowers (further_steps (length a.attempt.clashes)) (length a.attempt.facts) (length (learned st.history a.attempt ask).facts) one short)
-      (λ terms same limit sl free. asked terms eval _ w a.attempt (Outcome.Need ask) same e))
+    (fetch_lowers (further_steps (length a.attempt.clashes)) (length a.attempt.facts) (length (learned st.history a.attempt ask).facts) one short) (omega (arith, one))
+    (λ terms same limit sl free. asked terms eval _ w a.attempt (Outcome.Need ask) same e))
 
 pub read_advances : {E R S : Type 0} (eval : Eval R) (w now : ℕ) (st : StoreView) (a : ActiveView R) (x : Reply) (t : ℕ) → comes_to eval a.attempt ≡ Outcome.Answer x → t ≡ a.attempt.snapshot
     → Advances {E = E} {R = R} {S = S} eval w now st st (Slot.Active a) Slot.Idle (StepLine.Read x t)
-read_advances eval w now st a x t e at = rw at (quiet eval w now st (Slot.Active a) Slot.Idle (StepLine.Read x a.attempt.snapshot) (λ c. c) tt (omega arith) (λ terms same limit sl free. asked terms eval _ w a.attempt (Outcome.Answer x) same e))
+read_advances eval w now st a x t e at = rw at (quiet eval w now st (Slot.Active a) Slot.Idle (StepLine.Read x a.attempt.snapshot) (λ c. c) tt (omega arith) (omega arith) (λ terms same limit sl free. asked terms eval _ w a.attempt (Outcome.Answer x) same e))
 
 computed_lowers : (k m : ℕ) → k + 2 < k + m + 3
 computed_lowers k m = omega arith
 
 pub computed_advances : {E R S : Type 0} (eval : Eval R) (w now : ℕ) (st : StoreView) (a b : ActiveView R) (x : Reply) (d : Draft) → comes_to eval a.attempt ≡ Outcome.Change x d → b ≡ record { attempt = a.attempt; ready = Some (x, d) }
     → Advances {E = E} {R = R} {S = S} eval w now st st (Slot.Active a) (Slot.Computed b) StepLine.Computed
-computed_advances eval w now st a b x d e is = rw is (quiet eval w now st (Slot.Active a) _ StepLine.Computed (λ c. c) (x, d, refl, e) (computed_lowers (further_steps (length a.attempt.clashes)) (most_asks - length a.attempt.facts)) (λ terms same limit sl free. asked terms eval _ w a.attempt (Outcome.Change x d) same e))
+computed_advances eval w now st a b x d e is = rw is (quiet eval w now st (Slot.Active a) _ StepLine.Computed (λ c. c) (x, d, refl, e) (computed_lowers (further_steps (length a.attempt.clashes)) (most_asks - length a.attempt.facts)) (omega arith) (λ terms same limit sl free. asked terms eval _ w a.attempt (Outcome.Change x d) same e))

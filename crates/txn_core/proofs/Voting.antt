@@ -1,8 +1,8 @@
 -- The arms of a worker whose change is ready: what the store's ruling says is what the table says.
-use Rattle.std.proofs.Common.{◌≡◌, ◌≢◌, ℕ, ◌+◌, ◌-◌, ◌*◌, ◌<◌, ◌≤◌, ◌==◌, ◌&&◌, ◌⊎◌, Bool, true, false, cond, List, [], ◌∷◌, ◌++◌, Option, Some, None, refl, sym, ap, ◌∙◌, subst, inl, inr, map, length, slice_get, slice_set, arith, eqb-true, nat_lt, lit<}
-use Rattle.std.proofs.lemmas.Bool.Decides.{eqb_tells, nat_tests}
+use Rattle.std.proofs.Common.{◌≡◌, ◌≢◌, ℕ, ◌+◌, ◌-◌, ◌*◌, ◌<◌, ◌≤◌, ◌==◌, ◌&&◌, Bool, true, false, cond, List, [], ◌∷◌, ◌++◌, Option, Some, None, refl, sym, ap, ◌∙◌, subst, inl, inr, map, length, slice_get, slice_set, arith, eqb-true, nat_lt, lit<}
+use Rattle.std.proofs.lemmas.Bool.Decides.{nat_tests}
 use Rattle.std.proofs.lemmas.List.{length-set, length-append}
-use Rattle.zbase.specs.History.{History, Transaction, added}
+use Rattle.zbase.specs.History.{added}
 use Rattle.zbase.specs.HistoryLaws.{last_after-append}
 use Rattle.zbase.specs.Values.{last, next}
 use Rattle.zbase.specs.declared.ids.Clash.{Clash}
@@ -17,22 +17,22 @@ use Rattle.evaluator.specs.Exec.{Eval, most_asks}
 use Rattle.evaluator.specs.Facts.{look}
 use Rattle.evaluator.specs.Settle.{settle, size}
 use Rattle.schedule.specs.declared.line.Line.{Line}
-use Rattle.schedule.specs.Moments.{Terms, Attempt, Doing, Free, Waiting, Asking, Computed, Vote, Moment, doing, turned, holding, stood, clocked}
+use Rattle.schedule.specs.Moments.{Terms, Attempt, Doing, Free, Waiting, Vote, Moment, doing, turned, holding, clocked}
 use Rattle.schedule.specs.Causes.{shown_lines, conflict_reply, tids_reply, oids_reply, full_reply}
-use Rattle.schedule.specs.Stepping.{Told, told, max_u64, need, ended, vote_tid, from_doing, from_computed, validated, votes, conflicts, commits, Wants_memory, has_request, held_by, fails, troubled, Steps, first_clash}
+use Rattle.schedule.specs.Stepping.{Told, max_u64, need, ended, vote_tid, from_doing, from_computed, validated, votes, conflicts, commits, Wants_memory, has_request, held_by, Steps, first_clash}
 use Rattle.fs_store.specs.declared.refusal.VoteRefusal.{VoteRefusal}
 use Rattle.fs_store.specs.Stores.{IsDraft, StoreView, Out, voting, finished}
-use Rattle.fs_store.specs.Verdicts.{voted_out, validation, spent, tid_at}
+use Rattle.fs_store.specs.Verdicts.{voted_out, validation, spent}
 use Rattle.connection.specs.States.{FreshView, ActiveView, PendingView, clashes_of}
 use Rattle.connection.specs.Turns.{comes_to}
 use Rattle.connection.specs.Votes.{readied, ruling, ruling_of, IsVoted}
 use Rattle.txn_core.specs.declared.slot.Slot.{Slot}
 use Rattle.txn_core.specs.declared.step_line.Spent.{Spent}
 use Rattle.txn_core.specs.declared.step_line.StepLine.{StepLine}
-use Rattle.txn_core.specs.Counting.{Lowers, attempt_steps, further_steps, left_of}
-use Rattle.txn_core.specs.StepLines.{latest, latest_of, step_lines}
+use Rattle.txn_core.specs.Counting.{attempt_steps, further_steps, left_of}
+use Rattle.txn_core.specs.StepLines.{latest_of, step_lines}
 use Rattle.txn_core.specs.Slots.{draft_of, computed_of, doing_of, reply_at, vote_of, moment_of, ChangeStands, ComputedStands, PendingStands, SlotStands, CoreStands, Advances}
-use Rattle.txn_core.proofs.Lists.{get_map, map_set, set_same, get_set, get_set_same, set_other}
+use Rattle.txn_core.proofs.Lists.{get_map, map_set, set_same, get_set, get_set_same}
 use Rattle.txn_core.proofs.QuietArms.{IsPending, HoldsNone, ends_none, holds_none, parts, moment_quiet, told_at, stands_quiet, quiet}
 
 differ : (a b : ℕ) → a ≢ b → (a == b) ≡ false
@@ -71,9 +71,9 @@ votes_by {R} terms st now o ws w a x d limit =
     let r3 : Option VoteRefusal = cond b3 (Some (VoteRefusal.Full (need m d) st.limit)) None in
     let r2 : Option VoteRefusal = cond b2 (Some (VoteRefusal.OidsSpent (next st.history - 1) (made d))) r3 in
     ap full limit
-      ∙ ap (λ k. cond b1 (f (Some VoteRefusal.TidsSpent)) (cond b2 (f (Some (VoteRefusal.OidsSpent (next st.history - 1) (made d)))) k)) (cond_through f b3 (Some (VoteRefusal.Full (need m d) st.limit)) None)
-      ∙ ap (λ k. cond b1 (f (Some VoteRefusal.TidsSpent)) k) (cond_through f b2 (Some (VoteRefusal.OidsSpent (next st.history - 1) (made d))) r3)
-      ∙ cond_through f b1 (Some VoteRefusal.TidsSpent) r2
+    ∙ ap (λ k. cond b1 (f (Some VoteRefusal.TidsSpent)) (cond b2 (f (Some (VoteRefusal.OidsSpent (next st.history - 1) (made d)))) k)) (cond_through f b3 (Some (VoteRefusal.Full (need m d) st.limit)) None)
+    ∙ ap (λ k. cond b1 (f (Some VoteRefusal.TidsSpent)) k) (cond_through f b2 (Some (VoteRefusal.OidsSpent (next st.history - 1) (made d))) r3)
+    ∙ cond_through f b1 (Some VoteRefusal.TidsSpent) r2
 
 -- The store's ruling on an attempt is what the table does with it.
 pub table_by_ruling : {E R S : Type 0} (terms : Terms R) (st : StoreView) (sl : List (Slot E R S)) (now : ℕ) (ws : List (Doing R)) (w : ℕ) (a : Attempt R) (x : Reply) (d : Draft) → terms.limit ≡ st.limit → HoldsNone st w
@@ -82,9 +82,11 @@ table_by_ruling {E} {R} {S} terms st sl now ws w a x d limit not = go st.out (λ
   where
     m : Moment R
     m = parts st now (vote_of sl st.out) ws
+
     free : (c : Option Clash) → validated terms (parts st now (vote_of sl st.out) ws) w a x d c ≡ by_ruling terms (parts st now (vote_of sl st.out) ws) w a x d (validation st d c)
     free (Some c) = refl
     free None = votes_by terms st now (vote_of sl st.out) ws w a x d limit
+
     go : (out : Option Out) → ((o : Out) → out ≡ Some o → o.holder ≢ w) → from_computed terms (parts st now (vote_of sl st.out) ws) w a x d (vote_of sl out) ≡ by_ruling terms (parts st now (vote_of sl st.out) ws) w a x d (ruling_of out st (first_clash st.history a.facts) d)
     go None n = free (first_clash st.history a.facts)
     go (Some o) n = rw (differ o.holder w (n o refl)) refl
@@ -94,7 +96,7 @@ tells : {E R S : Type 0} (eval : Eval R) (terms : Terms R) (st : StoreView) (sl 
     → from_doing terms (clocked (moment_of eval st sl) now) w (Some (computed_of a.attempt a.ready)) ≡ by_ruling terms (clocked (moment_of eval st sl) now) w a.attempt x d r
 tells {E} {R} {S} eval terms st sl w now a x d r ready limit not e =
     ap (λ k. from_doing terms (clocked (moment_of eval st sl) now) w (Some (computed_of a.attempt k))) ready
-      ∙ table_by_ruling terms st sl now (map (doing_of eval) sl) w a.attempt x d limit not ∙ ap (by_ruling terms (clocked (moment_of eval st sl) now) w a.attempt x d) e
+    ∙ table_by_ruling terms st sl now (map (doing_of eval) sl) w a.attempt x d limit not ∙ ap (by_ruling terms (clocked (moment_of eval st sl) now) w a.attempt x d) e
 
 -- the same attempt, with what is known to be ready
 same_active : {R : Type 0} (a b : ActiveView R) (x : Reply) (d : Draft) → a.ready ≡ Some (x, d) → b ≡ readied a.attempt x d → b ≡ a
@@ -117,22 +119,25 @@ busy_advances {E} {R} {S} eval w now st a b x d v ready is r = rw (same_active a
   limit = refl;
   lowers = refl;
   ends = tt;
+  paces = tt;
   moves = λ sl here all.
-    let same : slice_set sl w (Slot.Computed a) ≡ sl = set_same sl w (Slot.Computed a) here in
-    (subst (λ k. CoreStands eval st k) (sym same) all, λ terms _ limit.
-      subst (λ (k : List (Slot E R S)). Steps terms (clocked (moment_of eval st sl) now) w (Line.Busy w v ∷ []) (clocked (moment_of eval st k) now)) (sym same)
-        (inl (told_at terms eval st sl w now (Slot.Computed a) here ∙ tells eval terms st sl w now a x d (Some (VoteRefusal.Busy v)) ready limit (holds_none eval st sl w (Slot.Computed a) all here (λ c. c)) r)));
+      let same : slice_set sl w (Slot.Computed a) ≡ sl = set_same sl w (Slot.Computed a) here in (
+        subst (λ k. CoreStands eval st k) (sym same) all,
+        λ terms _ limit.
+            subst (λ (k : List (Slot E R S)). Steps terms (clocked (moment_of eval st sl) now) w (Line.Busy w v ∷ []) (clocked (moment_of eval st k) now)) (sym same)
+            (inl (told_at terms eval st sl w now (Slot.Computed a) here ∙ tells eval terms st sl w now a x d (Some (VoteRefusal.Busy v)) ready limit (holds_none eval st sl w (Slot.Computed a) all here (λ c. c)) r)),
+      );
 })
 
 pub conflict_advances : {E R S : Type 0} (eval : Eval R) (w now : ℕ) (st : StoreView) (a : ActiveView R) (f : FreshView R) (x : Reply) (d : Draft) (c : Clash) → a.ready ≡ Some (x, d) → ruling st a.attempt d ≡ Some (VoteRefusal.Conflict c)
     → length a.attempt.clashes < 3 → f.request ≡ a.attempt.request → clashes_of f.conflicts ≡ a.attempt.clashes ++ c ∷ [] → Advances {E = E} {R = R} {S = S} eval w now st st (Slot.Computed a) (Slot.Fresh f) (StepLine.Conflict c)
 conflict_advances {E} {R} {S} eval w now st a f x d c ready r few q cs =
     let one : length (clashes_of f.conflicts) ≡ length a.attempt.clashes + 1 = ap length cs ∙ length-append a.attempt.clashes (c ∷ []) in
-    quiet eval w now st (Slot.Computed a) (Slot.Fresh f) (StepLine.Conflict c) (λ k. k) tt (conflict_lowers (length a.attempt.clashes) (length (clashes_of f.conflicts)) one few) (λ terms same limit sl free.
-      let m = clocked (moment_of eval st sl) now in
-      let short : nat_lt (length a.attempt.clashes) 3 ≡ true = grind (arith, nat_tests, few) in
-      tells eval terms st sl w now a x d (Some (VoteRefusal.Conflict c)) ready limit free r ∙ rw short (ap (λ k. (let t : Told R = (Line.Conflict w c ∷ [], turned m w (Waiting k (a.attempt.clashes ++ c ∷ []))) in t)) (sym q)
-        ∙ ap (λ k. (let t : Told R = (Line.Conflict w c ∷ [], turned m w (Waiting f.request k)) in t)) (sym cs)))
+    quiet eval w now st (Slot.Computed a) (Slot.Fresh f) (StepLine.Conflict c) (λ k. k) tt (conflict_lowers (length a.attempt.clashes) (length (clashes_of f.conflicts)) one few) tt (λ terms same limit sl free.
+    let m = clocked (moment_of eval st sl) now in
+    let short : nat_lt (length a.attempt.clashes) 3 ≡ true = grind (arith, nat_tests, few) in
+    tells eval terms st sl w now a x d (Some (VoteRefusal.Conflict c)) ready limit free r ∙ rw short (ap (λ k. (let t : Told R = (Line.Conflict w c ∷ [], turned m w (Waiting k (a.attempt.clashes ++ c ∷ []))) in t)) (sym q)
+    ∙ ap (λ k. (let t : Told R = (Line.Conflict w c ∷ [], turned m w (Waiting f.request k)) in t)) (sym cs)))
 
 latest_behind : (d : Clash) (cs : List Clash) (c : Clash) → latest_of d (cs ++ c ∷ []) ≡ c
 latest_behind d [] c = refl
@@ -140,7 +145,7 @@ latest_behind d (e ∷ cs) c = latest_behind e cs c
 
 pub given_up_advances : {E R S : Type 0} (eval : Eval R) (w now : ℕ) (st : StoreView) (a : ActiveView R) (x : Reply) (d : Draft) (cs : List Clash) (c : Clash) → a.ready ≡ Some (x, d) → ruling st a.attempt d ≡ Some (VoteRefusal.Conflict c)
     → length a.attempt.clashes ≡ 3 → cs ≡ a.attempt.clashes ++ c ∷ [] → Advances {E = E} {R = R} {S = S} eval w now st st (Slot.Computed a) Slot.Idle (StepLine.GivenUp cs)
-given_up_advances {E} {R} {S} eval w now st a x d cs c ready r three is = rw is (quiet eval w now st (Slot.Computed a) Slot.Idle (StepLine.GivenUp (a.attempt.clashes ++ c ∷ [])) (λ k. k) tt (ends_lower (further_steps (length a.attempt.clashes))) (λ terms same limit sl free.
+given_up_advances {E} {R} {S} eval w now st a x d cs c ready r three is = rw is (quiet eval w now st (Slot.Computed a) Slot.Idle (StepLine.GivenUp (a.attempt.clashes ++ c ∷ [])) (λ k. k) tt (ends_lower (further_steps (length a.attempt.clashes))) tt (λ terms same limit sl free.
     let m = clocked (moment_of eval st sl) now in
     let long : nat_lt (length a.attempt.clashes) 3 ≡ false = grind (arith, nat_tests, three) in
     let tell : Clash → Told R = (λ k. ended terms m w (Line.Conflict w k ∷ Line.GivenUp w (a.attempt.clashes ++ c ∷ []) ∷ []) (conflict_reply k.oid)) in
@@ -148,15 +153,15 @@ given_up_advances {E} {R} {S} eval w now st a x d cs c ready r three is = rw is 
 
 pub tids_advances : {E R S : Type 0} (eval : Eval R) (w now : ℕ) (st : StoreView) (a : ActiveView R) (x : Reply) (d : Draft) → a.ready ≡ Some (x, d) → ruling st a.attempt d ≡ Some VoteRefusal.TidsSpent
     → Advances {E = E} {R = R} {S = S} eval w now st st (Slot.Computed a) Slot.Idle (StepLine.Spent Spent.Tids)
-tids_advances eval w now st a x d ready r = quiet eval w now st (Slot.Computed a) Slot.Idle (StepLine.Spent Spent.Tids) (λ k. k) tt (ends_lower (further_steps (length a.attempt.clashes))) (λ terms same limit sl free. tells eval terms st sl w now a x d (Some VoteRefusal.TidsSpent) ready limit free r)
+tids_advances eval w now st a x d ready r = quiet eval w now st (Slot.Computed a) Slot.Idle (StepLine.Spent Spent.Tids) (λ k. k) tt (ends_lower (further_steps (length a.attempt.clashes))) tt (λ terms same limit sl free. tells eval terms st sl w now a x d (Some VoteRefusal.TidsSpent) ready limit free r)
 
 pub oids_advances : {E R S : Type 0} (eval : Eval R) (w now : ℕ) (st : StoreView) (a : ActiveView R) (x : Reply) (d : Draft) (o n : ℕ) → a.ready ≡ Some (x, d) → ruling st a.attempt d ≡ Some (VoteRefusal.OidsSpent o n)
     → Advances {E = E} {R = R} {S = S} eval w now st st (Slot.Computed a) Slot.Idle (StepLine.Spent (Spent.Oids o n))
-oids_advances eval w now st a x d o n ready r = quiet eval w now st (Slot.Computed a) Slot.Idle (StepLine.Spent (Spent.Oids o n)) (λ k. k) tt (ends_lower (further_steps (length a.attempt.clashes))) (λ terms same limit sl free. tells eval terms st sl w now a x d (Some (VoteRefusal.OidsSpent o n)) ready limit free r)
+oids_advances eval w now st a x d o n ready r = quiet eval w now st (Slot.Computed a) Slot.Idle (StepLine.Spent (Spent.Oids o n)) (λ k. k) tt (ends_lower (further_steps (length a.attempt.clashes))) tt (λ terms same limit sl free. tells eval terms st sl w now a x d (Some (VoteRefusal.OidsSpent o n)) ready limit free r)
 
 pub full_advances : {E R S : Type 0} (eval : Eval R) (w now : ℕ) (st : StoreView) (a : ActiveView R) (x : Reply) (d : Draft) (n l : ℕ) → a.ready ≡ Some (x, d) → ruling st a.attempt d ≡ Some (VoteRefusal.Full n l)
     → Advances {E = E} {R = R} {S = S} eval w now st st (Slot.Computed a) Slot.Idle (StepLine.Spent (Spent.Full n l))
-full_advances eval w now st a x d n l ready r = quiet eval w now st (Slot.Computed a) Slot.Idle (StepLine.Spent (Spent.Full n l)) (λ k. k) tt (ends_lower (further_steps (length a.attempt.clashes))) (λ terms same limit sl free. tells eval terms st sl w now a x d (Some (VoteRefusal.Full n l)) ready limit free r)
+full_advances eval w now st a x d n l ready r = quiet eval w now st (Slot.Computed a) Slot.Idle (StepLine.Spent (Spent.Full n l)) (λ k. k) tt (ends_lower (further_steps (length a.attempt.clashes))) tt (λ terms same limit sl free. tells eval terms st sl w now a x d (Some (VoteRefusal.Full n l)) ready limit free r)
 
 held_none : {E R S : Type 0} (sl : List (Slot E R S)) (w : ℕ) (out : Option Out) → ((o : Out) → out ≡ Some o → o.holder ≢ w) → held_by w (vote_of sl out) ≡ None
 held_none sl w None n = refl
@@ -169,12 +174,15 @@ memory_advances {E} {R} {S} eval w now st slot not busy some = record {
   limit = refl;
   lowers = some;
   ends = ends_none slot Slot.Idle not;
+  paces = tt;
   moves = λ sl here all.
-    let free = holds_none eval st sl w slot all here not in
-    (stands_quiet eval st sl w Slot.Idle all free tt, λ terms same limit.
-      let tell : Moment R → Option (Told R) = (λ m. Some (step_lines terms.answer w StepLine.Memory, m)) in
-      let asks : has_request (doing (clocked (moment_of eval st sl) now) w) ≡ true = ap has_request (get_map (doing_of eval) sl w slot here) ∙ busy in
-      inr (Wants_memory, rw (asks, held_none sl w st.out free) (ap tell (moment_quiet eval st sl w now Slot.Idle free))));
+      let free = holds_none eval st sl w slot all here not in (
+        stands_quiet eval st sl w Slot.Idle all free tt,
+        λ terms same limit.
+            let tell : Moment R → Option (Told R) = (λ m. Some (step_lines terms.answer w StepLine.Memory, m)) in
+            let asks : has_request (doing (clocked (moment_of eval st sl) now) w) ≡ true = ap has_request (get_map (doing_of eval) sl w slot here) ∙ busy in
+            inr (Wants_memory, rw (asks, held_none sl w st.out free) (ap tell (moment_quiet eval st sl w now Slot.Idle free))),
+      );
 }
 
 no_out : (out : Option Out) (st : StoreView) (c : Option Clash) (d : Draft) → ruling_of out st c d ≡ None → out ≡ None
@@ -207,22 +215,25 @@ voted_advances {E} {R} {S} eval w now old new a x d p t ready change v at =
       limit = refl;
       lowers = vote_lowers (further_steps (length a.attempt.clashes));
       ends = tt;
-      moves = λ sl here all.
-        (record {
+      paces = rw v.attempt (omega arith);
+      moves = λ sl here all. (
+        record {
           count = length-set sl w (Slot.Pending p) ∙ all.count;
           each = λ k s e. elim (get_set sl w k (Slot.Pending p) s e) [
             | inl q ↦ rw (q.0, q.1) ((o, refl, refl, refl), (d, rw (v.attempt, v.reply) change))
             | inr q ↦ slot_free eval old (voting old (Some o)) k s (omega arith) (none_pending eval old k s (all.each k s q.1) (empty k)) (all.each k s q.1)
           ];
           voter = λ u e. let same : o ≡ u = cc in (p, rw (← same) (get_set_same sl w (Slot.Pending p) (Slot.Computed a) here));
-        }, λ terms _ limit.
-        let ws = map (doing_of eval) sl in
-        let is : doing_of {E = E} {R = R} {S = S} eval (Slot.Pending p) ≡ doing_of {E = E} {R = R} {S = S} eval (Slot.Computed a) = rw (v.attempt, v.reply, change, ready) refl in
-        let workers : map (doing_of eval) (slice_set sl w (Slot.Pending p)) ≡ ws = map_set (doing_of eval) sl w (Slot.Pending p) ∙ ap (slice_set ws w) is ∙ set_same ws w (doing_of {E = E} {R = R} {S = S} eval (Slot.Computed a)) (get_map (doing_of eval) sl w (Slot.Computed a) here) in
-        let reply : reply_at (slice_get (slice_set sl w (Slot.Pending p)) w) ≡ x = ap reply_at (get_set_same sl w (Slot.Pending p) (Slot.Computed a) here) ∙ v.reply in
-        let made : ℕ → Reply → List (Doing R) → Told R = (λ k y us. (Line.Vote w k ∷ [], parts old now (Some (record { holder = w; reply = y; transaction = settle old.history d k; size = size d })) us)) in
-        inl (told_at terms eval old sl w now (Slot.Computed a) here ∙ tells eval terms old sl w now a x d None ready limit (holds_none eval old sl w (Slot.Computed a) all here (λ c. c)) v.free
-          ∙ ap (λ k. made k x ws) (sym v.tid) ∙ ap (λ y. made p.tid y ws) (sym reply) ∙ ap (made p.tid (reply_at (slice_get (slice_set sl w (Slot.Pending p)) w))) (sym workers)));
+        },
+        λ terms _ limit.
+            let ws = map (doing_of eval) sl in
+            let is : doing_of {E = E} {R = R} {S = S} eval (Slot.Pending p) ≡ doing_of {E = E} {R = R} {S = S} eval (Slot.Computed a) = rw (v.attempt, v.reply, change, ready) refl in
+            let workers : map (doing_of eval) (slice_set sl w (Slot.Pending p)) ≡ ws = map_set (doing_of eval) sl w (Slot.Pending p) ∙ ap (slice_set ws w) is ∙ set_same ws w (doing_of {E = E} {R = R} {S = S} eval (Slot.Computed a)) (get_map (doing_of eval) sl w (Slot.Computed a) here) in
+            let reply : reply_at (slice_get (slice_set sl w (Slot.Pending p)) w) ≡ x = ap reply_at (get_set_same sl w (Slot.Pending p) (Slot.Computed a) here) ∙ v.reply in
+            let made : ℕ → Reply → List (Doing R) → Told R = (λ k y us. (Line.Vote w k ∷ [], parts old now (Some (record { holder = w; reply = y; transaction = settle old.history d k; size = size d })) us)) in
+            inl (told_at terms eval old sl w now (Slot.Computed a) here ∙ tells eval terms old sl w now a x d None ready limit (holds_none eval old sl w (Slot.Computed a) all here (λ c. c)) v.free
+            ∙ ap (λ k. made k x ws) (sym v.tid) ∙ ap (λ y. made p.tid y ws) (sym reply) ∙ ap (made p.tid (reply_at (slice_get (slice_set sl w (Slot.Pending p)) w))) (sym workers)),
+      );
     })
 
 pub commit_advances : {E R S : Type 0} (eval : Eval R) (w now : ℕ) (old new : StoreView) (p : PendingView R) (x : Reply) (t : ℕ) → PendingStands old w p → ((o : Out) → old.out ≡ Some o → last old.history < o.transaction.tid) → new ≡ finished old old.out → x ≡ p.reply → t ≡ p.tid
@@ -236,30 +247,33 @@ commit_advances {E} {R} {S} eval w now old new p x t stands later is reply at =
       limit = refl;
       lowers = lit< tt;
       ends = refl;
-      moves = λ sl here all.
-        (record {
+      paces = omega arith;
+      moves = λ sl here all. (
+        record {
           count = length-set sl w Slot.Idle ∙ all.count;
           each = λ k s e. elim (get_set sl w k Slot.Idle s e) [
             | inl q ↦ rw (q.0, q.1) tt
             | inr q ↦ slot_free eval old (finished old (Some o)) k s grows (none_pending eval old k s (all.each k s q.1) (λ u f g. q.0 (let same : Some u ≡ Some o = sym f ∙ stands.1 in let same_out : u ≡ o = cc in sym g ∙ ap (λ (z : Out). z.holder) same_out ∙ stands.2))) (all.each k s q.1)
           ];
           voter = λ u e. absurd cc;
-        }, λ terms _ limit.
-        let ws = map (doing_of eval) sl in
-        let m = parts old now (vote_of sl old.out) ws in
-        let d : Draft = draft_of (comes_to eval p.attempt) in
-        let v : ℕ → Reply → Vote = (λ h y. record { holder = h; reply = y; transaction = o.transaction; size = o.size }) in
-        let replied : reply_at (slice_get sl o.holder) ≡ p.reply = ap (λ k. reply_at (slice_get sl k)) stands.2 ∙ ap reply_at here in
-        let chosen : from_computed terms m w p.attempt p.reply d (vote_of sl (Some o)) ≡ commits terms m w (v o.holder (reply_at (slice_get sl o.holder))) = rw (equal o.holder w stands.2) refl in
-        let told_of : ℕ → Reply → List (Doing R) → Told R = (λ k y us. (Line.ReplyCommit w k (terms.answer y (Mark.Commit k)) ∷ shown_lines w y, parts (finished old (Some o)) now None us)) in
-        inl (told_at terms eval old sl w now (Slot.Pending p) here ∙ ap (λ out. from_computed terms m w p.attempt p.reply d (vote_of sl out)) stands.1 ∙ chosen
-          ∙ ap (λ y. told_of o.transaction.tid y (slice_set ws w Free)) replied ∙ ap (λ k. told_of k p.reply (slice_set ws w Free)) stands.3 ∙ ap (told_of p.tid p.reply) (sym (map_set (doing_of eval) sl w Slot.Idle))));
+        },
+        λ terms _ limit.
+            let ws = map (doing_of eval) sl in
+            let m = parts old now (vote_of sl old.out) ws in
+            let d : Draft = draft_of (comes_to eval p.attempt) in
+            let v : ℕ → Reply → Vote = (λ h y. record { holder = h; reply = y; transaction = o.transaction; size = o.size }) in
+            let replied : reply_at (slice_get sl o.holder) ≡ p.reply = ap (λ k. reply_at (slice_get sl k)) stands.2 ∙ ap reply_at here in
+            let chosen : from_computed terms m w p.attempt p.reply d (vote_of sl (Some o)) ≡ commits terms m w (v o.holder (reply_at (slice_get sl o.holder))) = rw (equal o.holder w stands.2) refl in
+            let told_of : ℕ → Reply → List (Doing R) → Told R = (λ k y us. (Line.ReplyCommit w k (terms.answer y (Mark.Commit k)) ∷ shown_lines w y, parts (finished old (Some o)) now None us)) in
+            inl (told_at terms eval old sl w now (Slot.Pending p) here ∙ ap (λ out. from_computed terms m w p.attempt p.reply d (vote_of sl out)) stands.1 ∙ chosen
+            ∙ ap (λ y. told_of o.transaction.tid y (slice_set ws w Free)) replied ∙ ap (λ k. told_of k p.reply (slice_set ws w Free)) stands.3 ∙ ap (told_of p.tid p.reply) (sym (map_set (doing_of eval) sl w Slot.Idle))),
+      );
     })
 
 -- the outcome that was found
 abbrev IsReady : {R : Type 0} → Eval R → Attempt R → Option (Reply × Draft) → Type 0
 IsReady eval a None = Unit {0}
-IsReady eval a (Some (x , d)) = comes_to eval a ≡ Outcome.Change x d
+IsReady eval a (Some (x, d)) = comes_to eval a ≡ Outcome.Change x d
 
 pub ready_change : {R : Type 0} (eval : Eval R) (a : ActiveView R) (x : Reply) (d : Draft) → a.ready ≡ Some (x, d) → ComputedStands eval a → comes_to eval a.attempt ≡ Outcome.Change x d
 ready_change eval a x d ready s = subst (IsReady eval a.attempt) (sym s.2 ∙ ready) s.3

@@ -1,5 +1,5 @@
 -- What a core is seen as, and the moment at which it is.
-use Rattle.std.specs.Prelude.{ℕ, ◌≡◌, Bool, true, false, List, Option, Some, None, map, replicate, slice_get}
+use Rattle.std.specs.Prelude.{ℕ, ◌≡◌, Bool, true, false, List, Some, None, map, replicate, slice_get}
 use Rattle.evaluator.specs.Exec.{Eval}
 use Rattle.schedule.specs.Moments.{Moment, Free}
 use Rattle.fs_store.specs.Stores.{StoreView}

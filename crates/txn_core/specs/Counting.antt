@@ -1,5 +1,6 @@
 -- How many steps of a worker may be left, at most: a number that its steps lower.
-use Rattle.std.specs.Prelude.{ℕ, ◌≡◌, ◌+◌, ◌-◌, ◌*◌, ◌<◌, List, length, Option, Some, None, slice_get}
+use Rattle.std.specs.Prelude.{ℕ, ◌≡◌, ◌+◌, ◌-◌, ◌*◌, ◌<◌, List, [], length, Option, Some, None, slice_get}
+use Rattle.evaluator.specs.declared.fact.Fact.{Fact}
 use Rattle.evaluator.specs.Exec.{most_asks}
 use Rattle.connection.specs.States.{clashes_of}
 use Rattle.txn_core.specs.declared.slot.Slot.{Slot}
@@ -33,6 +34,33 @@ abbrev pub Lowers : StepLine → ℕ → ℕ → Type 0
 Lowers StepLine.Idle old new = new ≡ old
 Lowers (StepLine.Busy v) old new = new ≡ old
 Lowers _ old new = new < old
+
+-- the facts that a slot's attempt has fetched
+abbrev pub facts_of : {E R S : Type 0} → Slot E R S → List Fact
+facts_of Slot.Idle = []
+facts_of (Slot.Fresh f) = []
+facts_of (Slot.Active a) = a.attempt.facts
+facts_of (Slot.Computed a) = a.attempt.facts
+facts_of (Slot.Pending p) = p.attempt.facts
+
+-- how many steps an attempt has had: it began, fetched each of its facts, computed its change, and voted
+abbrev pub steps_of : {E R S : Type 0} → Slot E R S → ℕ
+steps_of Slot.Idle = 0
+steps_of (Slot.Fresh f) = 0
+steps_of (Slot.Active a) = 1 + length a.attempt.facts
+steps_of (Slot.Computed a) = 2 + length a.attempt.facts
+steps_of (Slot.Pending p) = 3 + length p.attempt.facts
+
+-- Each step of an attempt is one more of these. So an answer comes in the second step beside those that fetched its
+-- facts, and a commit in the fourth.
+abbrev pub Paces : {E R S : Type 0} → StepLine → Slot E R S → Slot E R S → Type 0
+Paces (StepLine.Begun t) old new = steps_of new ≡ 1
+Paces (StepLine.Fetched ask) old new = steps_of new ≡ steps_of old + 1
+Paces StepLine.Computed old new = steps_of new ≡ steps_of old + 1
+Paces (StepLine.Voted t) old new = steps_of new ≡ steps_of old + 1
+Paces (StepLine.Read x t) old new = steps_of old + 1 ≡ length (facts_of old) + 2
+Paces (StepLine.Commit x t) old new = steps_of old + 1 ≡ length (facts_of old) + 4
+Paces _ old new = Unit {0}
 
 -- where the worker has voted, this step ends its request
 abbrev pub EndsVote : {E R S : Type 0} → Slot E R S → Slot E R S → Type 0

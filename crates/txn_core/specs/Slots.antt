@@ -9,11 +9,11 @@ use Rattle.evaluator.specs.Exec.{Eval}
 use Rattle.schedule.specs.Moments.{Terms, Attempt, Doing, Free, Waiting, Asking, Computed, Vote, Moment, clocked}
 use Rattle.schedule.specs.Stepping.{Steps}
 use Rattle.fs_store.specs.Stores.{IsVoteOf, Out, StoreView, voting}
-use Rattle.connection.specs.States.{ActiveView, FreshView, PendingView, clashes_of}
+use Rattle.connection.specs.States.{ActiveView, PendingView, clashes_of}
 use Rattle.connection.specs.Turns.{comes_to}
 use Rattle.txn_core.specs.declared.slot.Slot.{Slot}
 use Rattle.txn_core.specs.declared.step_line.StepLine.{StepLine}
-use Rattle.txn_core.specs.Counting.{EndsVote, Lowers, left_of}
+use Rattle.txn_core.specs.Counting.{EndsVote, Lowers, Paces, left_of}
 use Rattle.txn_core.specs.StepLines.{step_lines}
 
 abbrev pub no_draft : Draft
@@ -30,7 +30,7 @@ draft_of (Outcome.Change x d) = d
 
 abbrev pub computed_of : {R : Type 0} → Attempt R → Option (Reply × Draft) → Doing R
 computed_of a None = Asking a
-computed_of a (Some (x , d)) = Computed a x d
+computed_of a (Some (x, d)) = Computed a x d
 
 -- what a slot's worker is doing; a change that has voted is the one that its facts give
 abbrev pub doing_of : {E R S : Type 0} → Eval R → Slot E R S → Doing R
@@ -94,10 +94,11 @@ pub record Advances {E R S : Type 0} (eval : Eval R) (w now : ℕ) (old new : St
   pub limit : new.limit ≡ old.limit
   pub lowers : Lowers line (left_of slot) (left_of next)
   pub ends : EndsVote slot next
+  pub paces : Paces line slot next
   pub moves : (sl : List (Slot E R S)) → slice_get sl w ≡ Some slot → CoreStands eval old sl
       → CoreStands eval new (slice_set sl w next)
       × ((terms : Terms R) → terms.eval ≡ eval → terms.limit ≡ old.limit
-          → Steps terms (clocked (moment_of eval old sl) now) w (step_lines terms.answer w line) (clocked (moment_of eval new (slice_set sl w next)) now))
+      → Steps terms (clocked (moment_of eval old sl) now) w (step_lines terms.answer w line) (clocked (moment_of eval new (slice_set sl w next)) now))
 
 -- a slot can be ended: what it has voted for is the store's vote
 abbrev pub CanEnd : {E R S : Type 0} → StoreView → Slot E R S → Type 0

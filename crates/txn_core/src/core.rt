@@ -4,7 +4,7 @@ ghost use Rattle.schedule.specs.Moments.{Terms};
 ghost use Rattle.schedule.specs.declared.item.Item2.{Item2};
 ghost use Rattle.fs_store.specs.Stores.{voting};
 ghost use Rattle.connection.specs.States.{PendingView};
-ghost use Rattle.txn_core.specs.Counting.{Lowers, left};
+ghost use Rattle.txn_core.specs.Counting.{Lowers, Paces, left};
 ghost use Rattle.txn_core.specs.StepLines.{IsAnswered, step_lines};
 ghost use Rattle.txn_core.specs.declared.slot.Slot.{Slot};
 
@@ -129,7 +129,8 @@ impl<D: Disk + Drop, E: Evaluator> Core<D, E> {
     /// doing.
     ///
     /// Each step but one that answers `Idle` or `Busy` lowers the worker's number `left`, and no other number is
-    /// changed.
+    /// changed. An answer comes in the second step of its attempt beside those that fetch its facts, a commit in the
+    /// fourth.
     pub fn step(&mut self, worker: u32, now: Tid) -> StepLine
         requires { worker < 16 }
         ensures step { (terms : Terms E.Request) → terms.eval ≡ E.meaning → terms.limit ≡ self.old.store.limit →
@@ -137,6 +138,7 @@ impl<D: Disk + Drop, E: Evaluator> Core<D, E> {
         ensures limit { self.new.store.limit ≡ self.old.store.limit }
         ensures answered { IsAnswered result }
         ensures left { Lowers result (left self.old.slots worker) (left self.new.slots worker) }
+        ensures paces { (old new : Slot E E.Request E.State) → slice_get self.old.slots worker ≡ Some old → slice_get self.new.slots worker ≡ Some new → Paces result old new }
         ensures ends { (p : PendingView E.Request) → slice_get self.old.slots worker ≡ Some (Slot.Pending p) → IsIdle self.new worker }
         ensures others { (v : ℕ) → v ≢ worker → slice_get self.new.slots v ≡ slice_get self.old.slots v }
     {

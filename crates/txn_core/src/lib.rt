@@ -12,8 +12,6 @@ mod core;
 mod refusal;
 mod slot;
 mod step_line;
-#[cfg(test)]
-mod tests;
 
 pub use core::Core;
 pub use refusal::GiveRefusal;

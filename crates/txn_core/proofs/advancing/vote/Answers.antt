@@ -1,4 +1,4 @@
-use Rattle.std.proofs.Common.{refl, length}
+use Rattle.std.proofs.Common.{length}
 use Rattle.connection.specs.States.{ActiveView}
 use Rattle.txn_core.specs.Counting.{further_steps}
 use Rattle.txn_core.specs.declared.slot.Slot.{Slot}

@@ -1,4 +1,4 @@
-use Rattle.std.proofs.Common.{◌≡◌, List, None, ◌∷◌, [], ◌++◌, ap, ◌∙◌, subst}
+use Rattle.std.proofs.Common.{List, None, ap, ◌∙◌, subst}
 use Rattle.fs_store.specs.Stores.{StoreView, voting}
 use Rattle.txn_core.specs.declared.slot.Slot.{Slot}
 use Rattle.txn_core.specs.Slots.{Closing}
@@ -12,6 +12,6 @@ end_slot-requires g c = can_end {E = g.row.E.Denot} {R = g.row.E-Request.Denot} 
 pub loop-slot-preserved : goal.loop-slot-preserved
 loop-slot-preserved g c = record {
   left = rw c.end_slot.ensures (closing_popped {E = g.row.E.Denot} {R = g.row.E-Request.Denot} {S = g.row.E-State.Denot} c.loop-slot.store c.pop.new.self.items c.in-Some.slot
-    (subst (λ (k : List (Slot g.row.E.Denot g.row.E-Request.Denot g.row.E-State.Denot)). Closing c.loop-slot.store k) c.in-Some.ensures.items c.loop-slot.invariant.left));
+      (subst (λ (k : List (Slot g.row.E.Denot g.row.E-Request.Denot g.row.E-State.Denot)). Closing c.loop-slot.store k) c.in-Some.ensures.items c.loop-slot.invariant.left));
   same = ap (λ (s : StoreView). voting s None) c.end_slot.ensures ∙ same_end {E = g.row.E.Denot} {R = g.row.E-Request.Denot} {S = g.row.E-State.Denot} c.loop-slot.store c.in-Some.slot ∙ c.loop-slot.invariant.same;
 }

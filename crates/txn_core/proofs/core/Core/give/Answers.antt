@@ -1,4 +1,4 @@
-use Rattle.std.proofs.Common.{◌≡◌, Some, sym, ap, ◌∙◌, slice_get, refl}
+use Rattle.std.proofs.Common.{◌≡◌, Some, sym, ◌∙◌, slice_get, refl}
 use Rattle.txn_core.specs.declared.slot.Slot.{Slot}
 use Rattle.txn_core.proofs.Lists.{read_here, set_other}
 use Rattle.txn_core.proofs.Cores.{given_stands, given_follows, some_same}
