@@ -2,7 +2,7 @@ use Rattle.std.proofs.Common.{◌≡◌, Some, sym, ◌∙◌, slice_get, refl}
 use Rattle.txn_core.specs.declared.slot.Slot.{Slot}
 use Rattle.txn_core.proofs.Lists.{read_here, set_other}
 use Rattle.txn_core.proofs.Cores.{given_stands, given_follows, some_same}
-use Rattle.txn_core.proofs.core.Core.give.Goals as goal
+use Rattle.txn_core.proofs.workers.Core.give.Goals as goal
 
 pub invariant_of-self : goal.invariant_of-self
 invariant_of-self g c =

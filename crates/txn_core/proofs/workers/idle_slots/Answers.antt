@@ -2,7 +2,7 @@ use Rattle.std.proofs.Common.{◌≡◌, arith, refl}
 use Rattle.txn_core.specs.declared.slot.Slot.TheVariants.{Idle}
 use Rattle.std.proofs.lemmas.Grind.{common_steps}
 use Rattle.std.proofs.lemmas.List.Elements.{All-push}
-use Rattle.txn_core.proofs.core.idle_slots.Goals as goal
+use Rattle.txn_core.proofs.workers.idle_slots.Goals as goal
 
 pub loop-preserved : goal.loop-preserved
 loop-preserved g c = record {

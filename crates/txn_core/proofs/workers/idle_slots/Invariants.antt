@@ -1,6 +1,6 @@
 use Rattle.std.proofs.Common.{◌≡◌, ◌≤◌, All, vec_len, vec_capacity}
 use Rattle.txn_core.specs.declared.slot.Slot.TheVariants.{Idle}
-use Rattle.txn_core.proofs.core.idle_slots.Given as goal
+use Rattle.txn_core.proofs.workers.idle_slots.Given as goal
 
 abbrev pub invariant-loop : goal.invariant-loop
 invariant-loop g l = record {

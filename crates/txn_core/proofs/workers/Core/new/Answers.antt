@@ -1,5 +1,5 @@
 use Rattle.txn_core.proofs.Endings.{core_idle, all_idle}
-use Rattle.txn_core.proofs.core.Core.new.Goals as goal
+use Rattle.txn_core.proofs.workers.Core.new.Goals as goal
 
 pub invariant_of-result : goal.invariant_of-result
 invariant_of-result g c = core_idle g.E.Evaluator.meaning c.args.store c.in-Ok.slots.items c.in-Ok.ensures.count c.in-Ok.ensures.idle c.requires

@@ -2,7 +2,7 @@ use Rattle.std.proofs.Common.{◌≡◌, Some, sym, slice_get}
 use Rattle.std.proofs.lemmas.Option.{slice_get_read}
 use Rattle.txn_core.proofs.Lists.{set_other, set_twice}
 use Rattle.txn_core.proofs.Cores.{step_ends, step_follows, step_lowers, step_paces}
-use Rattle.txn_core.proofs.core.Core.step.Goals as goal
+use Rattle.txn_core.proofs.workers.Core.step.Goals as goal
 
 pub invariant_of-self : goal.invariant_of-self
 invariant_of-self g c =
