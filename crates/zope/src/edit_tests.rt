@@ -1,7 +1,7 @@
 //! Edits over a file that is built by hand from the tables of the formats.
 use crate::Status;
 use crate::page_tests::{GET_A, HELLO, from_hex};
-use crate::tests::{NONE, Start, ran};
+use crate::tests::{NONE, Start, WORDS, ran};
 use std::alloc::Global;
 use std::test::Fail;
 use zbase::Memory;
@@ -31,17 +31,12 @@ fn computed(alloc: Global, worker: u32, snapshot: &str) -> Result<String, Memory
     )?)
 }
 
-/// Whether a replay of these lines over the file, with these words behind its name, ends well and prints this report,
-/// from its second line on.
-fn reports(alloc: Global, more: &[&str], lines: &str, report: &str) -> Result<bool, Memory> {
+/// Whether these words replay these lines over the file, end well and print this report, from its second line on.
+fn reports(alloc: Global, words: &[&str], lines: &str, report: &str) -> Result<bool, Memory> {
     let file = from_hex(alloc, HELLO)?;
     let input = format!(in alloc; "zope schedule 1\n{lines}")?;
-    let mut words = Vec::from_slice(alloc, &["replay", "empty.fs"])?;
-    for word in more {
-        words.push(*word)?;
-    }
     let start = Start {
-        words: words.as_slice(),
+        words,
         file: file.as_slice(),
         input: input.as_str(),
         failing: NONE,
@@ -69,7 +64,7 @@ fn an_edit_is_the_page_from_then_on(rt: HostRuntime) -> Result<(), Fail> {
     let report = format!(in alloc;
         "open 0331620000000000 1\n{before}vote 0 0331620000000001\n{reply}begin 0 0331620000000001\nfetch 0 object 0000000000000000\nfetch 0 object 0000000000000001\nreply 0 read 0331620000000001 137\nHTTP/1.1 200 OK\r\nContent-Type: text/html; charset=utf-8\r\nContent-Length: 2\r\nX-Transaction: read 0331620000000001\r\nConnection: close\r\n\r\nhi\nshown 0 0000000000000001 Anonymous\nhistory 2\n{FIRST}transaction 0331620000000001 {EDITED}end\n"
     )?;
-    assert!(rt; reports(alloc, &[], lines.as_str(), report.as_str())?);
+    assert!(rt; reports(alloc, WORDS, lines.as_str(), report.as_str())?);
     Ok(())
 }
 
@@ -89,7 +84,7 @@ fn a_clock_gives_the_transaction_its_id(rt: HostRuntime) -> Result<(), Fail> {
             "open 0331620000000000 1\n{before}vote 3 {tid}\n{reply}history 2\n{FIRST}transaction {tid} {EDITED}end\n"
         )?;
         assert!(rt;
-            reports(alloc, &[], lines.as_str(), report.as_str())?,
+            reports(alloc, WORDS, lines.as_str(), report.as_str())?,
             "{stamp}"
         );
     }
@@ -106,12 +101,26 @@ fn an_edit_that_passes_the_limit_is_spent(rt: HostRuntime) -> Result<(), Fail> {
     let missed = format!(in alloc;
         "open 0331620000000000 1\n{before}spent 0 full 299 298\nreply 0 none 154\nHTTP/1.1 503 Service Unavailable\r\nContent-Type: text/plain; charset=utf-8\r\nContent-Length: 17\r\nX-Transaction: none\r\nConnection: close\r\n\r\nfull: 299 of 298\n\nidle 0\nhistory 1\n{FIRST}end\n"
     )?;
-    assert!(rt; reports(alloc, &["--limit", "298"], lines.as_str(), missed.as_str())?);
+    assert!(rt;
+        reports(
+            alloc,
+            &["replay", "empty.fs", "--limit", "298"],
+            lines.as_str(),
+            missed.as_str()
+        )?
+    );
     let reply = committed(alloc, 0, "0331620000000001")?;
     let met = format!(in alloc;
         "open 0331620000000000 1\n{before}vote 0 0331620000000001\n{reply}history 2\n{FIRST}transaction 0331620000000001 {EDITED}end\n"
     )?;
-    assert!(rt; reports(alloc, &["--limit", "0299"], lines.as_str(), met.as_str())?);
+    assert!(rt;
+        reports(
+            alloc,
+            &["replay", "empty.fs", "--limit", "0299"],
+            lines.as_str(),
+            met.as_str()
+        )?
+    );
     Ok(())
 }
 
@@ -126,7 +135,7 @@ fn a_vote_that_is_out_keeps_others_waiting(rt: HostRuntime) -> Result<(), Fail> 
     let report = format!(in alloc;
         "open 0331620000000000 1\n{first}{second}vote 0 0331620000000001\nbusy 1 0\nlost 0\nlost 1\nhistory 1\n{FIRST}end\n"
     )?;
-    assert!(rt; reports(alloc, &[], lines.as_str(), report.as_str())?);
+    assert!(rt; reports(alloc, WORDS, lines.as_str(), report.as_str())?);
     Ok(())
 }
 
@@ -144,6 +153,6 @@ fn of_two_edits_at_once_the_second_begins_anew(rt: HostRuntime) -> Result<(), Fa
     let report = format!(in alloc;
         "open 0331620000000000 1\n{first}{second}vote 0 0331620000000001\n{one}conflict 1 0000000000000001 0331620000000000 0331620000000001\n{again}vote 1 0331620000000002\n{two}history 3\n{FIRST}transaction 0331620000000001 {EDITED}transaction 0331620000000002 {EDITED}end\n"
     )?;
-    assert!(rt; reports(alloc, &[], lines.as_str(), report.as_str())?);
+    assert!(rt; reports(alloc, WORDS, lines.as_str(), report.as_str())?);
     Ok(())
 }
