@@ -26,7 +26,7 @@ not_idle core w count beyond idle = omega (arith, slice_get_within core.slots w 
 
 computed_taken : {R : Type 0} (a : Attempt R) (ready : Option (Reply × Draft)) → computed_of a ready ≡ Free → ⊥
 computed_taken a None e = cc
-computed_taken a (Some (x , d)) e = cc
+computed_taken a (Some (x, d)) e = cc
 
 free_slot : {E R S : Type 0} (eval : Eval R) (s : Slot E R S) → doing_of eval s ≡ Free → s ≡ Slot.Idle
 free_slot eval Slot.Idle e = refl

@@ -49,11 +49,7 @@ fn place(lines: &mut BTreeMap<u64, Line>, worker: u32, one: &Shown) -> Result<()
 }
 
 // The lines of the objects that a reply shows, by rising id.
-fn lines_by_oid(
-    alloc: Global,
-    worker: u32,
-    shown: &[Shown],
-) -> Result<BTreeMap<u64, Line>, Memory>
+fn lines_by_oid(alloc: Global, worker: u32, shown: &[Shown]) -> Result<BTreeMap<u64, Line>, Memory>
     requires distinct { AllPairs (λ a b. a.oid ≢ b.oid) shown.now }
     ensures { IfOk result (λ lines. lines.entries ≡ map (entry_of worker) (by_oid shown.now)) }
 {

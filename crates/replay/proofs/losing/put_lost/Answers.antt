@@ -11,7 +11,10 @@ loop-worker-preserved g c =
     let i = c.loop-worker.worker in
     let more = mark_lines (lost_mark (i, (get_or c.args.taken.now i false))) in
     record {
-      printed = (so.0 ++ more, one_mark c.args.taken.now i i (get_or c.args.taken.now i false) so.0 _ c.loop-worker-test.true refl refl so.1,
-        prints_then _ _ _ so.0 more so.2 c.in_ok-put_mark.ensures.ok);
+      printed = (
+        so.0 ++ more,
+        one_mark c.args.taken.now i i (get_or c.args.taken.now i false) so.0 _ c.loop-worker-test.true refl refl so.1,
+        prints_then _ _ _ so.0 more so.2 c.in_ok-put_mark.ensures.ok,
+      );
       counts = counts_then c.loop-worker.invariant.counts (λ none. none) (counts_as c.in_ok-put_mark.ensures.counts (λ e. cc) (λ none. absurd none));
     }

@@ -11,4 +11,4 @@ returns-clause-ok g c =
     let first = Line.Conflict w c.latest-last.result in
     let second = Line.GivenUp w c.args.clashes.now in
     rw (← c.latest-last.ensures, ← c.in-Ok.ensures.reply)
-      (prints_then_ok c.put_none.result _ _ _ (first ∷ second ∷ []) (Line.ReplyNone w (answer c.in-Ok.reply Mark.Empty) ∷ []) (prints_then _ _ _ (first ∷ []) (second ∷ []) c.in_ok-put_line.ensures.ok c.in_ok-put_line-2.ensures.ok) c.put_none.ensures.ok)
+    (prints_then_ok c.put_none.result _ _ _ (first ∷ second ∷ []) (Line.ReplyNone w (answer c.in-Ok.reply Mark.Empty) ∷ []) (prints_then _ _ _ (first ∷ []) (second ∷ []) c.in_ok-put_line.ensures.ok c.in_ok-put_line-2.ensures.ok) c.put_none.ensures.ok)

@@ -12,8 +12,11 @@ pub loop-entry-preserved : goal.loop-entry-preserved
 loop-entry-preserved g c =
     let so = c.loop-entry.invariant.printed in
     record {
-      printed = (so.0 ++ c.in-Some.entry.1.now ∷ [], one_line_more so.0 c.loop-entry.entry-iterator c.next.new.self _ (c.in-Some.entry.0.now, c.in-Some.entry.1.now) so.1 c.in-Some.ensures.steps,
-        prints_then _ _ _ so.0 (c.in-Some.entry.1.now ∷ []) so.2 c.in_ok-put_line.ensures.ok);
+      printed = (
+        so.0 ++ c.in-Some.entry.1.now ∷ [],
+        one_line_more so.0 c.loop-entry.entry-iterator c.next.new.self _ (c.in-Some.entry.0.now, c.in-Some.entry.1.now) so.1 c.in-Some.ensures.steps,
+        prints_then _ _ _ so.0 (c.in-Some.entry.1.now ∷ []) so.2 c.in_ok-put_line.ensures.ok,
+      );
       counts = counts_then c.loop-entry.invariant.counts (λ none. none) (counts_as c.in_ok-put_line.ensures.counts (λ e. cc) (λ none. absurd none));
     }
 

@@ -19,8 +19,8 @@ loop-item-init g c =
     let core = c.args.core.now in
     let terms = terms_of g.E.Evaluator.takes g.E.Evaluator.meaning core.store.limit core.store.end in
     let opened : Line.Opened c.last.result c.len.result ≡ Line.Opened (last core.store.history) (length core.store.history.transactions) =
-        ap (λ n. Line.Opened n c.len.result) (c.last.ensures ∙ ap (λ (s : StoreView). last s.history) c.store-2.ensures)
-        ∙ ap (λ n. Line.Opened (last core.store.history) n) (c.len.ensures ∙ ap (λ (s : StoreView). length s.history.transactions) c.store-3.ensures) in
+    ap (λ n. Line.Opened n c.len.result) (c.last.ensures ∙ ap (λ (s : StoreView). last s.history) c.store-2.ensures)
+    ∙ ap (λ n. Line.Opened (last core.store.history) n) (c.len.ensures ∙ ap (λ (s : StoreView). length s.history.transactions) c.store-3.ensures) in
     record {
       limit = refl;
       ran = ([], subst (λ m. RanCalm terms (start terms core.store.history) [] [] m) (sym (rest_starts g.E.Evaluator.takes g.E.Evaluator.meaning core.store.limit core c.requires.rest)) (ran_none terms (start terms core.store.history)), subst (λ line. Prints (g.K.Sink.written c.args.out.now) (g.K.Sink.written c.put_line-2.new.out) (Line.Head ∷ line ∷ [])) opened (prints_then _ _ _ (Line.Head ∷ []) (Line.Opened c.last.result c.len.result ∷ []) c.in_ok-put_line.ensures.ok c.in_ok-put_line-2.ensures.ok));
