@@ -14,6 +14,8 @@ mod fresh;
 mod learning;
 mod pending;
 mod refusal;
+#[cfg(test)]
+mod tests;
 mod turned;
 
 pub use active::Active;
