@@ -12,7 +12,7 @@ pub enum CommitRefusal<E: Evaluator> {
     GivenUp([Clash; 4]),
     /// The last transaction id is taken.
     TidsSpent(Active<E>),
-    /// Fewer object ids are left above this greatest one than there are new objects.
+    /// So many new objects behind this greatest id would take the last id of all, which is never given, or pass it.
     OidsSpent(u64, u32, Active<E>),
     /// The file would need so many bytes, and may have only so many.
     Full(u64, u64, Active<E>),

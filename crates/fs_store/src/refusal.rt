@@ -9,7 +9,8 @@ pub enum VoteRefusal {
     Conflict(Clash),
     /// The last transaction id is taken.
     TidsSpent,
-    /// Fewer object ids are left above the greatest one, given first, than the draft makes new objects.
+    /// Behind the greatest id, given first, so many new objects would take the last id of all, which is never given,
+    /// or pass it.
     OidsSpent(u64, u32),
     /// The file would need so many bytes, given first, and may have only so many.
     Full(u64, u64),

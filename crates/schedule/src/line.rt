@@ -27,7 +27,7 @@ pub enum Line {
     Idle(u32),
     /// `spent W tids`: no transaction id is left.
     SpentTids(u32),
-    /// `spent W oids GREATEST N`: fewer than N object ids are left above the greatest one.
+    /// `spent W oids GREATEST N`: N new objects behind the greatest id would take the last id of all, or pass it.
     SpentOids(u32, Oid, u32),
     /// `spent W full NEED LIMIT`: the file would become longer than the limit.
     SpentFull(u32, u64, u64),

@@ -6,7 +6,7 @@ use zbase::{Clash, Tid};
 pub enum Spent {
     /// The last transaction id is taken.
     Tids,
-    /// Fewer object ids are left above the greatest one than there are new objects.
+    /// The new objects behind the greatest id would take the last id of all, which is never given, or pass it.
     Oids { greatest: u64, new: u32 },
     /// The file would need so many bytes, and may have only `limit`.
     Full { need: u64, limit: u64 },
