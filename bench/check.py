@@ -1,7 +1,8 @@
 #!/usr/bin/env python3
-"""Checks files of 10,000 and of 1,000,000 records beside `sha1sum` of them.
+"""Runs `zope check` over files of 10,000 and of 1,000,000 records beside `sha1sum` of them.
 
-Each object has one record; the ids rise, or come in random order. The check is `fs_scan`'s, in the program `checking/`.
+Each object has one record; the ids rise, or come in random order. The cost of a record is told with the time that
+starting the program takes, and without it.
 """
 
 import argparse
@@ -10,9 +11,11 @@ import random
 import struct
 import subprocess
 import tempfile
-import time
 
-from programs import lines_of, scratch
+from replay import HOME, PROGRAM, timed
+
+# the program itself, without the script that builds it where that is due
+BUILT = HOME / "crates" / "zope" / "out" / "zope"
 
 FIRST = 0x0331620000000000
 
@@ -29,13 +32,26 @@ def write_file(path, oids, size):
             head = struct.pack(">QQ", tid, length) + b" " + struct.pack(">HHH", 0, 0, 0)
             out.write(head + records + struct.pack(">Q", length))
             place += length + 8
-    return path, len(oids), place
+    return place
 
 
-def by_the_clock(command):
-    began = time.perf_counter()
-    subprocess.run(command, check=True, capture_output=True)
-    return time.perf_counter() - began
+def checked(path):
+    """The numbers that a check prints, its seconds, and its greatest memory in bytes."""
+    with tempfile.TemporaryFile() as out:
+        seconds, memory = timed([BUILT, "check", path], out=out)
+        out.seek(0)
+        numbers = dict(line.split() for line in out.read().decode().splitlines())
+    return numbers, seconds, memory
+
+
+def best_check(path, records, end, rounds):
+    """The least seconds of so many checks of a file of these numbers, and the greatest memory."""
+    best, most = 1e9, 0
+    for _ in range(rounds):
+        numbers, seconds, memory = checked(path)
+        assert numbers["objects"] == str(records) and numbers["end"] == str(end) and numbers["torn"] == "0", numbers
+        best, most = min(best, seconds), max(most, memory)
+    return best, most
 
 
 def main():
@@ -45,26 +61,27 @@ def main():
     words.add_argument("--size", type=int, default=158)
     words.add_argument("--rounds", type=int, default=5)
     given = words.parse_args()
+    # builds the program where that is due
+    subprocess.run([PROGRAM, "check", HOME / "demo" / "site.fs"], stdout=subprocess.DEVNULL, check=True)
     with tempfile.TemporaryDirectory() as made:
         made = pathlib.Path(made)
-        (made / "repository").mkdir()
-        program = scratch(made / "repository", "checking", ["fs_scan", "zio"])
-        a_record = {}
+        empty = write_file(made / "empty.fs", [], given.size)
+        started, _ = best_check(made / "empty.fs", 0, empty, 50)
+        print(f"starting the program: {started * 1000:.2f} ms")
         for order in ("rising", "random"):
-            for count in (given.few, given.records):
-                oids = list(range(count))
+            a_record = {}
+            for records, rounds in ((given.few, 20 * given.rounds), (given.records, given.rounds)):
+                oids = list(range(records))
                 if order == "random":
                     random.Random(1).shuffle(oids)
-                path, records, end = write_file(made / f"{order}-{count}.fs", oids, given.size)
-                lines = [line for line in lines_of(program, *[str(path)] * given.rounds) if line[:1] == ["checked"]]
-                assert len(lines) == given.rounds
-                assert all(int(line[2]) == records and int(line[3]) == end for line in lines)
-                seconds = min(int(line[4]) for line in lines) / 1e6
-                digest = min(by_the_clock(["sha1sum", str(path)]) for _ in range(given.rounds))
-                a_record[order, count] = seconds / records
-                print(f"{order} ids, {records} records, {end} bytes: {seconds:.3f} s, sha1sum {digest:.3f} s, ratio {seconds / digest:.2f}")
-            grown = a_record[order, given.records] / a_record[order, given.few]
-            print(f"{order} ids: a record of {given.records} costs {grown:.2f} times one of {given.few}")
+                path = made / f"{order}-{records}.fs"
+                end = write_file(path, oids, given.size)
+                seconds, memory = best_check(path, records, end, rounds)
+                digest = min(timed(["sha1sum", path], out=subprocess.DEVNULL)[0] for _ in range(given.rounds))
+                a_record[records] = (seconds - started) / records, seconds / records
+                print(f"{order} ids, {records} records, {end} bytes: {seconds:.4f} s, sha1sum {digest:.4f} s, ratio {seconds / digest:.2f}, memory {memory / end:.2f} times the file")
+            (few, few_run), (many, many_run) = a_record[given.few], a_record[given.records]
+            print(f"{order} ids: a record of {given.records} costs {many / few:.2f} times one of {given.few}; with the start of the program {many_run / few_run:.2f} times")
 
 
 main()

@@ -77,9 +77,10 @@ impl<D: Disk + Drop, E: Evaluator> Core<D, E> {
         }
     }
 
-    /// There are sixteen workers.
+    /// There are sixteen workers, and one has no step left exactly where it has no request.
     pub fn is_sound(&self)
         ensures workers { length self.now.slots ≡ 16 }
+        ensures idle { (worker : ℕ) → worker < 16 → left self.now.slots worker ≡ 0 ↔ IsIdle self.now worker }
     {
         let _alloc = self.alloc;
     }

@@ -1,15 +1,22 @@
 -- What a file is refused for, from what its reading was.
-use Rattle.std.proofs.Common.{◌≡◌, ℕ, ◌<◌, List, ◌++◌, length, drop, Option, None, Some, Result, Ok, Err, refl, sym, ap, subst, ◌∙◌}
-use Rattle.std.specs.Prelude.{IfErr, IfSome, IsErrOf}
+use Rattle.std.proofs.Common.{◌≡◌, ℕ, ◌<◌, ◌≤◌, List, ◌++◌, length, drop, Option, None, Some, Result, Ok, Err, refl, sym, ap, subst, ◌∙◌, arith}
+use Rattle.std.specs.Prelude.{IfErr, IfOk, IfSome, IsErrOf}
 use Rattle.std.specs.Option.{option_map}
 use Rattle.zdisk.specs.Disk.{Told, content, synced}
 use Rattle.zio.specs.Shelves.{Entry, file_at}
+use Rattle.fs_record.specs.declared.damage.Damage.{Damage}
+use Rattle.fs_record.specs.declared.damage.Damage.TheVariants.{BadMagic}
 use Rattle.fs_record.specs.File.{Front, magic}
+use Rattle.fs_record.specs.Opening.{Damaged}
 use Rattle.fs_scan.specs.Plain.{IsPlainFile}
 use Rattle.zope.specs.declared.refusal.FileRefusal.{FileRefusal}
 use Rattle.zope.specs.declared.refusal.Refusal.{Refusal}
-use Rattle.zope.specs.Causes.{FileCause, IsLength, IsOfReading, IsPresent, of_file}
-use Rattle.zope.specs.Given.{Stored, most_file}
+use Rattle.fs_store.specs.Stores.{most_length}
+use Rattle.fs_scan.specs.declared.opening.ScanRefusal.{ScanRefusal}
+use Rattle.zope.specs.CheckCauses.{IsOfScan, ScanCause, of_scan}
+use Rattle.zope.specs.Given.{IfKept, Stored, most_file}
+use Rattle.zope.specs.ReplayCauses.{FileCause, IsOfReading, of_file}
+use Rattle.zope.specs.Shelved.{IsLength, IsMissing, IsPresent}
 
 -- the length of a disk is that of the file which it was opened over
 pub is_length : (files : Option (List Entry)) (name : List ℕ) (told : Option Told) (n : ℕ) → IfSome files (λ all. told ≡ option_map synced (file_at all name)) → IfSome files (λ all. file_at all name ≡ None → ⊥) → IfSome told (λ t. n ≡ length (content t)) → IsLength files name n
@@ -24,7 +31,7 @@ is_length (Some all) name told n found there long = go (file_at all name) refl
         ap (option_map length) e ∙ ap (λ (k : ℕ). Some k) (sym counted)
 
 pub unread : {T : Type 0} (files : Option (List Entry)) (name : List ℕ) (failed : Type 0) (r : FileRefusal)
-    → (IsErrOf {T = T} (Err r) FileRefusal.Missing → IfSome files (λ all. file_at all name ≡ None))
+    → (IsErrOf {T = T} (Err r) FileRefusal.Missing → IsMissing files name)
     → ((n : ℕ) → IsErrOf {T = T} (Err r) (FileRefusal.TooLarge n) → (most_file < n) × IsLength files name n)
     → (IsErrOf {T = T} (Err r) FileRefusal.Disk → failed) → (IsErrOf {T = T} (Err r) FileRefusal.Disk → IsPresent files name) → FileCause files name failed (of_file r)
 unread files name failed FileRefusal.Missing missing long disk there = missing refl
@@ -33,11 +40,11 @@ unread files name failed FileRefusal.Disk missing long disk there = (disk refl, 
 unread files name failed FileRefusal.Memory missing long disk there = tt
 
 pub unopened : {T : Type 0} (files : Option (List Entry)) (name bytes : List ℕ) (failed : Type 0) (r : Result T Refusal) → Stored files name bytes
-    → (IsErrOf r Refusal.Damaged → (more : List ℕ) → bytes ≡ magic ++ more → ⊥)
+    → ((kind : Damage) (place : ℕ) → IsErrOf r (Refusal.Damaged kind place) → (more : List ℕ) → bytes ≡ magic ++ more → ⊥)
     → (IsErrOf r Refusal.NotYet → (bytes ≡ magic ++ drop 4 bytes) × ((front : Front) → IsPlainFile bytes front → ⊥))
     → IfErr r IsOfReading → IfErr r (FileCause files name failed)
 unopened files name bytes failed (Ok x) stored damaged not_yet others = tt
-unopened files name bytes failed (Err Refusal.Damaged) stored damaged not_yet others = (bytes, stored, damaged refl)
+unopened files name bytes failed (Err (Refusal.Damaged kind place)) stored damaged not_yet others = (bytes, stored, others.0, others.1, damaged kind place refl)
 unopened files name bytes failed (Err Refusal.NotYet) stored damaged not_yet others = (bytes, stored, (not_yet refl).0, (not_yet refl).1)
 unopened files name bytes failed (Err Refusal.Memory) stored damaged not_yet others = tt
 unopened files name bytes failed (Err Refusal.Usage) stored damaged not_yet others = absurd others
@@ -48,3 +55,53 @@ unopened files name bytes failed (Err Refusal.Output) stored damaged not_yet oth
 unopened files name bytes failed (Err Refusal.Missing) stored damaged not_yet others = absurd others
 unopened files name bytes failed (Err Refusal.InputTooLarge) stored damaged not_yet others = absurd others
 unopened files name bytes failed (Err (Refusal.FileTooLarge n)) stored damaged not_yet others = absurd others
+unopened files name bytes failed (Err (Refusal.TooLong n)) stored damaged not_yet others = absurd others
+
+-- what holds of the bytes of a disk holds of the file which it was opened over
+pub kept : (files : Option (List Entry)) (name : List ℕ) (told : Option Told) (P : List ℕ → Type 0) → IfSome files (λ all. told ≡ option_map synced (file_at all name)) → IfSome files (λ all. file_at all name ≡ None → ⊥) → IfSome told (λ t. (length (content t) ≤ most_length) × P (content t)) → IfKept files name P
+kept None name told P found there holds = tt
+kept (Some all) name told P found there holds = go (file_at all name) refl
+  where
+    go : (f : Option (List ℕ)) → file_at all name ≡ f → IfKept (Some all) name P
+    go None e = absurd (there e)
+    go (Some bytes) e =
+        let same : told ≡ Some (synced bytes) = found ∙ ap (option_map synced) e in
+        let read : (length bytes ≤ most_length) × P bytes = subst (λ (t : Option Told). IfSome t (λ u. (length (content u) ≤ most_length) × P (content u))) same holds in
+        (bytes, e, read.0, read.1)
+
+pub kept_numbers : {T E : Type 0} (files : Option (List Entry)) (name : List ℕ) (told : Option Told) (P : T → List ℕ → Type 0) (r : Result T E) → IfSome files (λ all. told ≡ option_map synced (file_at all name)) → IfSome files (λ all. file_at all name ≡ None → ⊥)
+    → IfOk r (λ x. IfSome told (λ t. (length (content t) ≤ most_length) × P x (content t))) → IfOk r (λ x. IfKept files name (P x))
+kept_numbers files name told P (Ok x) found there holds = kept files name told (P x) found there holds
+kept_numbers files name told P (Err e) found there holds = tt
+
+pub unscanned : {T : Type 0} (files : Option (List Entry)) (name : List ℕ) (failed : Type 0) (r : Refusal) → (IsErrOf {T = T} (Err r) Refusal.Missing → IsMissing files name)
+    → ((kind : Damage) (place : ℕ) → IsErrOf {T = T} (Err r) (Refusal.Damaged kind place) → IfKept files name (λ bytes. Damaged bytes place kind))
+    → ((n : ℕ) → IsErrOf {T = T} (Err r) (Refusal.TooLong n) → (most_length < n) × IsLength files name n)
+    → (IsErrOf {T = T} (Err r) Refusal.Disk → failed) → (IsErrOf {T = T} (Err r) Refusal.Disk → IsPresent files name) → IsOfScan r → ScanCause files name failed r
+unscanned files name failed Refusal.Missing missing damaged long disk there others = missing refl
+unscanned files name failed (Refusal.Damaged kind place) missing damaged long disk there others = damaged kind place refl
+unscanned files name failed (Refusal.TooLong n) missing damaged long disk there others = long n refl
+unscanned files name failed Refusal.Disk missing damaged long disk there others = (disk refl, there refl)
+unscanned files name failed Refusal.Memory missing damaged long disk there others = tt
+unscanned files name failed Refusal.NotYet missing damaged long disk there others = absurd others
+unscanned files name failed Refusal.Usage missing damaged long disk there others = absurd others
+unscanned files name failed (Refusal.BadLine n) missing damaged long disk there others = absurd others
+unscanned files name failed Refusal.Input missing damaged long disk there others = absurd others
+unscanned files name failed Refusal.Output missing damaged long disk there others = absurd others
+unscanned files name failed Refusal.InputTooLarge missing damaged long disk there others = absurd others
+unscanned files name failed (Refusal.FileTooLarge n) missing damaged long disk there others = absurd others
+
+-- the damage that a scan of the disk's bytes met is the command's
+pub damaged_told : {T U : Type 0} (told : Option Told) (r : ScanRefusal) (result : Result U Refusal) → result ≡ Err (of_scan r) → IfSome told (λ t. length (content t) ≤ most_length) → ((kind : Damage) (place : ℕ) → IsErrOf {T = T} (Err r) (ScanRefusal.Damaged kind place) → IfSome told (λ t. Damaged (content t) place kind))
+    → (kind : Damage) (place : ℕ) → IsErrOf result (Refusal.Damaged kind place) → IfSome told (λ t. (length (content t) ≤ most_length) × Damaged (content t) place kind)
+damaged_told None r result same short scanned kind place is = tt
+damaged_told (Some t) (ScanRefusal.Damaged k p) result same short scanned kind place is =
+    let both : k ≡ kind = cc in
+    let places : p ≡ place = cc in
+    (short, subst (λ (n : ℕ). Damaged (content t) n kind) places (subst (λ (d : Damage). Damaged (content t) p d) both (scanned k p refl)))
+damaged_told (Some t) ScanRefusal.Disk result same short scanned kind place is = absurd cc
+damaged_told (Some t) ScanRefusal.Memory result same short scanned kind place is = absurd cc
+
+pub short_enough : (told : Option Told) (n : ℕ) → (most_length < n → ⊥) → IfSome told (λ t. n ≡ length (content t)) → IfSome told (λ t. length (content t) ≤ most_length)
+short_enough None n le is = tt
+short_enough (Some t) n le is = subst (λ (k : ℕ). k ≤ most_length) is (omega (arith, le))

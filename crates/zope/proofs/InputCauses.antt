@@ -3,8 +3,8 @@ use Rattle.std.proofs.Common.{◌≡◌, ℕ, ◌≤◌, List, length, Option, N
 use Rattle.std.specs.Prelude.{IfSome, IsErrOf}
 use Rattle.schedule.specs.declared.reader.ScheduleRefusal.{ScheduleRefusal}
 use Rattle.schedule.specs.BadLines.{IsBadAt}
-use Rattle.zope.specs.Causes.{InputCause, of_schedule}
 use Rattle.zope.specs.Given.{most_input}
+use Rattle.zope.specs.ReplayCauses.{InputCause, of_schedule}
 
 pub unscheduled : {T : Type 0} (input : Option (List ℕ)) (failed : Type 0) (text : List ℕ) (r : ScheduleRefusal) → IfSome input (λ bytes. text ≡ bytes) → length text ≤ most_input
     → ((n : ℕ) → IsErrOf {T = T} (Err r) (ScheduleRefusal.BadLine n) → IsBadAt text n) → InputCause input failed (of_schedule r)

@@ -3,4 +3,5 @@ pub mod LimitWords
 pub mod InputCauses
 pub mod FileCauses
 pub mod LastLines
+pub mod Commands
 pub mod NoCauses

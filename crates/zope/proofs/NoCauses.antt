@@ -1,22 +1,27 @@
--- Where a run meets no cause, it ends well or for want of memory.
+-- Where a command meets no cause, it ends well or for want of memory.
 use Rattle.std.proofs.Common.{◌≡◌, ℕ, ◌≤◌, ◌<◌, List, [], ◌∷◌, ◌++◌, length, Option, None, Some, refl, sym, ap, subst, ◌∙◌, ◌⊎◌, Bool, true, false, nat_lt, arith, inl, inr}
 use Rattle.std.specs.Prelude.{IfSome}
 use Rattle.std.specs.Option.{option_map}
 use Rattle.std.proofs.lemmas.Bool.Decides.{nat_tests}
 use Rattle.zbase.specs.Faults.{Counter, Rose}
 use Rattle.zio.specs.Shelves.{Entry, file_at}
+use Rattle.fs_record.specs.declared.damage.Damage.{Damage}
 use Rattle.fs_record.specs.File.{Front, bytes_of, magic}
+use Rattle.fs_record.specs.Opening.{Cut, Damaged}
 use Rattle.fs_record.specs.Spelling.{Block, block_spelling}
 use Rattle.fs_scan.specs.Plain.{IsPlainFile}
 use Rattle.schedule.specs.declared.item.Item2.{Item2}
 use Rattle.schedule.specs.BadLines.{IsBadAt}
 use Rattle.schedule.specs.Items.{ArmNothing, IsSchedule}
 use Rattle.zope.specs.declared.refusal.Refusal.{Refusal}
-use Rattle.zope.specs.Causes.{Broke, Cause, FileCause, InputCause, IsLength, NoCause, RunCause}
-use Rattle.zope.specs.Given.{most_file, most_input}
-use Rattle.zope.specs.Shelved.{HasFile}
+use Rattle.fs_store.specs.Stores.{most_length}
+use Rattle.zope.specs.Causes.{Cause, NoCause}
+use Rattle.zope.specs.CheckCauses.{CheckCause, NoCheckCause, PrintCause, ScanCause}
+use Rattle.zope.specs.Given.{IfKept, most_file, most_input}
+use Rattle.zope.specs.ReplayCauses.{Broke, FileCause, InputCause, NoReplayCause, ReplayCause, RunCause}
+use Rattle.zope.specs.Shelved.{HasFile, IsLength, IsMissing}
 use Rattle.zope.specs.Stores.{Opens}
-use Rattle.zope.specs.Words.{GivesLimit, IsReplay, IsReplayWith}
+use Rattle.zope.specs.Words.{GivesLimit, IsCheckOf, IsCommand, IsReplayWith}
 
 abbrev pub OneSchedule : Type 0
 OneSchedule = (text : List ℕ) (a b : List Item2) → IsSchedule text a → IsSchedule text b → a ≡ b
@@ -59,11 +64,12 @@ of_input input text failed items given within spells first law calm (Refusal.Bad
     absurd (law text items n spells first bad.1)
 of_input input text failed items given within spells first law calm Refusal.NotYet cause = absurd cause
 of_input input text failed items given within spells first law calm Refusal.Usage cause = absurd cause
-of_input input text failed items given within spells first law calm Refusal.Damaged cause = absurd cause
+of_input input text failed items given within spells first law calm (Refusal.Damaged kind place) cause = absurd cause
 of_input input text failed items given within spells first law calm Refusal.Disk cause = absurd cause
 of_input input text failed items given within spells first law calm Refusal.Output cause = absurd cause
 of_input input text failed items given within spells first law calm Refusal.Missing cause = absurd cause
 of_input input text failed items given within spells first law calm (Refusal.FileTooLarge n) cause = absurd cause
+of_input input text failed items given within spells first law calm (Refusal.TooLong n) cause = absurd cause
 
 has_same : (files : Option (List Entry)) (entries : List Entry) (name a b : List ℕ) → files ≡ Some entries → file_at entries name ≡ Some a → HasFile files name b → a ≡ b
 has_same files entries name a b shelf there has = same_bytes (file_at entries name) a b there (subst (λ f. HasFile f name b) shelf has)
@@ -76,10 +82,10 @@ of_file files entries name bytes front failed shelf there fits plain calm (Refus
     let same : length bytes ≡ n = same_bytes (option_map length (file_at entries name)) (length bytes) n (ap (option_map length) there) long in
     absurd (omega (arith, cause.0, same))
 of_file files entries name bytes front failed shelf there fits plain calm Refusal.Disk cause = absurd (calm cause.0)
-of_file files entries name bytes front failed shelf there fits plain calm Refusal.Damaged cause =
+of_file files entries name bytes front failed shelf there fits plain calm (Refusal.Damaged kind place) cause =
     let same = has_same files entries name bytes cause.0 shelf there cause.1.has in
     let r = begins plain.file.blocks in
-    absurd (cause.2 r.0 (sym same ∙ plain.file.spelled ∙ r.1))
+    absurd (cause.4 r.0 (sym same ∙ plain.file.spelled ∙ r.1))
 of_file files entries name bytes front failed shelf there fits plain calm Refusal.NotYet cause =
     let same = has_same files entries name bytes cause.0 shelf there cause.1.has in
     absurd (cause.3 front (subst (λ (b : List ℕ). IsPlainFile b front) same plain))
@@ -88,6 +94,7 @@ of_file files entries name bytes front failed shelf there fits plain calm (Refus
 of_file files entries name bytes front failed shelf there fits plain calm Refusal.Input cause = absurd cause
 of_file files entries name bytes front failed shelf there fits plain calm Refusal.Output cause = absurd cause
 of_file files entries name bytes front failed shelf there fits plain calm Refusal.InputTooLarge cause = absurd cause
+of_file files entries name bytes front failed shelf there fits plain calm (Refusal.TooLong n) cause = absurd cause
 
 of_run : (broken : ℕ → Type 0) (failed : Type 0) → ((n : ℕ) → broken n → ⊥) → (failed → ⊥) → (e : Refusal) → RunCause broken failed e → e ≡ Refusal.Memory
 of_run broken failed runs calm Refusal.Memory cause = refl
@@ -95,27 +102,88 @@ of_run broken failed runs calm Refusal.Output cause = absurd (calm cause)
 of_run broken failed runs calm (Refusal.BadLine n) cause = absurd (runs n cause)
 of_run broken failed runs calm Refusal.NotYet cause = absurd cause
 of_run broken failed runs calm Refusal.Usage cause = absurd cause
-of_run broken failed runs calm Refusal.Damaged cause = absurd cause
+of_run broken failed runs calm (Refusal.Damaged kind place) cause = absurd cause
 of_run broken failed runs calm Refusal.Disk cause = absurd cause
 of_run broken failed runs calm Refusal.Input cause = absurd cause
 of_run broken failed runs calm Refusal.Missing cause = absurd cause
 of_run broken failed runs calm Refusal.InputTooLarge cause = absurd cause
 of_run broken failed runs calm (Refusal.FileTooLarge n) cause = absurd cause
+of_run broken failed runs calm (Refusal.TooLong n) cause = absurd cause
+
+abbrev pub NotDamaged : Type 0
+NotDamaged = (bytes : List ℕ) (front : Front) (m n : ℕ) (kind : Damage) → Cut bytes front m → Damaged bytes n kind → ⊥
+
+kept_same : (files : Option (List Entry)) (entries : List Entry) (name bytes : List ℕ) (P : List ℕ → Type 0) → files ≡ Some entries → file_at entries name ≡ Some bytes → IfKept files name P → P bytes
+kept_same files entries name bytes P shelf there kept =
+    let held = subst (λ f. IfKept f name P) shelf kept in
+    subst P (sym (same_bytes (file_at entries name) bytes held.0 there held.1)) held.3
+
+of_scan : (files : Option (List Entry)) (entries : List Entry) (name bytes : List ℕ) (front : Front) (end : ℕ) (failed : Type 0) → files ≡ Some entries → file_at entries name ≡ Some bytes → length bytes ≤ most_length → Cut bytes front end → NotDamaged → (failed → ⊥) → (e : Refusal) → ScanCause files name failed e → e ≡ Refusal.Memory
+of_scan files entries name bytes front end failed shelf there fits opens law calm Refusal.Memory cause = refl
+of_scan files entries name bytes front end failed shelf there fits opens law calm Refusal.Missing cause = absurd (not_none (file_at entries name) bytes there (subst (λ f. IsMissing f name) shelf cause))
+of_scan files entries name bytes front end failed shelf there fits opens law calm (Refusal.TooLong n) cause =
+    let long : option_map length (file_at entries name) ≡ Some n = subst (λ f. IsLength f name n) shelf cause.1 in
+    let same : length bytes ≡ n = same_bytes (option_map length (file_at entries name)) (length bytes) n (ap (option_map length) there) long in
+    absurd (omega (arith, cause.0, same))
+of_scan files entries name bytes front end failed shelf there fits opens law calm Refusal.Disk cause = absurd (calm cause.0)
+of_scan files entries name bytes front end failed shelf there fits opens law calm (Refusal.Damaged kind place) cause = absurd (law bytes front end place kind opens (kept_same files entries name bytes (λ b. Damaged b place kind) shelf there cause))
+of_scan files entries name bytes front end failed shelf there fits opens law calm Refusal.NotYet cause = absurd cause
+of_scan files entries name bytes front end failed shelf there fits opens law calm Refusal.Usage cause = absurd cause
+of_scan files entries name bytes front end failed shelf there fits opens law calm (Refusal.BadLine n) cause = absurd cause
+of_scan files entries name bytes front end failed shelf there fits opens law calm Refusal.Input cause = absurd cause
+of_scan files entries name bytes front end failed shelf there fits opens law calm Refusal.Output cause = absurd cause
+of_scan files entries name bytes front end failed shelf there fits opens law calm Refusal.InputTooLarge cause = absurd cause
+of_scan files entries name bytes front end failed shelf there fits opens law calm (Refusal.FileTooLarge n) cause = absurd cause
+
+of_print : (failed : Type 0) (text : List ℕ) (old new : Option (List ℕ)) → (failed → ⊥) → (e : Refusal) → PrintCause failed text old new e → e ≡ Refusal.Memory
+of_print failed text old new calm Refusal.Memory cause = refl
+of_print failed text old new calm Refusal.Output cause = absurd (calm cause.0)
+of_print failed text old new calm Refusal.NotYet cause = absurd cause
+of_print failed text old new calm Refusal.Usage cause = absurd cause
+of_print failed text old new calm (Refusal.Damaged kind place) cause = absurd cause
+of_print failed text old new calm (Refusal.BadLine n) cause = absurd cause
+of_print failed text old new calm Refusal.Disk cause = absurd cause
+of_print failed text old new calm Refusal.Input cause = absurd cause
+of_print failed text old new calm Refusal.Missing cause = absurd cause
+of_print failed text old new calm Refusal.InputTooLarge cause = absurd cause
+of_print failed text old new calm (Refusal.FileTooLarge n) cause = absurd cause
+of_print failed text old new calm (Refusal.TooLong n) cause = absurd cause
 
 -- the sink of the whole run has failed where that of the command has
-pub only_memory : (words : List (List ℕ)) (files : Option (List Entry)) (input : Option (List ℕ)) (source sink more disk : Type 0) (old new : Option (List ℕ)) (e : Refusal) → OneSchedule → NotBoth → (sink → more) → Cause words files input source sink disk old new e → NoCause words files input source more disk → e ≡ Refusal.Memory
-only_memory words files input source sink more disk old new e one both wider (inl usage) meets = absurd (usage.1 (meets.name, (meets.limit, meets.command)))
-only_memory words files input source sink more disk old new e one both wider (inr (inl c)) meets = of_input input meets.text source meets.items meets.given meets.within meets.spells meets.arms_nothing both meets.source_calm e c.1
-only_memory words files input source sink more disk old new e one both wider (inr (inr (inl c))) meets =
-    let named = (same_words words meets.name c.0 meets.limit c.2.0 meets.command c.2.1).0 in
-    of_file files meets.entries c.0 meets.bytes meets.front disk meets.shelf (ap (file_at meets.entries) (sym named) ∙ meets.there) meets.fits meets.plain meets.disk_calm e c.4
-only_memory words files input source sink more disk old new e one both wider (inr (inr (inr c))) meets =
-    let same_command = same_words words meets.name c.0 meets.limit c.1 meets.command c.3 in
-    let spelled : IsSchedule meets.text c.2 = subst (λ i. IfSome i (λ t. IsSchedule t c.2)) meets.given c.4.spells in
-    let same : c.2 ≡ meets.items = one meets.text c.2 meets.items spelled meets.spells in
-    let bytes = has_same files meets.entries c.0 meets.bytes c.5 meets.shelf (ap (file_at meets.entries) (sym same_command.0) ∙ meets.there) c.7.has in
-    let opens : Opens meets.bytes meets.limit c.6 = subst (λ k. Opens meets.bytes k c.6) (sym same_command.1) (subst (λ (b : List ℕ). Opens b c.1 c.6) (sym bytes) c.8) in
-    of_run (Broke c.6 c.2 old new) sink (λ n broke. meets.runs c.6 n old new opens (subst (λ (xs : List Item2). Broke c.6 xs old new n) same broke)) (λ rose. meets.sink_calm (wider rose)) e c.9
+replay_memory : (name : List ℕ) (limit : ℕ) (files : Option (List Entry)) (input : Option (List ℕ)) (source sink more disk : Type 0) (old new : Option (List ℕ)) (e : Refusal) → OneSchedule → NotBoth → (sink → more) → ReplayCause name limit files input source sink disk old new e → NoReplayCause name limit files input source more disk → e ≡ Refusal.Memory
+replay_memory name limit files input source sink more disk old new e one both wider (inl c) meets = of_input input meets.text source meets.items meets.given meets.within meets.spells meets.arms_nothing both meets.source_calm e c.0
+replay_memory name limit files input source sink more disk old new e one both wider (inr (inl c)) meets = of_file files meets.entries name meets.bytes meets.front disk meets.shelf meets.there meets.fits meets.plain meets.disk_calm e c.2
+replay_memory name limit files input source sink more disk old new e one both wider (inr (inr c)) meets =
+    let spelled : IsSchedule meets.text c.0 = subst (λ i. IfSome i (λ t. IsSchedule t c.0)) meets.given c.1.spells in
+    let same : c.0 ≡ meets.items = one meets.text c.0 meets.items spelled meets.spells in
+    let bytes = has_same files meets.entries name meets.bytes c.2 meets.shelf meets.there c.4.has in
+    let opens : Opens meets.bytes limit c.3 = subst (λ (b : List ℕ). Opens b limit c.3) (sym bytes) c.5 in
+    of_run (Broke c.3 c.0 old new) sink (λ n broke. meets.runs c.3 n old new opens (subst (λ (xs : List Item2). Broke c.3 xs old new n) same broke)) (λ rose. meets.sink_calm (wider rose)) e c.6
+
+check_memory : (name : List ℕ) (files : Option (List Entry)) (sink more disk : Type 0) (old new : Option (List ℕ)) (e : Refusal) → NotDamaged → (sink → more) → CheckCause name files sink disk old new e → NoCheckCause name files more disk → e ≡ Refusal.Memory
+check_memory name files sink more disk old new e law wider (inl c) meets = of_scan files meets.entries name meets.bytes meets.front meets.end disk meets.shelf meets.there meets.fits meets.opens law meets.disk_calm e c.0
+check_memory name files sink more disk old new e law wider (inr c) meets = of_print sink _ old new (λ rose. meets.sink_calm (wider rose)) e c.2
+
+-- the words of one command are none of the other
+not_check : (words : List (List ℕ)) (a b : List ℕ) (k : ℕ) → IsReplayWith words a k → IsCheckOf words b → ⊥
+not_check words a b k replays checks = (let both = sym replays.1 ∙ checks in cc)
+
+same_check : (words : List (List ℕ)) (a b : List ℕ) → IsCheckOf words a → IsCheckOf words b → a ≡ b
+same_check words a b p q = (let both = sym p ∙ q in cc)
+
+pub only_memory : (words : List (List ℕ)) (files : Option (List Entry)) (input : Option (List ℕ)) (source sink more disk : Type 0) (old new : Option (List ℕ)) (e : Refusal) → OneSchedule → NotBoth → NotDamaged → (sink → more) → Cause words files input source sink disk old new e → NoCause words files input source more disk → e ≡ Refusal.Memory
+only_memory words files input source sink more disk old new e one both law wider (inl usage) (inl meets) = absurd (usage.1 (inl (meets.0, (meets.1, meets.2))))
+only_memory words files input source sink more disk old new e one both law wider (inl usage) (inr meets) = absurd (usage.1 (inr (meets.0, meets.1)))
+only_memory words files input source sink more disk old new e one both law wider (inr (inl c)) (inr meets) = absurd (not_check words c.0 meets.0 c.1 c.2 meets.1)
+only_memory words files input source sink more disk old new e one both law wider (inr (inr c)) (inl meets) = absurd (not_check words meets.0 c.0 meets.1 meets.2 c.1)
+only_memory words files input source sink more disk old new e one both law wider (inr (inl c)) (inl meets) =
+    let same = same_words words c.0 meets.0 c.1 meets.1 c.2 meets.2 in
+    replay_memory meets.0 meets.1 files input source sink more disk old new e one both wider (subst (λ k. ReplayCause meets.0 k files input source sink disk old new e) same.1 (subst (λ (n : List ℕ). ReplayCause n c.1 files input source sink disk old new e) same.0 c.3)) meets.3
+only_memory words files input source sink more disk old new e one both law wider (inr (inr c)) (inr meets) = check_memory meets.0 files sink more disk old new e law wider (subst (λ (n : List ℕ). CheckCause n files sink disk old new e) (same_check words c.0 meets.0 c.1 meets.1) c.2) meets.2
+
+pub sink_is_calm : (words : List (List ℕ)) (files : Option (List Entry)) (input : Option (List ℕ)) (source sink disk : Type 0) → NoCause words files input source sink disk → sink → ⊥
+sink_is_calm words files input source sink disk (inl meets) = meets.3.sink_calm
+sink_is_calm words files input source sink disk (inr meets) = meets.2.sink_calm
 
 pub rose_after : (a b c : Counter) → b.count ≤ c.count → Rose a b → Rose a c
 rose_after a b c le rose = omega (arith, rose)
@@ -123,12 +191,11 @@ rose_after a b c le rose = omega (arith, rose)
 pub rose_before : (a b c : Counter) → a.count ≤ b.count → Rose b c → Rose a c
 rose_before a b c le rose = omega (arith, rose)
 
--- words that ask for no replay are refused for that alone
-pub only_usage : (words : List (List ℕ)) (files : Option (List Entry)) (input : Option (List ℕ)) (source sink disk : Type 0) (old new : Option (List ℕ)) (e : Refusal) → Cause words files input source sink disk old new e → (IsReplay words → ⊥) → e ≡ Refusal.Usage
+-- words that name no command are refused for that alone
+pub only_usage : (words : List (List ℕ)) (files : Option (List Entry)) (input : Option (List ℕ)) (source sink disk : Type 0) (old new : Option (List ℕ)) (e : Refusal) → Cause words files input source sink disk old new e → (IsCommand words → ⊥) → e ≡ Refusal.Usage
 only_usage words files input source sink disk old new e (inl usage) other = usage.0
-only_usage words files input source sink disk old new e (inr (inl c)) other = absurd (other c.0)
-only_usage words files input source sink disk old new e (inr (inr (inl c))) other = absurd (other (c.0, c.2))
-only_usage words files input source sink disk old new e (inr (inr (inr c))) other = absurd (other (c.0, (c.1, c.3)))
+only_usage words files input source sink disk old new e (inr (inl c)) other = absurd (other (inl (c.0, (c.1, c.2))))
+only_usage words files input source sink disk old new e (inr (inr c)) other = absurd (other (inr (c.0, c.1)))
 
 -- a count that rose did so before or behind any moment between
 pub rose_either : (a b c : ℕ) → a < c → (a < b) ⊎ (b < c)

@@ -1,88 +1,43 @@
--- Why a replay did not end well, and what it wrote before its last line.
---
--- The order of looking is: the words; the input whole, its size, its grammar; the shelf; the file's size; its
--- reading; the run.
-use Rattle.std.specs.Prelude.{◌≡◌, ◌⊎◌, ℕ, ◌≤◌, ◌<◌, List, [], ◌∷◌, ◌++◌, length, drop, IfSome, Option, None, Some, codes, decimal}
+-- What a command did, or why it did not end well, and its last line.
+use Rattle.std.specs.Prelude.{◌≡◌, ◌⊎◌, ℕ, List, [], ◌∷◌, ◌++◌, Option, codes, decimal}
 use Rattle.std.specs.Io.KnownBytes.{append_known}
-use Rattle.std.specs.Option.{option_map}
-use Rattle.zio.specs.Shelves.{Entry, file_at}
-use Rattle.fs_record.specs.File.{Front, magic}
-use Rattle.fs_scan.specs.Plain.{IsPlainFile}
-use Rattle.schedule.specs.declared.item.Item2.{Item2}
-use Rattle.schedule.specs.BadLines.{IsBadAt}
-use Rattle.schedule.specs.Items.{ArmNothing, IsSchedule}
-use Rattle.schedule.specs.declared.reader.ScheduleRefusal.{ScheduleRefusal}
-use Rattle.zope.specs.declared.refusal.FileRefusal.{FileRefusal}
-use Rattle.zope.specs.declared.refusal.InputRefusal.{InputRefusal}
+use Rattle.zio.specs.Shelves.{Entry}
+use Rattle.fs_record.specs.declared.damage.Damage.{Damage}
 use Rattle.zope.specs.declared.refusal.Refusal.{Refusal}
-use Rattle.fs_store.specs.Stores.{StoreView}
-use Rattle.publisher.specs.Messages.{message_of}
-use Rattle.publisher.specs.Site.{site}
-use Rattle.replay.specs.declared.refusal.RunRefusal.{RunRefusal}
-use Rattle.replay.specs.BrokenOff.{BrokenOff}
-use Rattle.replay.specs.Printed.{terms_of}
-use Rattle.zope.specs.Given.{Scheduled, Stored, most_file, most_input}
-use Rattle.zope.specs.Stores.{Opens}
-use Rattle.zope.specs.Words.{IsReplay, IsReplayOf, IsReplayWith}
+use Rattle.zope.specs.CheckCauses.{CheckCause, NoCheckCause}
+use Rattle.zope.specs.Numbers.{NumbersPrinted}
+use Rattle.zope.specs.ReplayCauses.{NoReplayCause, ReplayCause}
+use Rattle.zope.specs.Replayed.{Replayed}
+use Rattle.zope.specs.Words.{IsCheckOf, IsCommand, IsOf, IsReplayWith}
 
--- where the shelf tells, its file of that name has so many bytes
-abbrev pub IsLength : Option (List Entry) → List ℕ → ℕ → Type 0
-IsLength files name n = IfSome files (λ all. option_map length (file_at all name) ≡ Some n)
+-- what a command that ended well did
+abbrev pub Did : (words : List (List ℕ)) (files : Option (List Entry)) (input old new : Option (List ℕ)) → Type 0
+Did words files input old new =
+    ((name : List ℕ) × (limit : ℕ) × IsReplayWith words name limit × Replayed name limit files input old new) ⊎ ((name : List ℕ) × IsCheckOf words name × NumbersPrinted name files old new)
 
--- where the shelf tells, it has a file of that name
-abbrev pub IsPresent : Option (List Entry) → List ℕ → Type 0
-IsPresent files name = IfSome files (λ all. file_at all name ≡ None → ⊥)
-
--- what the input is refused for; a source that failed has its count
-abbrev pub InputCause : Option (List ℕ) → Type 0 → Refusal → Type 0
-InputCause input failed Refusal.Input = failed
-InputCause input failed Refusal.InputTooLarge = IfSome input (λ text. most_input < length text)
-InputCause input failed (Refusal.BadLine n) = IfSome input (λ text. (length text ≤ most_input) × IsBadAt text n)
-InputCause input failed Refusal.Memory = Unit {0}
-InputCause input failed _ = ⊥
-
--- what the file is refused for
-abbrev pub FileCause : Option (List Entry) → List ℕ → Type 0 → Refusal → Type 0
-FileCause files name failed Refusal.Missing = IfSome files (λ all. file_at all name ≡ None)
-FileCause files name failed (Refusal.FileTooLarge n) = (most_file < n) × IsLength files name n
-FileCause files name failed Refusal.Disk = failed × IsPresent files name
-FileCause files name failed Refusal.Damaged = (bytes : List ℕ) × Stored files name bytes × ((more : List ℕ) → bytes ≡ magic ++ more → ⊥)
-FileCause files name failed Refusal.NotYet = (bytes : List ℕ) × Stored files name bytes × (bytes ≡ magic ++ drop 4 bytes) × ((front : Front) → IsPlainFile bytes front → ⊥)
-FileCause files name failed Refusal.Memory = Unit {0}
-FileCause files name failed _ = ⊥
-
--- what bytes that were read may be refused for
-abbrev pub IsOfReading : Refusal → Type 0
-IsOfReading Refusal.Damaged = Unit {0}
-IsOfReading Refusal.NotYet = Unit {0}
-IsOfReading Refusal.Memory = Unit {0}
-IsOfReading _ = ⊥
-
--- what the run is broken off for
-abbrev pub RunCause : (ℕ → Type 0) → Type 0 → Refusal → Type 0
-RunCause broken failed Refusal.Output = failed
-RunCause broken failed (Refusal.BadLine n) = broken n
-RunCause broken failed Refusal.Memory = Unit {0}
-RunCause broken failed _ = ⊥
-
--- the run over that file was broken off at the line of that number
-abbrev pub Broke : StoreView → List Item2 → Option (List ℕ) → Option (List ℕ) → ℕ → Type 0
-Broke s items old new n = BrokenOff (terms_of message_of site s.limit s.end) s.history items n old new
-
--- The cause of a refusal: of the words, of the input, of the file, or of the run. Until the run nothing is
--- written.
+-- the cause of a refusal: of the words, or of the command that they name
 abbrev pub Cause : (words : List (List ℕ)) (files : Option (List Entry)) (input : Option (List ℕ)) (source sink disk : Type 0) (old new : Option (List ℕ)) → Refusal → Type 0
 Cause words files input source sink disk old new e =
-    ((e ≡ Refusal.Usage) × (IsReplay words → ⊥) × (new ≡ old))
-    ⊎ ((IsReplay words × InputCause input source e × (new ≡ old))
-    ⊎ (((name : List ℕ) × (items : List Item2) × IsReplayOf words name × Scheduled input items × FileCause files name disk e × (new ≡ old))
-    ⊎ ((name : List ℕ) × (limit : ℕ) × (items : List Item2) × IsReplayWith words name limit × Scheduled input items × (bytes : List ℕ) × (s : StoreView) × Stored files name bytes × Opens bytes limit s × RunCause (Broke s items old new) sink e)))
+    ((e ≡ Refusal.Usage) × (IsCommand words → ⊥) × (new ≡ old))
+    ⊎ (((name : List ℕ) × (limit : ℕ) × IsReplayWith words name limit × ReplayCause name limit files input source sink disk old new e)
+    ⊎ ((name : List ℕ) × IsCheckOf words name × CheckCause name files sink disk old new e))
+
+-- the number of a damage
+abbrev pub kind_number : Damage → ℕ
+kind_number Damage.BadLength = 2
+kind_number Damage.BadTid = 3
+kind_number Damage.BadPrev = 4
+kind_number Damage.BadBack = 5
+kind_number Damage.BadStatus = 6
+kind_number Damage.BadTail = 7
+kind_number Damage.BadVersion = 8
+kind_number Damage.BadMagic = 9
 
 -- the last line, which names the cause
 abbrev pub last_line : List ℕ → Refusal → List ℕ
 last_line name Refusal.NotYet = codes "not yet" ++ 10 ∷ []
 last_line name Refusal.Usage = codes "usage" ++ 10 ∷ []
-last_line name Refusal.Damaged = codes "damaged 9 at 0" ++ 10 ∷ []
+last_line name (Refusal.Damaged kind place) = codes "damaged " ++ (decimal (kind_number kind) ++ (codes " at " ++ (decimal place ++ 10 ∷ [])))
 last_line name (Refusal.BadLine n) = codes "bad line " ++ decimal n ++ 10 ∷ []
 last_line name Refusal.Disk = codes "disk fault" ++ 10 ∷ []
 last_line name Refusal.Input = codes "input fault" ++ 10 ∷ []
@@ -91,57 +46,17 @@ last_line name Refusal.Memory = codes "out of memory" ++ 10 ∷ []
 last_line name Refusal.Missing = codes "missing " ++ name ++ 10 ∷ []
 last_line name Refusal.InputTooLarge = codes "too large 67108864" ++ 10 ∷ []
 last_line name (Refusal.FileTooLarge n) = codes "too large " ++ decimal n ++ 10 ∷ []
+last_line name (Refusal.TooLong n) = codes "too long " ++ decimal n ++ 10 ∷ []
 
 -- the last line was written; only `missing` names the file
 abbrev pub Names : List (List ℕ) → Refusal → Option (List ℕ) → Option (List ℕ) → Type 0
-Names words e mid new = (name : List ℕ) × (IsReplayOf words name ⊎ (IsReplay words → ⊥)) × (new ≡ append_known mid (last_line name e))
+Names words e mid new = (name : List ℕ) × (IsOf words name ⊎ (IsCommand words → ⊥)) × (new ≡ append_known mid (last_line name e))
 
 -- the refusal has its cause, and was named in the last line
 abbrev pub Comes : (words : List (List ℕ)) (files : Option (List Entry)) (input : Option (List ℕ)) (source sink disk : Type 0) (old new : Option (List ℕ)) → Refusal → Type 0
 Comes words files input source sink disk old new e = (mid : Option (List ℕ)) × Cause words files input source sink disk old mid e × Names words e mid new
 
--- a refusal of a part, as one of the command
-
-abbrev pub of_input : InputRefusal → Refusal
-of_input InputRefusal.TooLarge = Refusal.InputTooLarge
-of_input InputRefusal.Failed = Refusal.Input
-of_input InputRefusal.Memory = Refusal.Memory
-
-abbrev pub of_schedule : ScheduleRefusal → Refusal
-of_schedule (ScheduleRefusal.BadLine n) = Refusal.BadLine n
-of_schedule ScheduleRefusal.Memory = Refusal.Memory
-
-abbrev pub of_file : FileRefusal → Refusal
-of_file FileRefusal.Missing = Refusal.Missing
-of_file (FileRefusal.TooLarge n) = Refusal.FileTooLarge n
-of_file FileRefusal.Disk = Refusal.Disk
-of_file FileRefusal.Memory = Refusal.Memory
-
-abbrev pub of_run : RunRefusal → Refusal
-of_run (RunRefusal.BadLine n) = Refusal.BadLine n
-of_run RunRefusal.Output = Refusal.Output
-of_run RunRefusal.Memory = Refusal.Memory
-
--- Nothing that is looked at is a cause: the words name a file that is there, is plain and isn't too long; the input
--- spells a schedule that isn't too long, each line of which can be run; and no count rose.
-pub record NoCause (words : List (List ℕ)) (files : Option (List Entry)) (input : Option (List ℕ)) (source sink disk : Type 0) : Type 0 where
-  pub name : List ℕ
-  pub limit : ℕ
-  pub command : IsReplayWith words name limit
-  pub entries : List Entry
-  pub shelf : files ≡ Some entries
-  pub bytes : List ℕ
-  pub there : file_at entries name ≡ Some bytes
-  pub fits : length bytes ≤ most_file
-  pub front : Front
-  pub plain : IsPlainFile bytes front
-  pub text : List ℕ
-  pub given : input ≡ Some text
-  pub within : length text ≤ most_input
-  pub items : List Item2
-  pub spells : IsSchedule text items
-  pub arms_nothing : ArmNothing items
-  pub runs : (s : StoreView) (n : ℕ) (old new : Option (List ℕ)) → Opens bytes limit s → Broke s items old new n → ⊥
-  pub source_calm : source → ⊥
-  pub sink_calm : sink → ⊥
-  pub disk_calm : disk → ⊥
+-- nothing that the command looks at is a cause, and no count rose
+abbrev pub NoCause : (words : List (List ℕ)) (files : Option (List Entry)) (input : Option (List ℕ)) (source sink disk : Type 0) → Type 0
+NoCause words files input source sink disk =
+    ((name : List ℕ) × (limit : ℕ) × IsReplayWith words name limit × NoReplayCause name limit files input source sink disk) ⊎ ((name : List ℕ) × IsCheckOf words name × NoCheckCause name files sink disk)

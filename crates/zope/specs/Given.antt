@@ -1,11 +1,12 @@
--- What a replay is given: a schedule and a file, each within its limit.
-use Rattle.std.specs.Prelude.{ℕ, ◌≤◌, List, length, IfSome, Option}
-use Rattle.zio.specs.Shelves.{Entry}
+-- What a command is given: a schedule and a file, each within its limit.
+use Rattle.std.specs.Prelude.{◌≡◌, ℕ, ◌≤◌, List, length, IfSome, Option, Some}
+use Rattle.zio.specs.Shelves.{Entry, file_at}
 use Rattle.schedule.specs.declared.item.Item2.{Item2}
 use Rattle.schedule.specs.Items.{ArmNothing, IsSchedule}
+use Rattle.fs_store.specs.Stores.{most_length}
 use Rattle.zope.specs.Shelved.{HasFile}
 
--- the most bytes of a schedule, and of a file
+-- the most bytes of a schedule, and of a file that is replayed
 abbrev pub most_input : ℕ
 most_input = 67108864
 
@@ -18,7 +19,11 @@ pub record Scheduled (input : Option (List ℕ)) (items : List Item2) : Type 0 w
   pub spells : IfSome input (λ text. IsSchedule text items)
   pub arms_nothing : ArmNothing items
 
--- where the shelf tells, its file of that name has these bytes, and not too many
+-- where the shelf tells, its file of that name has these bytes, and not too many for a replay
 pub record Stored (files : Option (List Entry)) (name bytes : List ℕ) : Type 0 where
   pub has : HasFile files name bytes
   pub within : length bytes ≤ most_file
+
+-- where the shelf tells, it has a file of that name, no longer than a file may be, of which this holds
+abbrev pub IfKept : Option (List Entry) → List ℕ → (List ℕ → Type 0) → Type 0
+IfKept files name P = IfSome files (λ all. (bytes : List ℕ) × (file_at all name ≡ Some bytes) × (length bytes ≤ most_length) × P bytes)

@@ -3,4 +3,7 @@ pub mod Shelved
 pub mod Given
 pub mod Stores
 pub mod Replayed
+pub mod Numbers
+pub mod ReplayCauses
+pub mod CheckCauses
 pub mod Causes

@@ -1,4 +1,4 @@
--- What a replay did.
+-- What a replay over a file did.
 use Rattle.std.specs.Prelude.{ℕ, List, Option}
 use Rattle.zbase.specs.History.{History}
 use Rattle.zio.specs.Shelves.{Entry}
@@ -9,13 +9,8 @@ use Rattle.publisher.specs.Site.{site}
 use Rattle.replay.specs.Printed.{terms_of, PrintsReport}
 use Rattle.zope.specs.Given.{Scheduled, Stored}
 use Rattle.zope.specs.Stores.{Opens}
-use Rattle.zope.specs.Words.{IsReplayWith}
 
-pub record Replayed (words : List (List ℕ)) (files : Option (List Entry)) (input old new : Option (List ℕ)) : Type 0 where
-  -- the words name a file, and a limit of its length
-  pub name : List ℕ
-  pub limit : ℕ
-  pub command : IsReplayWith words name limit
+pub record Replayed (name : List ℕ) (limit : ℕ) (files : Option (List Entry)) (input old new : Option (List ℕ)) : Type 0 where
   -- where the shelf tells, that file has these bytes, not too many, which are a file of this history
   pub bytes : List ℕ
   pub file : Stored files name bytes

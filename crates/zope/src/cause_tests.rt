@@ -26,20 +26,12 @@ impl Source for Endless {
     }
 }
 
-/// A file of one byte more than a replay takes. It keeps nothing of what is written.
+/// A file of so many bytes. It keeps nothing of what is written.
 #[derive(Drop)]
 struct LongDisk {
+    length: u64,
     calls: u64,
     faults: FaultCount,
-}
-
-impl LongDisk {
-    fn new() -> LongDisk {
-        LongDisk {
-            calls: 0,
-            faults: FaultCount::new(),
-        }
-    }
 }
 
 impl Disk for LongDisk {
@@ -59,7 +51,7 @@ impl Disk for LongDisk {
 
     fn len(&mut self) -> Result<u64, Failed> {
         self.calls = self.calls.saturating_add(1);
-        Ok(268_435_457)
+        Ok(self.length)
     }
 
     fn read_at(&mut self, _at: u64, _buf: &mut [u8]) -> Result<(), Failed> {
@@ -86,6 +78,7 @@ impl Disk for LongDisk {
 /// A shelf that has that file under every name.
 #[derive(Drop)]
 struct LongShelf {
+    length: u64,
     faults: FaultCount,
 }
 
@@ -99,22 +92,29 @@ impl Shelf for LongShelf {
     ghost sound_disks = { λ _. ⊥ };
 
     fn open(&mut self, _name: &str) -> Result<LongDisk, ShelfRefusal> {
-        Ok(LongDisk::new())
+        Ok(LongDisk {
+            length: self.length,
+            calls: 0,
+            faults: FaultCount::new(),
+        })
     }
 }
 
-/// The status and the output of a replay of that file.
-fn replays_long<S: Source>(
+/// Whether a command over a file of that length ends with this status and this output.
+fn ends_long<S: Source>(
     alloc: Global,
+    command: &[&str],
+    length: u64,
     input: &mut S,
     status: u8,
     output: &str,
 ) -> Result<bool, Memory> {
     let mut words = Vec::new(alloc);
-    for word in WORDS {
+    for word in command {
         words.push(String::from_str(alloc, word)?)?;
     }
     let mut files = LongShelf {
+        length,
         faults: FaultCount::new(),
     };
     let mut sink = MemorySink::new(alloc, FaultPlan::none(alloc));
@@ -137,7 +137,16 @@ fn an_input_without_end_is_too_large(rt: HostRuntime) -> Result<(), Fail> {
     let mut input = Endless {
         faults: FaultCount::new(),
     };
-    assert!(rt; replays_long(rt.alloc(), &mut input, 9, "too large 67108864\n")?);
+    assert!(rt;
+        ends_long(
+            rt.alloc(),
+            WORDS,
+            268_435_457,
+            &mut input,
+            9,
+            "too large 67108864\n"
+        )?
+    );
     Ok(())
 }
 
@@ -146,7 +155,35 @@ fn a_file_that_is_too_large_is_not_read(rt: HostRuntime) -> Result<(), Fail> {
     let alloc = rt.alloc();
     let text = Bytes::from_slice(alloc, b"zope schedule 1\nend\n")?;
     let mut input = MemorySource::new(text, FaultPlan::none(alloc));
-    assert!(rt; replays_long(alloc, &mut input, 9, "too large 268435457\n")?);
+    assert!(rt;
+        ends_long(
+            alloc,
+            WORDS,
+            268_435_457,
+            &mut input,
+            9,
+            "too large 268435457\n"
+        )?
+    );
+    Ok(())
+}
+
+#[test]
+fn a_file_that_is_too_long_is_not_checked(rt: HostRuntime) -> Result<(), Fail> {
+    let alloc = rt.alloc();
+    let check = &["check", "empty.fs"];
+    let mut input = MemorySource::new(Bytes::new(alloc), FaultPlan::none(alloc));
+    for (length, status, output) in [
+        (281_474_976_710_656, 12, "too long 281474976710656\n"),
+        (u64::MAX, 12, "too long 18446744073709551615\n"),
+        // no machine has the memory for the bytes of the longest file
+        (281_474_976_710_655, 7, "out of memory\n"),
+    ] {
+        assert!(rt;
+            ends_long(alloc, check, length, &mut input, status, output)?,
+            "{length}"
+        );
+    }
     Ok(())
 }
 

@@ -1,11 +1,8 @@
-ghost use Rattle.std.specs.Prelude.{◌≡◌, ◌⊎◌, ◌≤◌, ◌<◌, ℕ, length, map, IfOk, IfSome, IsErrOf, MatchOption, None, string_bytes};
+ghost use Rattle.std.specs.Prelude.{◌≡◌, ◌⊎◌, ◌≤◌, ◌<◌, ℕ, length, IfOk, IfSome, IsErrOf};
 ghost use Rattle.zbase.specs.Faults.{Counts, Rose};
 ghost use Rattle.zdisk.specs.Disk.{content};
-ghost use Rattle.zio.specs.Shelves.{file_at};
-ghost use Rattle.zope.specs.Causes.{IsLength, IsPresent};
 ghost use Rattle.zope.specs.Given.{most_file, most_input};
-ghost use Rattle.zope.specs.Shelved.{HasFile};
-ghost use Rattle.zope.specs.Words.{GivesLimit, IsLimit, IsReplay, IsReplayWith};
+ghost use Rattle.zope.specs.Shelved.{HasFile, IsLength, IsMissing, IsPresent};
 
 use crate::refusal::{FileRefusal, InputRefusal};
 use std::alloc::Global;
@@ -17,59 +14,6 @@ const MAX_INPUT: usize = 67_108_864;
 
 /// The most bytes that a replayed file may have.
 const MAX_FILE: u64 = 268_435_456;
-
-/// The most bytes that `--limit` may give a file, and those that it may have without it.
-const MAX_LIMIT: u64 = 281_474_976_710_655;
-
-// The limit that a word spells: a number of 1 to 20 digits.
-fn limit_of(text: &str) -> Option<u64>
-    ensures { MatchOption result ((limit : ℕ) → IsLimit text.now limit → ⊥) (λ limit. IsLimit text.now limit) }
-{
-    if text.len() > 20 || text.starts_with('+') {
-        return None;
-    }
-    let limit: u64 = text.parse().ok()?;
-    if limit > MAX_LIMIT {
-        return None;
-    }
-    Some(limit)
-}
-
-// The limit that the words behind a file's name give.
-fn limit_words(rest: &[String]) -> Option<u64>
-    ensures { MatchOption result ((limit : ℕ) → GivesLimit (map string_bytes rest.now) limit → ⊥) (λ limit. GivesLimit (map string_bytes rest.now) limit) }
-{
-    let Some((option, rest)) = rest.split_first() else {
-        return Some(MAX_LIMIT);
-    };
-    let Some((limit, rest)) = rest.split_first() else {
-        return None;
-    };
-    if option.as_str() != "--limit" || rest.len() > 0 {
-        return None;
-    }
-    limit_of(limit.as_str())
-}
-
-/// The file that a replay is asked for, and how many bytes it may have: none exactly where the words aren't `replay`
-/// and one more word, with or without `--limit` and a number behind them.
-pub fn replay_words(words: &[String]) -> Option<(&str, u64)>
-    ensures { MatchOption result (IsReplay (map string_bytes words.now) → ⊥) (λ command. IsReplayWith (map string_bytes words.now) command.0.now command.1) }
-{
-    let Some((command, rest)) = words.split_first() else {
-        return None;
-    };
-    let Some((name, rest)) = rest.split_first() else {
-        return None;
-    };
-    if command.as_str() != "replay" {
-        return None;
-    }
-    match limit_words(rest) {
-        Some(limit) => Some((name.as_str(), limit)),
-        None => None,
-    }
-}
 
 /// All of the input.
 pub fn read_input<S: Source>(alloc: Global, input: &mut S) -> Result<Vec<u8>, InputRefusal>
@@ -111,7 +55,7 @@ fn read_disk<D: Disk>(alloc: Global, disk: &mut D) -> Result<Vec<u8>, FileRefusa
 pub fn read_file<F: Shelf>(alloc: Global, files: &mut F, name: &str) -> Result<Vec<u8>, FileRefusal>
     ensures found { IfOk result (λ bytes. HasFile (F.files files.old) name.now bytes.items) }
     ensures within { IfOk result (λ bytes. length bytes.items ≤ most_file) }
-    ensures missing { IsErrOf result FileRefusal.Missing → IfSome (F.files files.old) (λ all. file_at all name.now ≡ None) }
+    ensures missing { IsErrOf result FileRefusal.Missing → IsMissing (F.files files.old) name.now }
     ensures too_large { (n : ℕ) → IsErrOf result (FileRefusal.TooLarge n) → (most_file < n) × IsLength (F.files files.old) name.now n }
     ensures present { IsErrOf result FileRefusal.Disk → IsPresent (F.files files.old) name.now }
     ensures disk { IsErrOf result FileRefusal.Disk → Rose (F.counter files.old) (F.counter files.new) ⊎ (F.sound_disks files.old → ⊥) }

@@ -3,16 +3,22 @@
 
 #[cfg(test)]
 mod cause_tests;
+#[cfg(test)]
+mod check_tests;
+mod checking;
 mod command;
 #[cfg(test)]
 mod edit_tests;
 mod inputs;
+mod last_lines;
 #[cfg(test)]
 mod page_tests;
 mod refusal;
+mod replaying;
 #[cfg(test)]
 mod tests;
 mod top;
+mod words;
 
 use std::env;
 use std::io::ErrorKind;

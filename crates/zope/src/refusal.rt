@@ -1,8 +1,11 @@
 ghost use Rattle.std.specs.Prelude.{◌≡◌};
-ghost use Rattle.zope.specs.Causes.{of_file, of_input, of_run, of_schedule};
+ghost use Rattle.zope.specs.CheckCauses.{of_scan};
+ghost use Rattle.zope.specs.ReplayCauses.{of_file, of_input, of_run, of_schedule};
 ghost use Rattle.zope.specs.declared.refusal.FileRefusal.TheVariants.{Memory as FileMemory};
 ghost use Rattle.zope.specs.declared.refusal.InputRefusal.TheVariants.{Memory as InputMemory};
 
+use fs_record::Damage;
+use fs_scan::ScanRefusal;
 use replay::RunRefusal;
 use schedule::ScheduleRefusal;
 use std::alloc::{AllocError, AllocFailed};
@@ -14,8 +17,8 @@ pub enum Refusal {
     NotYet,
     /// The words are none of the program's.
     Usage,
-    /// The file doesn't begin as one.
-    Damaged,
+    /// The file has this damage, in the transaction at that place.
+    Damaged(Damage, u64),
     /// The line of the schedule with this number is bad, or can't be run.
     BadLine(u64),
     /// The shelf or a disk failed.
@@ -30,8 +33,10 @@ pub enum Refusal {
     Missing,
     /// The schedule has more than 67,108,864 bytes.
     InputTooLarge,
-    /// The file has so many bytes, which are too many.
+    /// The file has so many bytes, which are too many for a replay.
     FileTooLarge(u64),
+    /// The file has so many bytes, which no file may have.
+    TooLong(u64),
 }
 
 /// Why the input was not read.
@@ -126,6 +131,18 @@ impl From<RunRefusal> for Refusal {
             RunRefusal::BadLine(line) => Refusal::BadLine(line),
             RunRefusal::Output => Refusal::Output,
             RunRefusal::Memory => Refusal::Memory,
+        }
+    }
+}
+
+impl From<ScanRefusal> for Refusal {
+    ghost from_gives = { λ refusal e. e ≡ of_scan refusal };
+
+    fn from(refusal: ScanRefusal) -> Refusal {
+        match refusal {
+            ScanRefusal::Damaged(kind, place) => Refusal::Damaged(kind, place),
+            ScanRefusal::Disk => Refusal::Disk,
+            ScanRefusal::Memory => Refusal::Memory,
         }
     }
 }

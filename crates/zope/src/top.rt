@@ -1,15 +1,15 @@
-ghost use Rattle.std.specs.Prelude.{◌≡◌, ◌<◌, ◌≤◌, ◌⊎◌, ℕ, IsErrOf, MatchResult, OnOk, map, string_bytes};
-ghost use Rattle.std.specs.Io.KnownBytes.{append_known};
-ghost use Rattle.zbase.specs.Faults.{Counts, Rose};
-ghost use Rattle.zope.specs.Causes.{Comes, Names, NoCause, last_line};
-ghost use Rattle.zope.specs.Replayed.{Replayed};
-ghost use Rattle.zope.specs.Words.{IsReplay};
+ghost use Rattle.std.specs.Prelude.{◌≡◌, ◌<◌, ◌≤◌, ◌⊎◌, ℕ, map, string_bytes};
+ghost use Rattle.zbase.specs.Faults.{Rose};
+ghost use Rattle.fs_record.specs.declared.damage.Damage.{Damage};
+ghost use Rattle.zope.specs.Causes.{Comes, Did, Names, NoCause};
+ghost use Rattle.zope.specs.Words.{IsCommand};
 
-use crate::command::replay_command;
-use crate::inputs::replay_words;
+use crate::command::run_command;
+use crate::last_lines::put_cause;
 use crate::refusal::Refusal;
+use fs_record::one_opening;
 use schedule::{one_bad_line, one_schedule};
-use std::alloc::{AllocError, Global};
+use std::alloc::Global;
 use zio::{Clock, Hub, OutsideRefusal, Shelf, Sink, Source};
 
 /// How a run ended: 0 well, any other number for a cause.
@@ -22,20 +22,21 @@ fn status_of(refusal: Refusal) -> Status
     ensures not_yet { result.0 ≡ 1 → refusal ≡ Refusal.NotYet }
     ensures usage { result.0 ≡ 2 → refusal ≡ Refusal.Usage }
     ensures used { refusal ≡ Refusal.Usage → result.0 ≡ 2 }
-    ensures damaged { result.0 ≡ 3 → refusal ≡ Refusal.Damaged }
+    ensures damaged { result.0 ≡ 3 → (kind : Damage) × (place : ℕ) × (refusal ≡ Refusal.Damaged kind place) }
     ensures bad_line { result.0 ≡ 4 → (n : ℕ) × (refusal ≡ Refusal.BadLine n) }
     ensures disk { result.0 ≡ 5 → refusal ≡ Refusal.Disk }
     ensures input_output { result.0 ≡ 6 → (refusal ≡ Refusal.Input) ⊎ (refusal ≡ Refusal.Output) }
     ensures output { refusal ≡ Refusal.Output → result.0 ≡ 6 }
     ensures missing { result.0 ≡ 8 → refusal ≡ Refusal.Missing }
     ensures too_large { result.0 ≡ 9 → (refusal ≡ Refusal.InputTooLarge) ⊎ ((n : ℕ) × (refusal ≡ Refusal.FileTooLarge n)) }
+    ensures too_long { result.0 ≡ 12 → (n : ℕ) × (refusal ≡ Refusal.TooLong n) }
     ensures memory { refusal ≡ Refusal.Memory → result.0 ≡ 7 }
-    ensures known { result.0 ≤ 9 }
+    ensures known { (result.0 ≤ 9) ⊎ (result.0 ≡ 12) }
 {
     match refusal {
         Refusal::NotYet => Status(1),
         Refusal::Usage => Status(2),
-        Refusal::Damaged => Status(3),
+        Refusal::Damaged(_, _) => Status(3),
         Refusal::BadLine(_) => Status(4),
         Refusal::Disk => Status(5),
         Refusal::Input => Status(6),
@@ -44,57 +45,7 @@ fn status_of(refusal: Refusal) -> Status
         Refusal::Missing => Status(8),
         Refusal::InputTooLarge => Status(9),
         Refusal::FileTooLarge(_) => Status(9),
-    }
-}
-
-// Writes the last line that says why. The sink's own fault has none.
-fn put_last_line<K: Sink>(
-    alloc: Global,
-    refusal: Refusal,
-    name: &str,
-    out: &mut K,
-) -> Result<(), OutsideRefusal>
-    ensures ok { OnOk result (K.written out.new ≡ append_known (K.written out.old) (last_line name.now refusal)) }
-    ensures counts { Counts (K.counter out.old) (K.counter out.new) (IsErrOf result OutsideRefusal.Failed) }
-{
-    match refusal {
-        Refusal::NotYet => out.write_all(b"not yet\n"),
-        Refusal::Usage => out.write_all(b"usage\n"),
-        Refusal::Damaged => out.write_all(b"damaged 9 at 0\n"),
-        Refusal::BadLine(line) => put_text(format!(in alloc; "bad line {line}\n"), out),
-        Refusal::Disk => out.write_all(b"disk fault\n"),
-        Refusal::Input => out.write_all(b"input fault\n"),
-        Refusal::Output => Ok(()),
-        Refusal::Memory => out.write_all(b"out of memory\n"),
-        Refusal::Missing => put_text(format!(in alloc; "missing {name}\n"), out),
-        Refusal::InputTooLarge => out.write_all(b"too large 67108864\n"),
-        Refusal::FileTooLarge(size) => put_text(format!(in alloc; "too large {size}\n"), out),
-    }
-}
-
-fn put_text<K: Sink>(text: Result<String, AllocError>, out: &mut K) -> Result<(), OutsideRefusal>
-    ensures ok { OnOk result (MatchResult text (λ line. K.written out.new ≡ append_known (K.written out.old) (string_bytes line)) (λ _. ⊥)) }
-    ensures counts { Counts (K.counter out.old) (K.counter out.new) (IsErrOf result OutsideRefusal.Failed) }
-{
-    match text {
-        Ok(text) => out.write_all(text.as_bytes()),
-        Err(_) => Err(OutsideRefusal::Memory),
-    }
-}
-
-// Says why a command did not end well, in the words that were given.
-fn put_cause<K: Sink>(
-    alloc: Global,
-    refusal: Refusal,
-    words: &[String],
-    out: &mut K,
-) -> Result<(), OutsideRefusal>
-    ensures ok { OnOk result (Names (map string_bytes words.now) refusal (K.written out.old) (K.written out.new)) }
-    ensures counts { Counts (K.counter out.old) (K.counter out.new) (IsErrOf result OutsideRefusal.Failed) }
-{
-    match replay_words(words) {
-        Some((name, _)) => put_last_line(alloc, refusal, name, out),
-        None => put_last_line(alloc, refusal, "", out),
+        Refusal::TooLong(_) => Status(12),
     }
 }
 
@@ -104,14 +55,15 @@ fn refuse<K: Sink>(alloc: Global, refusal: Refusal, words: &[String], out: &mut 
     ensures not_yet { result.0 ≡ 1 → (refusal ≡ Refusal.NotYet) × Names (map string_bytes words.now) refusal (K.written out.old) (K.written out.new) }
     ensures usage { result.0 ≡ 2 → (refusal ≡ Refusal.Usage) × Names (map string_bytes words.now) refusal (K.written out.old) (K.written out.new) }
     ensures used { refusal ≡ Refusal.Usage → (result.0 ≡ 2) ⊎ (result.0 ≡ 6) ⊎ (result.0 ≡ 7) }
-    ensures damaged { result.0 ≡ 3 → (refusal ≡ Refusal.Damaged) × Names (map string_bytes words.now) refusal (K.written out.old) (K.written out.new) }
+    ensures damaged { result.0 ≡ 3 → ((kind : Damage) × (place : ℕ) × (refusal ≡ Refusal.Damaged kind place)) × Names (map string_bytes words.now) refusal (K.written out.old) (K.written out.new) }
     ensures bad_line { result.0 ≡ 4 → ((n : ℕ) × (refusal ≡ Refusal.BadLine n)) × Names (map string_bytes words.now) refusal (K.written out.old) (K.written out.new) }
     ensures disk { result.0 ≡ 5 → (refusal ≡ Refusal.Disk) × Names (map string_bytes words.now) refusal (K.written out.old) (K.written out.new) }
     ensures input_output { result.0 ≡ 6 → ((refusal ≡ Refusal.Input) × Names (map string_bytes words.now) refusal (K.written out.old) (K.written out.new)) ⊎ (refusal ≡ Refusal.Output) ⊎ Rose (K.counter out.old) (K.counter out.new) }
     ensures missing { result.0 ≡ 8 → (refusal ≡ Refusal.Missing) × Names (map string_bytes words.now) refusal (K.written out.old) (K.written out.new) }
     ensures too_large { result.0 ≡ 9 → ((refusal ≡ Refusal.InputTooLarge) ⊎ ((n : ℕ) × (refusal ≡ Refusal.FileTooLarge n))) × Names (map string_bytes words.now) refusal (K.written out.old) (K.written out.new) }
+    ensures too_long { result.0 ≡ 12 → ((n : ℕ) × (refusal ≡ Refusal.TooLong n)) × Names (map string_bytes words.now) refusal (K.written out.old) (K.written out.new) }
     ensures memory { refusal ≡ Refusal.Memory → (result.0 ≡ 7) ⊎ Rose (K.counter out.old) (K.counter out.new) }
-    ensures known { result.0 ≤ 9 }
+    ensures known { (result.0 ≤ 9) ⊎ (result.0 ≡ 12) }
     ensures output { refusal ≡ Refusal.Output → result.0 ≡ 6 }
     ensures sink_failed { (K.counter out.old).count < (K.counter out.new).count → result.0 ≡ 6 }
     ensures count { (K.counter out.old).count ≤ (K.counter out.new).count }
@@ -140,15 +92,16 @@ pub fn run<F: Shelf, S: Source, K: Sink, H: Hub, C: Clock>(
     _hub: &mut H,
     _clock: &mut C,
 ) -> Status
-    // The words are `replay FILE`, maybe with a limit, and the report that was written explains the schedule.
-    ensures replayed { result.0 ≡ 0 → Replayed (map string_bytes words.now) (F.files files.old) (S.left input.old) (K.written out.old) (K.written out.new) }
+    // The words are `replay FILE`, maybe with a limit, and the report that was written explains the schedule; or they
+    // are `check FILE`, and the file's numbers were written.
+    ensures did { result.0 ≡ 0 → Did (map string_bytes words.now) (F.files files.old) (S.left input.old) (K.written out.old) (K.written out.new) }
     // The file begins as one, and isn't of whole committed transactions that hold their data.
     ensures not_yet { result.0 ≡ 1 → Comes (map string_bytes words.now) (F.files files.old) (S.left input.old) (Rose (S.counter input.old) (S.counter input.new)) (Rose (K.counter out.old) (K.counter out.new)) (Rose (F.counter files.old) (F.counter files.new) ⊎ (F.sound_disks files.old → ⊥)) (K.written out.old) (K.written out.new) Refusal.NotYet }
     // The words are none of the program's; and there always, but for a fault of the sink and want of memory.
     ensures usage { result.0 ≡ 2 → Comes (map string_bytes words.now) (F.files files.old) (S.left input.old) (Rose (S.counter input.old) (S.counter input.new)) (Rose (K.counter out.old) (K.counter out.new)) (Rose (F.counter files.old) (F.counter files.new) ⊎ (F.sound_disks files.old → ⊥)) (K.written out.old) (K.written out.new) Refusal.Usage }
-    ensures used { (IsReplay (map string_bytes words.now) → ⊥) → (result.0 ≡ 2) ⊎ (result.0 ≡ 6) ⊎ (result.0 ≡ 7) }
-    // The file doesn't begin with the magic.
-    ensures damaged { result.0 ≡ 3 → Comes (map string_bytes words.now) (F.files files.old) (S.left input.old) (Rose (S.counter input.old) (S.counter input.new)) (Rose (K.counter out.old) (K.counter out.new)) (Rose (F.counter files.old) (F.counter files.new) ⊎ (F.sound_disks files.old → ⊥)) (K.written out.old) (K.written out.new) Refusal.Damaged }
+    ensures used { (IsCommand (map string_bytes words.now) → ⊥) → (result.0 ≡ 2) ⊎ (result.0 ≡ 6) ⊎ (result.0 ≡ 7) }
+    // The file has this damage there; of a replay that is no more than that it doesn't begin with the magic.
+    ensures damaged { result.0 ≡ 3 → (kind : Damage) × (place : ℕ) × Comes (map string_bytes words.now) (F.files files.old) (S.left input.old) (Rose (S.counter input.old) (S.counter input.new)) (Rose (K.counter out.old) (K.counter out.new)) (Rose (F.counter files.old) (F.counter files.new) ⊎ (F.sound_disks files.old → ⊥)) (K.written out.old) (K.written out.new) (Refusal.Damaged kind place) }
     ensures bad_line { result.0 ≡ 4 → (n : ℕ) × Comes (map string_bytes words.now) (F.files files.old) (S.left input.old) (Rose (S.counter input.old) (S.counter input.new)) (Rose (K.counter out.old) (K.counter out.new)) (Rose (F.counter files.old) (F.counter files.new) ⊎ (F.sound_disks files.old → ⊥)) (K.written out.old) (K.written out.new) (Refusal.BadLine n) }
     // The shelf's count rose, or that of the disk which it handed out.
     ensures disk { result.0 ≡ 5 → Comes (map string_bytes words.now) (F.files files.old) (S.left input.old) (Rose (S.counter input.old) (S.counter input.new)) (Rose (K.counter out.old) (K.counter out.new)) (Rose (F.counter files.old) (F.counter files.new) ⊎ (F.sound_disks files.old → ⊥)) (K.written out.old) (K.written out.new) Refusal.Disk }
@@ -158,15 +111,18 @@ pub fn run<F: Shelf, S: Source, K: Sink, H: Hub, C: Clock>(
     ensures sink_failed { (K.counter out.old).count < (K.counter out.new).count → result.0 ≡ 6 }
     // The shelf has no such file.
     ensures missing { result.0 ≡ 8 → Comes (map string_bytes words.now) (F.files files.old) (S.left input.old) (Rose (S.counter input.old) (S.counter input.new)) (Rose (K.counter out.old) (K.counter out.new)) (Rose (F.counter files.old) (F.counter files.new) ⊎ (F.sound_disks files.old → ⊥)) (K.written out.old) (K.written out.new) Refusal.Missing }
-    // The schedule is longer than its limit, or the file than its own.
+    // The schedule of a replay is longer than its limit, or the file than its own.
     ensures too_large { result.0 ≡ 9 → Comes (map string_bytes words.now) (F.files files.old) (S.left input.old) (Rose (S.counter input.old) (S.counter input.new)) (Rose (K.counter out.old) (K.counter out.new)) (Rose (F.counter files.old) (F.counter files.new) ⊎ (F.sound_disks files.old → ⊥)) (K.written out.old) (K.written out.new) Refusal.InputTooLarge ⊎ ((n : ℕ) × Comes (map string_bytes words.now) (F.files files.old) (S.left input.old) (Rose (S.counter input.old) (S.counter input.new)) (Rose (K.counter out.old) (K.counter out.new)) (Rose (F.counter files.old) (F.counter files.new) ⊎ (F.sound_disks files.old → ⊥)) (K.written out.old) (K.written out.new) (Refusal.FileTooLarge n)) }
-    ensures known { result.0 ≤ 9 }
+    // The file of a check is longer than any file may be.
+    ensures too_long { result.0 ≡ 12 → (n : ℕ) × Comes (map string_bytes words.now) (F.files files.old) (S.left input.old) (Rose (S.counter input.old) (S.counter input.new)) (Rose (K.counter out.old) (K.counter out.new)) (Rose (F.counter files.old) (F.counter files.new) ⊎ (F.sound_disks files.old → ⊥)) (K.written out.old) (K.written out.new) (Refusal.TooLong n) }
+    ensures known { (result.0 ≤ 9) ⊎ (result.0 ≡ 12) }
     // Where there is no cause, the run ends well, or for want of memory.
     ensures complete { NoCause (map string_bytes words.now) (F.files files.old) (S.left input.old) (Rose (S.counter input.old) (S.counter input.new)) (Rose (K.counter out.old) (K.counter out.new)) (Rose (F.counter files.old) (F.counter files.new) ⊎ (F.sound_disks files.old → ⊥)) → (result.0 ≡ 0) ⊎ (result.0 ≡ 7) }
 {
     one_schedule();
     one_bad_line();
-    match replay_command(alloc, words, files, input, out) {
+    one_opening();
+    match run_command(alloc, words, files, input, out) {
         Ok(()) => Status(0),
         Err(refusal) => refuse(alloc, refusal, words, out),
     }

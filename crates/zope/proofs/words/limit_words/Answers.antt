@@ -1,7 +1,7 @@
 use Rattle.std.proofs.Common.{rules, ◌≡◌, [], ◌∷◌, map}
 use Rattle.std.specs.Prelude.{codes, string_bytes}
 use Rattle.zope.proofs.LimitWords.{empty, two_words}
-use Rattle.zope.proofs.inputs.limit_words.Goals as goal
+use Rattle.zope.proofs.words.limit_words.Goals as goal
 
 pub returns : goal.returns
 returns c =

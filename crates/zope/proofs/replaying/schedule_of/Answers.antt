@@ -1,6 +1,6 @@
 use Rattle.std.proofs.lemmas.Result.{err_from_is_err_and}
 use Rattle.zope.proofs.InputCauses.{unscheduled}
-use Rattle.zope.proofs.command.schedule_of.Goals as goal
+use Rattle.zope.proofs.replaying.schedule_of.Goals as goal
 
 pub returns-in_err-read_schedule-clause-cause : goal.returns-in_err-read_schedule-clause-cause
 returns-in_err-read_schedule-clause-cause g c =

@@ -1,9 +1,12 @@
 use Rattle.std.specs.Prelude.{string_bytes}
 use Rattle.zope.proofs.LastLines.{put_is}
-use Rattle.zope.proofs.top.put_last_line.Goals as goal
+use Rattle.zope.proofs.last_lines.put_last_line.Goals as goal
+
+pub returns-in-Damaged-clause-ok : goal.returns-in-Damaged-clause-ok
+returns-in-Damaged-clause-ok g c = rw c.in-Damaged.is (put_is c.put_text.result c.format.result string_bytes _ _ _ c.put_text.ensures.ok (rw c.kind_number-number.ensures at c.format.ensures.ok))
 
 pub returns-in-BadLine-clause-ok : goal.returns-in-BadLine-clause-ok
-returns-in-BadLine-clause-ok g c = rw c.in-BadLine.is (put_is c.put_text.result c.format.result string_bytes _ _ _ c.put_text.ensures.ok c.format.ensures.ok)
+returns-in-BadLine-clause-ok g c = rw c.in-BadLine.is (put_is c.put_text-in-BadLine.result c.format-in-BadLine.result string_bytes _ _ _ c.put_text-in-BadLine.ensures.ok c.format-in-BadLine.ensures.ok)
 
 pub returns-in-Memory-clause-ok : goal.returns-in-Memory-clause-ok
 returns-in-Memory-clause-ok g c = rw c.in-Memory.is c.write_all-in-Memory.ensures.ok
@@ -16,3 +19,6 @@ returns-in-InputTooLarge-clause-ok g c = rw c.in-InputTooLarge.is c.write_all-in
 
 pub returns-in-FileTooLarge-clause-ok : goal.returns-in-FileTooLarge-clause-ok
 returns-in-FileTooLarge-clause-ok g c = rw c.in-FileTooLarge.is (put_is c.put_text-in-FileTooLarge.result c.format-in-FileTooLarge.result string_bytes _ _ _ c.put_text-in-FileTooLarge.ensures.ok c.format-in-FileTooLarge.ensures.ok)
+
+pub returns-in-TooLong-clause-ok : goal.returns-in-TooLong-clause-ok
+returns-in-TooLong-clause-ok g c = rw c.in-TooLong.is (put_is c.put_text-in-TooLong.result c.format-in-TooLong.result string_bytes _ _ _ c.put_text-in-TooLong.ensures.ok c.format-in-TooLong.ensures.ok)

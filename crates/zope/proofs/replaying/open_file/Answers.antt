@@ -4,7 +4,7 @@ use Rattle.fs_record.specs.File.{Front, magic}
 use Rattle.fs_record.specs.FileLaws.{file_history, file_place}
 use Rattle.fs_scan.specs.Plain.{IsPlainFile}
 use Rattle.fs_store.specs.Stores.{StoreView}
-use Rattle.zope.proofs.command.open_file.Goals as goal
+use Rattle.zope.proofs.replaying.open_file.Goals as goal
 
 pub new-requires : goal.new-requires
 new-requires c =

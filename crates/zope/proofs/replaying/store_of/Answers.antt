@@ -1,6 +1,6 @@
 use Rattle.std.proofs.lemmas.Result.{err_from_is_err_and}
 use Rattle.zope.proofs.FileCauses.{unopened, unread}
-use Rattle.zope.proofs.command.store_of.Goals as goal
+use Rattle.zope.proofs.replaying.store_of.Goals as goal
 
 pub returns-in_err-bytes-clause-cause : goal.returns-in_err-bytes-clause-cause
 returns-in_err-bytes-clause-cause g c =

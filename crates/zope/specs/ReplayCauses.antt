@@ -1,0 +1,110 @@
+-- Why a replay over a file did not end well, and what it wrote before its last line.
+--
+-- The order of looking is: the input whole, its size, its grammar; the shelf; the file's size; its reading; the run.
+use Rattle.std.specs.Prelude.{◌≡◌, ◌⊎◌, ℕ, ◌≤◌, ◌<◌, List, ◌++◌, length, drop, IfSome, Option, Some}
+use Rattle.zio.specs.Shelves.{Entry, file_at}
+use Rattle.fs_record.specs.declared.damage.Damage.TheVariants.{BadMagic}
+use Rattle.fs_record.specs.File.{Front, magic}
+use Rattle.fs_scan.specs.Plain.{IsPlainFile}
+use Rattle.schedule.specs.declared.item.Item2.{Item2}
+use Rattle.schedule.specs.BadLines.{IsBadAt}
+use Rattle.schedule.specs.Items.{ArmNothing, IsSchedule}
+use Rattle.schedule.specs.declared.reader.ScheduleRefusal.{ScheduleRefusal}
+use Rattle.zope.specs.declared.refusal.FileRefusal.{FileRefusal}
+use Rattle.zope.specs.declared.refusal.InputRefusal.{InputRefusal}
+use Rattle.zope.specs.declared.refusal.Refusal.{Refusal}
+use Rattle.fs_store.specs.Stores.{StoreView}
+use Rattle.publisher.specs.Messages.{message_of}
+use Rattle.publisher.specs.Site.{site}
+use Rattle.replay.specs.declared.refusal.RunRefusal.{RunRefusal}
+use Rattle.replay.specs.BrokenOff.{BrokenOff}
+use Rattle.replay.specs.Printed.{terms_of}
+use Rattle.zope.specs.Given.{Scheduled, Stored, most_file, most_input}
+use Rattle.zope.specs.Shelved.{IsLength, IsMissing, IsPresent}
+use Rattle.zope.specs.Stores.{Opens}
+
+-- what the input is refused for; a source that failed has its count
+abbrev pub InputCause : Option (List ℕ) → Type 0 → Refusal → Type 0
+InputCause input failed Refusal.Input = failed
+InputCause input failed Refusal.InputTooLarge = IfSome input (λ text. most_input < length text)
+InputCause input failed (Refusal.BadLine n) = IfSome input (λ text. (length text ≤ most_input) × IsBadAt text n)
+InputCause input failed Refusal.Memory = Unit {0}
+InputCause input failed _ = ⊥
+
+-- what the file is refused for
+abbrev pub FileCause : Option (List Entry) → List ℕ → Type 0 → Refusal → Type 0
+FileCause files name failed Refusal.Missing = IsMissing files name
+FileCause files name failed (Refusal.FileTooLarge n) = (most_file < n) × IsLength files name n
+FileCause files name failed Refusal.Disk = failed × IsPresent files name
+FileCause files name failed (Refusal.Damaged kind place) = (bytes : List ℕ) × Stored files name bytes × (kind ≡ BadMagic) × (place ≡ 0) × ((more : List ℕ) → bytes ≡ magic ++ more → ⊥)
+FileCause files name failed Refusal.NotYet = (bytes : List ℕ) × Stored files name bytes × (bytes ≡ magic ++ drop 4 bytes) × ((front : Front) → IsPlainFile bytes front → ⊥)
+FileCause files name failed Refusal.Memory = Unit {0}
+FileCause files name failed _ = ⊥
+
+-- what bytes that were read may be refused for
+abbrev pub IsOfReading : Refusal → Type 0
+IsOfReading (Refusal.Damaged kind place) = (kind ≡ BadMagic) × (place ≡ 0)
+IsOfReading Refusal.NotYet = Unit {0}
+IsOfReading Refusal.Memory = Unit {0}
+IsOfReading _ = ⊥
+
+-- what the run is broken off for
+abbrev pub RunCause : (ℕ → Type 0) → Type 0 → Refusal → Type 0
+RunCause broken failed Refusal.Output = failed
+RunCause broken failed (Refusal.BadLine n) = broken n
+RunCause broken failed Refusal.Memory = Unit {0}
+RunCause broken failed _ = ⊥
+
+-- the run over that file was broken off at the line of that number
+abbrev pub Broke : StoreView → List Item2 → Option (List ℕ) → Option (List ℕ) → ℕ → Type 0
+Broke s items old new n = BrokenOff (terms_of message_of site s.limit s.end) s.history items n old new
+
+-- The cause of a refusal: of the input, of the file, or of the run. Until the run nothing is written.
+abbrev pub ReplayCause : (name : List ℕ) (limit : ℕ) (files : Option (List Entry)) (input : Option (List ℕ)) (source sink disk : Type 0) (old new : Option (List ℕ)) → Refusal → Type 0
+ReplayCause name limit files input source sink disk old new e =
+    (InputCause input source e × (new ≡ old))
+    ⊎ (((items : List Item2) × Scheduled input items × FileCause files name disk e × (new ≡ old))
+    ⊎ ((items : List Item2) × Scheduled input items × (bytes : List ℕ) × (s : StoreView) × Stored files name bytes × Opens bytes limit s × RunCause (Broke s items old new) sink e))
+
+-- a refusal of a part, as one of the command
+
+abbrev pub of_input : InputRefusal → Refusal
+of_input InputRefusal.TooLarge = Refusal.InputTooLarge
+of_input InputRefusal.Failed = Refusal.Input
+of_input InputRefusal.Memory = Refusal.Memory
+
+abbrev pub of_schedule : ScheduleRefusal → Refusal
+of_schedule (ScheduleRefusal.BadLine n) = Refusal.BadLine n
+of_schedule ScheduleRefusal.Memory = Refusal.Memory
+
+abbrev pub of_file : FileRefusal → Refusal
+of_file FileRefusal.Missing = Refusal.Missing
+of_file (FileRefusal.TooLarge n) = Refusal.FileTooLarge n
+of_file FileRefusal.Disk = Refusal.Disk
+of_file FileRefusal.Memory = Refusal.Memory
+
+abbrev pub of_run : RunRefusal → Refusal
+of_run (RunRefusal.BadLine n) = Refusal.BadLine n
+of_run RunRefusal.Output = Refusal.Output
+of_run RunRefusal.Memory = Refusal.Memory
+
+-- Nothing that a replay looks at is a cause: the file is there, is plain and isn't too long; the input spells a
+-- schedule that isn't too long, each line of which can be run; and no count rose.
+pub record NoReplayCause (name : List ℕ) (limit : ℕ) (files : Option (List Entry)) (input : Option (List ℕ)) (source sink disk : Type 0) : Type 0 where
+  pub entries : List Entry
+  pub shelf : files ≡ Some entries
+  pub bytes : List ℕ
+  pub there : file_at entries name ≡ Some bytes
+  pub fits : length bytes ≤ most_file
+  pub front : Front
+  pub plain : IsPlainFile bytes front
+  pub text : List ℕ
+  pub given : input ≡ Some text
+  pub within : length text ≤ most_input
+  pub items : List Item2
+  pub spells : IsSchedule text items
+  pub arms_nothing : ArmNothing items
+  pub runs : (s : StoreView) (n : ℕ) (old new : Option (List ℕ)) → Opens bytes limit s → Broke s items old new n → ⊥
+  pub source_calm : source → ⊥
+  pub sink_calm : sink → ⊥
+  pub disk_calm : disk → ⊥

@@ -1,0 +1,86 @@
+ghost use Rattle.std.specs.Prelude.{◌≡◌, IsErrOf, MatchResult, OnOk, map, string_bytes};
+ghost use Rattle.std.specs.Io.KnownBytes.{append_known};
+ghost use Rattle.zbase.specs.Faults.{Counts};
+ghost use Rattle.zio.specs.Sinks.{AppendsFront};
+ghost use Rattle.zope.specs.Causes.{Names, kind_number, last_line};
+
+use crate::refusal::Refusal;
+use crate::words::file_words;
+use fs_record::Damage;
+use std::alloc::Global;
+use zio::{OutsideRefusal, Sink};
+
+// The number of a damage.
+fn kind_number(kind: Damage) -> u8
+    ensures { result ≡ kind_number kind }
+{
+    match kind {
+        Damage::BadLength => 2,
+        Damage::BadTid => 3,
+        Damage::BadPrev => 4,
+        Damage::BadBack => 5,
+        Damage::BadStatus => 6,
+        Damage::BadTail => 7,
+        Damage::BadVersion => 8,
+        Damage::BadMagic => 9,
+    }
+}
+
+// Writes the last line that says why. The sink's own fault has none.
+fn put_last_line<K: Sink>(
+    alloc: Global,
+    refusal: Refusal,
+    name: &str,
+    out: &mut K,
+) -> Result<(), OutsideRefusal>
+    ensures ok { OnOk result (K.written out.new ≡ append_known (K.written out.old) (last_line name.now refusal)) }
+    ensures counts { Counts (K.counter out.old) (K.counter out.new) (IsErrOf result OutsideRefusal.Failed) }
+{
+    match refusal {
+        Refusal::NotYet => out.write_all(b"not yet\n"),
+        Refusal::Usage => out.write_all(b"usage\n"),
+        Refusal::Damaged(kind, place) => {
+            let number = kind_number(kind);
+            put_text(format!(in alloc; "damaged {number} at {place}\n"), out)
+        }
+        Refusal::BadLine(line) => put_text(format!(in alloc; "bad line {line}\n"), out),
+        Refusal::Disk => out.write_all(b"disk fault\n"),
+        Refusal::Input => out.write_all(b"input fault\n"),
+        Refusal::Output => Ok(()),
+        Refusal::Memory => out.write_all(b"out of memory\n"),
+        Refusal::Missing => put_text(format!(in alloc; "missing {name}\n"), out),
+        Refusal::InputTooLarge => out.write_all(b"too large 67108864\n"),
+        Refusal::FileTooLarge(size) => put_text(format!(in alloc; "too large {size}\n"), out),
+        Refusal::TooLong(size) => put_text(format!(in alloc; "too long {size}\n"), out),
+    }
+}
+
+/// Writes a text that was made, for which there may be no memory.
+pub fn put_text<E: Drop, K: Sink>(
+    text: Result<String, E>,
+    out: &mut K,
+) -> Result<(), OutsideRefusal>
+    ensures ok { OnOk result (MatchResult text (λ line. K.written out.new ≡ append_known (K.written out.old) (string_bytes line)) (λ _. ⊥)) }
+    ensures failed { IsErrOf result OutsideRefusal.Failed → MatchResult text (λ line. AppendsFront (K.written out.old) (K.written out.new) (string_bytes line)) (λ _. ⊥) }
+    ensures memory { IsErrOf result OutsideRefusal.Memory → K.written out.new ≡ K.written out.old }
+    ensures counts { Counts (K.counter out.old) (K.counter out.new) (IsErrOf result OutsideRefusal.Failed) }
+{
+    match text {
+        Ok(text) => out.write_all(text.as_bytes()),
+        Err(_) => Err(OutsideRefusal::Memory),
+    }
+}
+
+/// Says why a command did not end well, in the words that were given.
+pub fn put_cause<K: Sink>(
+    alloc: Global,
+    refusal: Refusal,
+    words: &[String],
+    out: &mut K,
+) -> Result<(), OutsideRefusal>
+    ensures ok { OnOk result (Names (map string_bytes words.now) refusal (K.written out.old) (K.written out.new)) }
+    ensures counts { Counts (K.counter out.old) (K.counter out.new) (IsErrOf result OutsideRefusal.Failed) }
+{
+    let name = file_words(words).unwrap_or("");
+    put_last_line(alloc, refusal, name, out)
+}
