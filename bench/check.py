@@ -84,4 +84,5 @@ def main():
             print(f"{order} ids: a record of {given.records} costs {many / few:.2f} times one of {given.few}; with the start of the program {many_run / few_run:.2f} times")
 
 
-main()
+if __name__ == "__main__":
+    main()

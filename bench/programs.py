@@ -3,6 +3,7 @@
 Their files end in `.in`, since they are none of the crates that the gate checks.
 """
 
+import os
 import pathlib
 import shutil
 import subprocess
@@ -43,9 +44,14 @@ def scratch(folder, name, uses):
     return crates / name
 
 
+# The C library's allocator keeps what was freed. Else it hands large pieces back to the system and has them anew, and
+# what is measured is the system's work on pages.
+KEEPING = {"MALLOC_MMAP_THRESHOLD_": str(1 << 30), "MALLOC_TRIM_THRESHOLD_": str(1 << 30), "MALLOC_TOP_PAD_": str(1 << 26)}
+
+
 def lines_of(program, *words):
     """What a program prints for these words: each line as its words. Where it doesn't end well, what it said is raised."""
-    done = subprocess.run(["rt", "run", "--", *words], cwd=program, capture_output=True, text=True)
+    done = subprocess.run(["rt", "run", "--", *words], cwd=program, capture_output=True, text=True, env=os.environ | KEEPING)
     if done.returncode:
         raise SystemExit(done.stdout + done.stderr)
     return [line.split() for line in done.stdout.splitlines()]
