@@ -2,6 +2,7 @@ mod Behind
 mod Scanning
 pub mod CopiedValues
 pub mod DataAt
+pub mod KeptPages
 pub mod KeptPlaces
 pub mod OneByOne
 pub mod PlainFiles

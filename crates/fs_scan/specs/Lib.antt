@@ -3,6 +3,7 @@ pub mod Marked
 pub mod Extent
 pub mod Taking
 pub mod Rising
+pub mod Pages
 pub mod Newest
 pub mod Wholes
 pub mod Plain

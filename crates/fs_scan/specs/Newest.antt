@@ -1,7 +1,5 @@
 -- Each object's last data record, and the greatest object id.
 use Rattle.std.specs.Prelude.{◌≡◌, ℕ, ◌+◌, ◌≤◌, ◌==◌, max, List, [], ◌∷◌, find, Option, Some, None, option_map, if◌then◌else◌}
-use Rattle.std.specs.Ordering.{nat_cmp}
-use Rattle.std.specs.BTreeMap.{BTreeMap, get}
 use Rattle.zbase.specs.declared.ids.Row.{Row}
 use Rattle.fs_scan.specs.Rising.{RiseFrom}
 
@@ -38,9 +36,9 @@ abbrev pub place_in : Option ℕ → ℕ
 place_in None = 0
 place_in (Some place) = place
 
--- ---- records by their places, with where each object's last one stands as a map
+-- ---- records by their places, with where each object's last one stands
 
-pub record IsIndex (newest : BTreeMap ℕ ℕ) (greatest : Option ℕ) (rows : List Row) : Type 0 where
-  pub newest_of : (oid : ℕ) → get nat_cmp newest oid ≡ last_row oid None rows
+pub record IsIndex (newest : List Row) (greatest : Option ℕ) (rows : List Row) : Type 0 where
+  pub newest_of : (oid : ℕ) → place_for oid newest ≡ last_row oid None rows
   pub greatest_in : greatest ≡ greatest_of rows
   pub rise : RiseFrom 0 rows

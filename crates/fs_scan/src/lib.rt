@@ -17,6 +17,7 @@ mod magic;
 #[cfg(test)]
 mod naive;
 mod opening;
+mod pages;
 mod places;
 mod plain;
 mod records;

@@ -4,8 +4,8 @@ ghost use Rattle.fs_record.specs.File.{last_place, is_row};
 ghost use Rattle.fs_scan.specs.Newest.{greatest_of, or_greater, AreNewest};
 ghost use Rattle.fs_scan.specs.Rising.{RiseFrom, IsAt, NoneAt, AddsFirst};
 
+use crate::pages::Pages;
 use std::alloc::Global;
-use std::collections::BTreeMap;
 use std::marker::Model;
 use zbase::{Memory, Oid, Row, Rows};
 
@@ -17,7 +17,7 @@ use zbase::{Memory, Oid, Row, Rows};
 pub struct Places {
     rows: Vec<Row>,
     /// Where each object's last record stands.
-    newest: BTreeMap<u64, u64>,
+    newest: Pages,
     /// The greatest id of an object with a record.
     greatest: Option<u64>,
 }
@@ -41,7 +41,7 @@ impl Places {
     {
         Places {
             rows: Vec::new(alloc),
-            newest: BTreeMap::new(alloc),
+            newest: Pages::new(alloc),
             greatest: None,
         }
     }
@@ -55,10 +55,7 @@ impl Places {
     pub fn last_place(&self, oid: Oid) -> u64
         ensures { result ≡ last_place oid 0 self.now }
     {
-        match self.newest.get(&oid.0) {
-            Some(place) => *place,
-            None => 0,
-        }
+        self.newest.get(oid.0).unwrap_or(0)
     }
 
     // The index of the record at this place.
@@ -118,14 +115,7 @@ impl Places {
     pub fn newest(&self) -> Result<Rows, Memory>
         ensures { IfOk result (AreNewest self.now) }
     {
-        let mut rows = Rows::new(self.alloc());
-        for (oid, place) in self.newest.iter() {
-            rows.push(Row {
-                oid: Oid(*oid),
-                place: *place,
-            })?;
-        }
-        Ok(rows)
+        self.newest.rows(self.alloc())
     }
 }
 

@@ -1,3 +1,4 @@
+use crate::pages::Pages;
 use crate::places::Places;
 use crate::step::{Step, take_one};
 use crate::{Checked, PlainRefusal, ScanRefusal, Wholes, check, read_plain_file, scan, scan_bytes};
@@ -333,5 +334,43 @@ fn a_fault_of_the_disk_ends_a_check(rt: HostRuntime) -> Result<(), Fail> {
     let plan = FaultPlan::new(Vec::from_slice(rt.alloc(), &[2])?);
     let mut disk = MemoryDisk::with_faults(bytes, plan);
     assert_eq!(rt; check(rt.alloc(), &mut disk).err(), Some(ScanRefusal::Disk));
+    Ok(())
+}
+
+// Ids at the borders of pages, far apart and falling.
+const FALLING: [u64; 11] = [
+    u64::MAX,
+    u64::MAX - 15,
+    u64::MAX - 16,
+    1 << 40,
+    33,
+    32,
+    31,
+    17,
+    16,
+    15,
+    0,
+];
+
+#[test]
+fn ids_across_pages_keep_their_places(rt: HostRuntime) -> Result<(), Fail> {
+    let mut pages = Pages::new(rt.alloc());
+    for round in 0..2 {
+        for (index, oid) in FALLING.iter().enumerate() {
+            pages.insert(*oid, round * 100 + index as u64)?;
+        }
+    }
+    for (index, oid) in FALLING.iter().enumerate() {
+        assert_eq!(rt; pages.get(*oid), Some(100 + index as u64));
+    }
+    for oid in [1, 14, 18, 30, 34, 47, 48, u64::MAX - 1, u64::MAX - 17] {
+        assert_eq!(rt; pages.get(oid), None);
+    }
+    let rows = pages.rows(rt.alloc())?;
+    assert_eq!(rt; rows.len(), FALLING.len());
+    for (row, oid) in rows.as_slice().iter().rev().zip(FALLING.iter()) {
+        assert_eq!(rt; row.oid.0, *oid);
+        assert_eq!(rt; Some(row.place), pages.get(*oid));
+    }
     Ok(())
 }

@@ -1,10 +1,11 @@
-use Rattle.std.proofs.Common.{ap, ◌∙◌}
+use Rattle.std.proofs.Common.{ℕ, Option, Some, None, ◌≡◌, refl, unwrap_or, ap, ◌∙◌}
 use Rattle.fs_scan.specs.Newest.{place_in}
 use Rattle.fs_scan.proofs.KeptPlaces.{place_told}
 use Rattle.fs_scan.proofs.places.Places.last_place.Goals as goal
 
-pub returns-in-Some : goal.returns-in-Some
-returns-in-Some c = rw (← c.self.view_is, ← c.oid.view_is) (ap place_in c.in-Some.ensures.value ∙ place_told c.self.inside.newest c.self.inside.greatest c.self.inside.rows.items _ c.self.invariant)
+or_none : (found : Option ℕ) → unwrap_or found 0 ≡ place_in found
+or_none None = refl
+or_none (Some place) = refl
 
-pub returns-in-None : goal.returns-in-None
-returns-in-None c = rw (← c.self.view_is, ← c.oid.view_is) (ap place_in c.in-None.ensures.value ∙ place_told c.self.inside.newest c.self.inside.greatest c.self.inside.rows.items _ c.self.invariant)
+pub returns : goal.returns
+returns c = rw (← c.self.view_is, ← c.oid.view_is) (c.unwrap_or.ensures ∙ or_none c.get.result ∙ ap place_in c.get.ensures ∙ place_told c.self.inside.newest c.self.inside.greatest c.self.inside.rows.items _ c.self.invariant)

@@ -9,5 +9,5 @@ invariant_of-self-2 c =
     one_more c.self.inside.newest c.insert.new.self c.self.inside.greatest c.or_greater.result c.self.inside.rows.items c.push.new.self.items c.args.row c.self.invariant
     (c.in-Ok.ensures.items ∙ ap (λ (rows : List Row). rows ++ c.args.row ∷ []) c.in_ok-reserve.ensures.items)
     (rw (← c.row.view_is) c.or_greater.ensures)
-    (rw (← c.row.view_is) c.in_ok-insert.ensures.updates.0)
+    (rw (← c.row.view_is) c.in_ok-insert.ensures.ok)
     (subst (λ (rows : List Row). RiseFrom 0 (rows ++ c.args.row ∷ [])) (sym c.self.view_is) c.requires)

@@ -1,0 +1,185 @@
+-- Objects in pages: what a look-up finds, the order of their ids, and a place put.
+use Rattle.std.proofs.Common.{◌≡◌, ℕ, zero, suc, ◌+◌, ◌*◌, ◌/◌, ◌%◌, ◌<◌, ◌≤◌, ◌^◌, Bool, true, false, Option, Some, None, List, [], ◌∷◌, ◌++◌, length, get_or, take, replicate, refl, sym, ap, subst, ◌∙◌, append_assoc, cond, ltb, eqb, arith}
+use Rattle.std.proofs.Math.ListN.{set}
+use Rattle.std.proofs.Math.Numerals.{add-one}
+use Rattle.std.specs.Prelude.{◌==◌, if◌then◌else◌}
+use Rattle.std.specs.Map.{lookup, set_value}
+use Rattle.std.proofs.lemmas.Bool.{ltb-true, ltb-false, eqb-true, eqb-false, ne_eqb, eq-eqb, false≢true}
+use Rattle.std.proofs.lemmas.Grind.{get_or-set_at}
+use Rattle.std.proofs.lemmas.List.{get_or-set_other, get_or-replicate}
+use Rattle.std.specs.declared.cmp.Ordering.TheVariants.{Less, Equal, Greater}
+use Rattle.std.specs.Ordering.{is_eq, nat_cmp, match_ordering}
+use Rattle.std.specs.BTreeMap.{is_at, insert_entry}
+use Rattle.zbase.specs.declared.ids.Row.{Row}
+use Rattle.fs_scan.specs.Newest.{place_for, OidsRiseFrom}
+use Rattle.fs_scan.specs.Pages.{rows_from, rows_of, PagesRiseFrom}
+
+abbrev pub Page : Type 0
+Page = List (Option ℕ)
+
+-- the place in a slot of a page, if there is a page
+abbrev pub place_on : Option Page → ℕ → Option ℕ
+place_on None slot = None
+place_on (Some page) slot = get_or page slot None
+
+-- ---- a look-up
+
+one_of : (p q : Bool) → (p ≡ true → q ≡ false) → is_eq (cond p Less (cond q Equal Greater)) ≡ q
+one_of true true h = absurd (false≢true (sym (h refl)))
+one_of true false h = refl
+one_of false true h = refl
+one_of false false h = refl
+
+at_same : (a o : ℕ) → is_at (nat_cmp a) o ≡ (a == o)
+at_same a o = one_of (ltb a o) (eqb a o) (λ p. ne_eqb a o (λ e. omega (arith, ltb-true a o p, e)))
+
+-- an id below a page, and one behind it
+below : (oid n : ℕ) (places : Page) (rest : List Row) → oid < n → place_for oid (rows_from n places ++ rest) ≡ place_for oid rest
+below oid n [] rest lt = refl
+below oid n (None ∷ places) rest lt = below oid (n + 1) places rest (omega arith)
+below oid n (Some place ∷ places) rest lt = rw (ne_eqb oid n (λ e. omega (arith, lt, e))) (below oid (n + 1) places rest (omega arith))
+
+behind : (oid n : ℕ) (places : Page) (rest : List Row) → n + length places ≤ oid → place_for oid (rows_from n places ++ rest) ≡ place_for oid rest
+behind oid n [] rest le = refl
+behind oid n (None ∷ places) rest le = behind oid (n + 1) places rest (omega arith)
+behind oid n (Some place ∷ places) rest le = rw (ne_eqb oid n (λ e. omega (arith, le, e))) (behind oid (n + 1) places rest (omega arith))
+
+-- an id of a page, of which nothing else speaks
+within : (oid n slot : ℕ) (places : Page) (rest : List Row) → n + slot ≡ oid → slot < length places → place_for oid rest ≡ None → place_for oid (rows_from n places ++ rest) ≡ get_or places slot None
+within oid n slot [] rest at lt none = absurd (omega arith)
+within oid n zero (None ∷ places) rest at lt none = below oid (n + 1) places rest (omega arith) ∙ none
+within oid n zero (Some place ∷ places) rest at lt none = rw (eq-eqb oid n (omega arith)) refl
+within oid n (suc slot) (None ∷ places) rest at lt none = within oid (n + 1) slot places rest (omega arith) (omega arith) none
+within oid n (suc slot) (Some place ∷ places) rest at lt none = rw (ne_eqb oid n (λ e. omega (arith, at, e))) (within oid (n + 1) slot places rest (omega arith) (omega arith) none)
+
+unreached : (m oid : ℕ) (pages : List (ℕ × Page)) → PagesRiseFrom m pages → oid < m * 16 → place_for oid (rows_of pages) ≡ None
+unreached m oid [] rise lt = refl
+unreached m oid (page ∷ pages) rise lt = below oid (page.0 * 16) page.1 (rows_of pages) (omega (arith, rise.0)) ∙ unreached (page.0 + 1) oid pages rise.3 (omega (arith, rise.0))
+
+first_shown : (t : Bool) (oid : ℕ) (page : ℕ × Page) (pages : List (ℕ × Page)) (others : Option Page) → (oid / 16 == page.0) ≡ t → length page.1 ≡ 16 → PagesRiseFrom (page.0 + 1) pages → place_for oid (rows_of pages) ≡ place_on others (oid % 16) → place_for oid (rows_of (page ∷ pages)) ≡ place_on (cond t (Some page.1) others) (oid % 16)
+first_shown true oid page pages others is long rise rest =
+    let e : oid / 16 ≡ page.0 = eqb-true (oid / 16) page.0 is in
+    within oid (page.0 * 16) (oid % 16) page.1 (rows_of pages) (omega arith) (omega arith) (unreached (page.0 + 1) oid pages rise (omega arith))
+first_shown false oid page pages others is long rise rest = outside (ltb oid (page.0 * 16)) refl ∙ rest
+  where
+    outside : (u : Bool) → ltb oid (page.0 * 16) ≡ u → place_for oid (rows_of (page ∷ pages)) ≡ place_for oid (rows_of pages)
+    outside true lt = below oid (page.0 * 16) page.1 (rows_of pages) (ltb-true oid (page.0 * 16) lt)
+    outside false lt = behind oid (page.0 * 16) page.1 (rows_of pages) (omega (arith, eqb-false (oid / 16) page.0 is, ltb-false oid (page.0 * 16) lt, long))
+
+pub shown : (m oid : ℕ) (pages : List (ℕ × Page)) → PagesRiseFrom m pages → place_for oid (rows_of pages) ≡ place_on (lookup (is_at (nat_cmp (oid / 16))) pages) (oid % 16)
+shown m oid [] rise = refl
+shown m oid (page ∷ pages) rise =
+    first_shown (oid / 16 == page.0) oid page pages (lookup (is_at (nat_cmp (oid / 16))) pages) refl rise.2 rise.3 (shown (page.0 + 1) oid pages rise.3)
+    ∙ ap (λ (t : Bool). place_on (cond t (Some page.1) (lookup (is_at (nat_cmp (oid / 16))) pages)) (oid % 16)) (sym (at_same (oid / 16) page.0))
+
+long_if : (t : Bool) (page first : Page) (others : Option Page) → Some page ≡ cond t (Some first) others → length first ≡ 16 → (Some page ≡ others → length page ≡ 16) → length page ≡ 16
+long_if true page first others is long rest = let e : page ≡ first = cc in ap length e ∙ long
+long_if false page first others is long rest = rest is
+
+-- a page that was found has sixteen places
+pub long_found : (m : ℕ) (test : ℕ → Bool) (page : Page) (pages : List (ℕ × Page)) → PagesRiseFrom m pages → Some page ≡ lookup test pages → length page ≡ 16
+long_found m test page [] rise is = absurd cc
+long_found m test page (first ∷ pages) rise is = long_if (test first.0) page first.1 (lookup test pages) is rise.2 (long_found (first.0 + 1) test page pages rise.3)
+
+-- ---- ids rise
+
+weaker : (m n : ℕ) (rows : List Row) → m ≤ n → OidsRiseFrom n rows → OidsRiseFrom m rows
+weaker m n [] le rise = tt
+weaker m n (row ∷ rows) le rise = (omega (arith, rise.0), rise.1)
+
+page_rises : (n : ℕ) (places : Page) (rest : List Row) → OidsRiseFrom (n + length places) rest → OidsRiseFrom n (rows_from n places ++ rest)
+page_rises n [] rest rise = weaker n _ rest (omega arith) rise
+page_rises n (None ∷ places) rest rise = weaker n (n + 1) (rows_from (n + 1) places ++ rest) (omega arith) (page_rises (n + 1) places rest (weaker _ _ rest (omega arith) rise))
+page_rises n (Some place ∷ places) rest rise = (omega arith, page_rises (n + 1) places rest (weaker _ _ rest (omega arith) rise))
+
+pub pages_rise : (m : ℕ) (pages : List (ℕ × Page)) → PagesRiseFrom m pages → OidsRiseFrom (m * 16) (rows_of pages)
+pages_rise m [] rise = tt
+pages_rise m (page ∷ pages) rise =
+    let rest = weaker (page.0 * 16 + length page.1) ((page.0 + 1) * 16) (rows_of pages) (omega (arith, rise.2)) (pages_rise (page.0 + 1) pages rise.3) in
+    weaker (m * 16) (page.0 * 16) (rows_of (page ∷ pages)) (omega (arith, rise.0)) (page_rises (page.0 * 16) page.1 (rows_of pages) rest)
+
+-- ---- a page put
+
+first_put : (p q : Bool) (m number : ℕ) (put : Page) (page : ℕ × Page) (pages after : List (ℕ × Page)) → ltb number page.0 ≡ p → eqb number page.0 ≡ q → PagesRiseFrom m (page ∷ pages) → m ≤ number → number < 2 ^ 60 → length put ≡ 16 → (page.0 + 1 ≤ number → PagesRiseFrom (page.0 + 1) after) → PagesRiseFrom m (match_ordering (cond p Less (cond q Equal Greater)) ((number, put) ∷ page ∷ pages) ((page.0, put) ∷ pages) (page ∷ after))
+first_put true q m number put page pages after lt eq rise le fits long rest = (le, fits, long, (omega (arith, ltb-true number page.0 lt), rise.1, rise.2, rise.3))
+first_put false true m number put page pages after lt eq rise le fits long rest = (rise.0, rise.1, long, rise.3)
+first_put false false m number put page pages after lt eq rise le fits long rest = (rise.0, rise.1, rise.2, rest (omega (arith, ltb-false number page.0 lt, eqb-false number page.0 eq)))
+
+pub put_rises : (m number : ℕ) (put : Page) (pages : List (ℕ × Page)) → PagesRiseFrom m pages → m ≤ number → number < 2 ^ 60 → length put ≡ 16 → PagesRiseFrom m (insert_entry nat_cmp pages number put)
+put_rises m number put [] rise le fits long = (le, fits, long, tt)
+put_rises m number put (page ∷ pages) rise le fits long = first_put (ltb number page.0) (eqb number page.0) m number put page pages (insert_entry nat_cmp pages number put) refl refl rise le fits long (λ from. put_rises (page.0 + 1) number put pages rise.3 from fits long)
+
+first_set : (t : Bool) (m : ℕ) (put : Page) (page : ℕ × Page) (pages after : List (ℕ × Page)) → PagesRiseFrom m (page ∷ pages) → length put ≡ 16 → PagesRiseFrom (page.0 + 1) after → PagesRiseFrom m (cond t ((page.0, put) ∷ pages) (page ∷ after))
+first_set true m put page pages after rise long rest = (rise.0, rise.1, long, rise.3)
+first_set false m put page pages after rise long rest = (rise.0, rise.1, rise.2, rest)
+
+pub set_rises : (m : ℕ) (test : ℕ → Bool) (put : Page) (pages : List (ℕ × Page)) → PagesRiseFrom m pages → length put ≡ 16 → PagesRiseFrom m (set_value test pages put)
+set_rises m test put [] rise long = tt
+set_rises m test put (page ∷ pages) rise long = first_set (test page.0) m put page pages (set_value test pages put) rise long (set_rises (page.0 + 1) test put pages rise.3 long)
+
+-- ---- a place put
+
+-- of the ids of one page
+same_page : (t : Bool) (oid place other : ℕ) (page : Page) → (oid % 16 == other % 16) ≡ t → oid / 16 ≡ other / 16 → length page ≡ 16 → get_or (set page (oid % 16) (Some place)) (other % 16) None ≡ (if oid == other then Some place else get_or page (other % 16) None)
+same_page true oid place other page is same long =
+    let e : oid ≡ other = omega (arith, eqb-true (oid % 16) (other % 16) is) in
+    rw (eq-eqb oid other e) (get_or-set_at page (oid % 16) (other % 16) (Some place) None (omega arith) (omega arith))
+same_page false oid place other page is same long =
+    rw (ne_eqb oid other (λ e. eqb-false (oid % 16) (other % 16) is (ap (λ (n : ℕ). n % 16) e)))
+    (get_or-set_other page (oid % 16) (other % 16) (Some place) None (λ e. eqb-false (oid % 16) (other % 16) is (sym e)))
+
+one_put : (t : Bool) (oid place other : ℕ) (page : Page) (before : ℕ → Option Page) → (oid / 16 == other / 16) ≡ t → length page ≡ 16 → ((slot : ℕ) → slot < 16 → place_on (before (oid / 16)) slot ≡ get_or page slot None) → place_on (cond t (Some (set page (oid % 16) (Some place))) (before (other / 16))) (other % 16) ≡ (if oid == other then Some place else place_on (before (other / 16)) (other % 16))
+one_put true oid place other page before is long was =
+    let e : oid / 16 ≡ other / 16 = eqb-true (oid / 16) (other / 16) is in
+    same_page (oid % 16 == other % 16) oid place other page refl e long
+    ∙ ap (λ (f : Option ℕ). if oid == other then Some place else f) (sym (was (other % 16) (omega arith)) ∙ ap (λ (number : ℕ). place_on (before number) (other % 16)) e)
+one_put false oid place other page before is long was = rw (ne_eqb oid other (λ e. eqb-false (oid / 16) (other / 16) is (ap (λ (n : ℕ). n / 16) e))) refl
+
+pub all_put : (oid place : ℕ) (page : Page) (before after : List (ℕ × Page)) → PagesRiseFrom 0 before → PagesRiseFrom 0 after → length page ≡ 16 → ((slot : ℕ) → slot < 16 → place_on (lookup (is_at (nat_cmp (oid / 16))) before) slot ≡ get_or page slot None) → ((number : ℕ) → lookup (is_at (nat_cmp number)) after ≡ cond (is_at (nat_cmp (oid / 16)) number) (Some (set page (oid % 16) (Some place))) (lookup (is_at (nat_cmp number)) before)) → (other : ℕ) → place_for other (rows_of after) ≡ (if oid == other then Some place else place_for other (rows_of before))
+all_put oid place page before after rise risen long was put other =
+    shown 0 other after risen
+    ∙ ap (λ (f : Option Page). place_on f (other % 16)) (put (other / 16))
+    ∙ ap (λ (t : Bool). place_on (cond t (Some (set page (oid % 16) (Some place))) (lookup (is_at (nat_cmp (other / 16))) before)) (other % 16)) (at_same (oid / 16) (other / 16))
+    ∙ one_put (oid / 16 == other / 16) oid place other page (λ number. lookup (is_at (nat_cmp number)) before) refl long was
+    ∙ ap (λ (f : Option ℕ). if oid == other then Some place else f) (sym (shown 0 other before rise))
+
+abbrev pub empty_page : Page
+empty_page = replicate 16 None
+
+pub in_empty : (found : Option Page) (slot : ℕ) → slot < 16 → None ≡ found → place_on found slot ≡ get_or empty_page slot None
+in_empty found slot lt none = ap (λ (f : Option Page). place_on f slot) (sym none) ∙ sym (get_or-replicate 16 slot None None lt)
+
+-- ---- loops over a page and over the pages
+
+abbrev pub row_if : ℕ → Option ℕ → List Row
+row_if oid None = []
+row_if oid (Some place) = record { oid = oid; place = place } ∷ []
+
+rows_from-more : (n slot oid : ℕ) (places : Page) → n + slot ≡ oid → slot < length places → rows_from n (take (suc slot) places) ≡ rows_from n (take slot places) ++ row_if oid (get_or places slot None)
+rows_from-more n slot oid [] at lt = absurd (omega arith)
+rows_from-more n zero oid (None ∷ places) at lt = refl
+rows_from-more n zero oid (Some place ∷ places) at lt = let e : n ≡ oid = omega arith in ap (λ (o : ℕ). record { oid = o; place = place } ∷ []) e
+rows_from-more n (suc slot) oid (None ∷ places) at lt = rows_from-more (n + 1) slot oid places (omega arith) (omega arith)
+rows_from-more n (suc slot) oid (Some place ∷ places) at lt = ap (λ (rows : List Row). record { oid = n; place = place } ∷ rows) (rows_from-more (n + 1) slot oid places (omega arith) (omega arith))
+
+weaker_pages : (m n : ℕ) (pages : List (ℕ × Page)) → m ≤ n → PagesRiseFrom n pages → PagesRiseFrom m pages
+weaker_pages m n [] le rise = tt
+weaker_pages m n (page ∷ pages) le rise = (omega (arith, rise.0), rise.1, rise.2, rise.3)
+
+pub one_added : (n slot oid : ℕ) (places : Page) (old rows after : List Row) → n + slot ≡ oid → slot < length places → rows ≡ old ++ rows_from n (take slot places) → after ≡ rows ++ row_if oid (get_or places slot None) → after ≡ old ++ rows_from n (take (slot + 1) places)
+one_added n slot oid places old rows after at lt so added =
+    added
+    ∙ ap (λ (r : List Row). r ++ row_if oid (get_or places slot None)) so
+    ∙ append_assoc old (rows_from n (take slot places)) (row_if oid (get_or places slot None))
+    ∙ ap (λ (r : List Row). old ++ r) (sym (rows_from-more n slot oid places at lt))
+    ∙ ap (λ (k : ℕ). old ++ rows_from n (take k places)) (sym (add-one slot))
+
+pub page_added : (rows after : List Row) (pages rest all : List (ℕ × Page)) (page : ℕ × Page) → rows ++ rows_of pages ≡ rows_of all → pages ≡ page ∷ rest → after ≡ rows ++ rows_from (page.0 * 16) page.1 → after ++ rows_of rest ≡ rows_of all
+page_added rows after pages rest all page so next added =
+    ap (λ (r : List Row). r ++ rows_of rest) added
+    ∙ append_assoc rows (rows_from (page.0 * 16) page.1) (rows_of rest)
+    ∙ ap (λ (ps : List (ℕ × Page)). rows ++ rows_of ps) (sym next)
+    ∙ so
+
+pub others_rise : (pages rest : List (ℕ × Page)) (page : ℕ × Page) → pages ≡ page ∷ rest → PagesRiseFrom 0 pages → PagesRiseFrom 0 rest
+others_rise pages rest page next rise = weaker_pages 0 (page.0 + 1) rest (omega arith) (subst (PagesRiseFrom 0) next rise).3
