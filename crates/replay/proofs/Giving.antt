@@ -1,5 +1,5 @@
 -- What a core shows of an item, from its one moment to its next.
-use Rattle.std.proofs.Common.{◌≡◌, ◌≤◌, ◌⊎◌, ℕ, zero, suc, List, [], ◌∷◌, Option, Some, None, refl, subst, map, slice_get, length, sym, ap, ◌∙◌, inl, inr, arith}
+use Rattle.std.proofs.Common.{◌≡◌, ◌≤◌, ◌⊎◌, ℕ, zero, suc, List, [], ◌∷◌, Option, Some, None, refl, subst, map, slice_get, length, ap, inl, inr, arith}
 use Rattle.std.proofs.lemmas.Option.{slice_get_within}
 use Rattle.evaluator.specs.declared.draft.Draft.{Draft}
 use Rattle.evaluator.specs.declared.reply.Reply.{Reply}
@@ -8,7 +8,7 @@ use Rattle.schedule.specs.declared.item.Item2.{Item2}
 use Rattle.schedule.specs.declared.line.Line.{Line}
 use Rattle.schedule.specs.Courses.{Happens}
 use Rattle.schedule.specs.Follows.{Follows}
-use Rattle.schedule.specs.Moments.{Attempt, Terms, Moment, Doing, Free, clocked, doing}
+use Rattle.schedule.specs.Moments.{Attempt, Terms, Moment, Free, clocked}
 use Rattle.replay.specs.BrokenOff.{CannotRun}
 use Rattle.txn_core.specs.Cores.{CoreView, IsIdle, MayBe}
 use Rattle.txn_core.specs.declared.slot.Slot.{Slot}

@@ -1,17 +1,14 @@
 -- Shown objects are put in order by a map, and printed from it.
-use Rattle.std.proofs.Common.{◌≡◌, ◌≢◌, ℕ, zero, suc, ◌+◌, ◌<◌, Bool, true, false, cond, List, [], ◌∷◌, ◌++◌, Option, refl, sym, ap, ◌∙◌, subst, arith, length, get_or, drop, map, AllPairs, append_assoc, append-nil, ltb, eqb, ne_eqb}
+use Rattle.std.proofs.Common.{◌≡◌, ◌≢◌, ℕ, zero, suc, ◌+◌, ◌<◌, Bool, true, false, List, [], ◌∷◌, ◌++◌, refl, sym, ap, ◌∙◌, arith, length, get_or, drop, map, AllPairs, append_assoc, append-nil, ltb, ne_eqb}
 use Rattle.std.specs.Prelude.{nat_lt, if◌then◌else◌}
 use Rattle.std.specs.List.{AllByRecursion}
 use Rattle.std.specs.BTreeMap.{insert_entry}
 use Rattle.std.specs.Ordering.{nat_cmp}
-use Rattle.std.proofs.lemmas.Bool.Decides.{nat_tests}
 use Rattle.std.proofs.lemmas.List.{drop_more}
 use Rattle.evaluator.specs.declared.reply.Shown.{Shown}
 use Rattle.schedule.specs.declared.line.Line.{Line}
 use Rattle.schedule.specs.Causes.{by_oid, placed}
 use Rattle.replay.specs.ShownInOrder.{entry_of, shown_line}
-use Rattle.replay.specs.Printed.{Prints}
-use Rattle.replay.proofs.PrintSteps.{prints_then}
 
 abbrev Differs : Shown → Shown → Type 0
 Differs s t = s.oid ≢ t.oid

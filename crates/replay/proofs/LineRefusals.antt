@@ -1,5 +1,5 @@
 -- A refusal of the outside names no line, and is a fault of the sink where it was one.
-use Rattle.std.proofs.Common.{◌≡◌, ℕ, Result, Err, refl}
+use Rattle.std.proofs.Common.{◌≡◌, ℕ, Result, Err}
 use Rattle.std.specs.Prelude.{IsErrOf}
 use Rattle.zbase.specs.Faults.{Counter, Counts, counts_as}
 use Rattle.zio.specs.declared.refusal.OutsideRefusal.{OutsideRefusal}

@@ -1,10 +1,10 @@
 -- The lines of lost requests, by the slots of a core and by marks.
-use Rattle.std.proofs.Common.{◌≡◌, ℕ, ◌+◌, ◌<◌, Bool, true, false, List, [], ◌∷◌, ◌++◌, Option, Some, None, refl, sym, ap, ◌∙◌, map, drop, get_or, length, append_assoc}
+use Rattle.std.proofs.Common.{◌≡◌, ℕ, ◌+◌, ◌<◌, Bool, false, List, [], ◌∷◌, ◌++◌, Option, Some, None, refl, sym, ap, ◌∙◌, map, drop, get_or, length, append_assoc}
 use Rattle.std.specs.List.{enumerate_from, filter_map}
 use Rattle.std.proofs.lemmas.List.{drop_more}
 use Rattle.evaluator.specs.Exec.{Eval}
 use Rattle.schedule.specs.declared.line.Line.{Line}
-use Rattle.schedule.specs.Moments.{Doing, clocked, lost_line, lost_lines}
+use Rattle.schedule.specs.Moments.{clocked, lost_line, lost_lines}
 use Rattle.fs_store.specs.Stores.{StoreView}
 use Rattle.connection.specs.States.{ActiveView}
 use Rattle.txn_core.specs.declared.slot.Slot.{Slot}

@@ -1,5 +1,5 @@
 -- What the loop kept, with the lines before and behind it, is a report that the schedule may have.
-use Rattle.std.proofs.Common.{◌≡◌, ℕ, List, [], ◌∷◌, ◌++◌, Option, Some, None, refl, sym, ap, ◌∙◌, subst, append_assoc, IsSome, map, replicate}
+use Rattle.std.proofs.Common.{◌≡◌, ℕ, List, [], ◌∷◌, ◌++◌, Option, None, refl, sym, ap, ◌∙◌, subst, append_assoc, IsSome, map}
 use Rattle.zbase.specs.History.{History, IsHistory}
 use Rattle.evaluator.specs.Exec.{Eval, IsLawful}
 use Rattle.schedule.specs.declared.item.Item2.{Item2}
@@ -8,7 +8,7 @@ use Rattle.schedule.specs.Armed.{Queue, IsArmed}
 use Rattle.schedule.specs.CourseLaws.{RanCalm}
 use Rattle.schedule.specs.Courses.{Place, Course, items_of}
 use Rattle.schedule.specs.Explained.{history_lines, report, Explained}
-use Rattle.schedule.specs.Moments.{Terms, Doing, Free, Vote, Moment, clocked, start, lost_lines}
+use Rattle.schedule.specs.Moments.{Terms, Doing, Vote, Moment, clocked, start, lost_lines}
 use Rattle.txn_core.specs.Cores.{CoreView, IsAtRest}
 use Rattle.txn_core.specs.Slots.{doing_of, moment_of, vote_of}
 use Rattle.replay.specs.Printed.{Prints, PrintsReport, closing, opening, terms_of}

@@ -5,7 +5,6 @@ use Rattle.std.specs.Option.{option_map}
 use Rattle.zdisk.specs.Disk.{Told, content, synced}
 use Rattle.zio.specs.Shelves.{Entry, file_at}
 use Rattle.fs_record.specs.declared.damage.Damage.{Damage}
-use Rattle.fs_record.specs.declared.damage.Damage.TheVariants.{BadMagic}
 use Rattle.fs_record.specs.File.{Front, magic}
 use Rattle.fs_record.specs.Opening.{Damaged}
 use Rattle.fs_scan.specs.Plain.{IsPlainFile}

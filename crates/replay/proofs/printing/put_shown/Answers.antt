@@ -3,7 +3,6 @@ use Rattle.zbase.specs.Faults.{counts_as, counts_then}
 use Rattle.schedule.specs.declared.line.Line.{Line}
 use Rattle.schedule.specs.Causes.{by_oid}
 use Rattle.replay.specs.Printed.{Prints}
-use Rattle.replay.specs.ShownInOrder.{entry_of}
 use Rattle.replay.proofs.InOrder.{all_lines, line_in, lines_in_order, one_line_more}
 use Rattle.replay.proofs.PrintSteps.{prints_then}
 use Rattle.replay.proofs.printing.put_shown.Goals as goal

@@ -1,4 +1,4 @@
-use Rattle.std.proofs.Common.{◌∷◌, [], ◌++◌}
+use Rattle.std.proofs.Common.{◌∷◌, []}
 use Rattle.evaluator.specs.declared.reply.Mark.{Mark}
 use Rattle.http_out.specs.Replies.{answer}
 use Rattle.schedule.specs.declared.line.Line.{Line}

@@ -1,4 +1,4 @@
-use Rattle.std.proofs.Common.{◌≡◌, ◌∙◌, ℕ, sym, ap, inr, Some, None}
+use Rattle.std.proofs.Common.{◌≡◌, ◌∙◌, sym, ap, inr, Some}
 use Rattle.schedule.specs.declared.item.Item2.{Item2}
 use Rattle.replay.specs.Printed.{terms_of}
 use Rattle.replay.proofs.Giving.{happens, not_idle}

@@ -1,8 +1,6 @@
-use Rattle.std.proofs.Common.{◌≡◌, ◌∙◌, ◌∷◌, ◌++◌, [], sym, ap, subst, refl, List}
+use Rattle.std.proofs.Common.{◌≡◌, ap, refl}
 use Rattle.std.proofs.lemmas.Result.{err_from_is_err_and}
 use Rattle.zbase.specs.Faults.{counts_as, counts_then}
-use Rattle.schedule.specs.declared.line.Line.{Line}
-use Rattle.schedule.specs.Explained.{history_lines}
 use Rattle.schedule.specs.Moments.{clocked}
 use Rattle.fs_store.specs.Stores.{StoreView}
 use Rattle.txn_core.specs.Slots.{moment_of}

@@ -1,4 +1,4 @@
-use Rattle.std.proofs.Common.{rules, refl}
+use Rattle.std.proofs.Common.{rules}
 use Rattle.std.specs.Prelude.{string_bytes}
 use Rattle.zope.proofs.LastLines.{front_is, put_is}
 use Rattle.zope.proofs.checking.put_numbers.Goals as goal

@@ -1,4 +1,4 @@
-use Rattle.std.proofs.Common.{rules, ◌≡◌, [], ◌∷◌, map}
+use Rattle.std.proofs.Common.{rules, ◌≡◌, [], ◌∷◌}
 use Rattle.std.specs.Prelude.{codes, string_bytes}
 use Rattle.zope.proofs.LimitWords.{empty, two_words}
 use Rattle.zope.proofs.words.limit_words.Goals as goal
