@@ -79,7 +79,9 @@ def main():
                 seconds, memory = best_check(path, records, end, rounds)
                 digest = min(timed(["sha1sum", path], out=subprocess.DEVNULL)[0] for _ in range(given.rounds))
                 a_record[records] = (seconds - started) / records, seconds / records
-                print(f"{order} ids, {records} records, {end} bytes: {seconds:.4f} s, sha1sum {digest:.4f} s, ratio {seconds / digest:.2f}, memory {memory / end:.2f} times the file")
+                print(f"{order} ids, {records} records, {end} bytes: {seconds:.4f} s, sha1sum {digest:.4f} s, ratio {seconds / digest:.2f}")
+            # a child's greatest memory counts what it had of this process, which for the small file is more
+            print(f"{order} ids: memory {memory / end:.2f} times the file")
             (few, few_run), (many, many_run) = a_record[given.few], a_record[given.records]
             print(f"{order} ids: a record of {given.records} costs {many / few:.2f} times one of {given.few}; with the start of the program {many_run / few_run:.2f} times")
 
