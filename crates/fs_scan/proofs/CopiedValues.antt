@@ -75,7 +75,7 @@ behind_head n size rest e = rw e (drop-take 42 n rest)
 same_pair : (o o' : ℕ) (v v' : Value) → o ≡ o' → v ≡ v' → pair_of o v ≡ pair_of o' v'
 same_pair o o' v v' a b = cc
 
-one_more : (values : List OidValue) (v : OidValue) (ds : List Data) (d : Data) (earlier : List Earlier) → records_in values ≡ values_of earlier ds → v.oid ≡ d.oid → v.value ≡ value_of earlier d.body → records_in (values ++ v ∷ []) ≡ values_of earlier (ds ++ d ∷ [])
+pub one_more : (values : List OidValue) (v : OidValue) (ds : List Data) (d : Data) (earlier : List Earlier) → records_in values ≡ values_of earlier ds → v.oid ≡ d.oid → v.value ≡ value_of earlier d.body → records_in (values ++ v ∷ []) ≡ values_of earlier (ds ++ d ∷ [])
 unfolding pair_of
 one_more values v ds d earlier e o x =
     map-append (λ (w : OidValue). (w.oid, w.value)) values (v ∷ [])

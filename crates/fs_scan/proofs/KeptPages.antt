@@ -52,32 +52,32 @@ within oid n zero (Some place ∷ places) rest at lt none = rw (eq-eqb oid n (om
 within oid n (suc slot) (None ∷ places) rest at lt none = within oid (n + 1) slot places rest (omega arith) (omega arith) none
 within oid n (suc slot) (Some place ∷ places) rest at lt none = rw (ne_eqb oid n (λ e. omega (arith, at, e))) (within oid (n + 1) slot places rest (omega arith) (omega arith) none)
 
-unreached : (m oid : ℕ) (pages : List (ℕ × Page)) → PagesRiseFrom m pages → oid < m * 16 → place_for oid (rows_of pages) ≡ None
+unreached : (m oid : ℕ) (pages : List (ℕ × Page)) → PagesRiseFrom m pages → oid < m * 64 → place_for oid (rows_of pages) ≡ None
 unreached m oid [] rise lt = refl
-unreached m oid (page ∷ pages) rise lt = below oid (page.0 * 16) page.1 (rows_of pages) (omega (arith, rise.0)) ∙ unreached (page.0 + 1) oid pages rise.3 (omega (arith, rise.0))
+unreached m oid (page ∷ pages) rise lt = below oid (page.0 * 64) page.1 (rows_of pages) (omega (arith, rise.0)) ∙ unreached (page.0 + 1) oid pages rise.3 (omega (arith, rise.0))
 
-first_shown : (t : Bool) (oid : ℕ) (page : ℕ × Page) (pages : List (ℕ × Page)) (others : Option Page) → (oid / 16 == page.0) ≡ t → length page.1 ≡ 16 → PagesRiseFrom (page.0 + 1) pages → place_for oid (rows_of pages) ≡ place_on others (oid % 16) → place_for oid (rows_of (page ∷ pages)) ≡ place_on (cond t (Some page.1) others) (oid % 16)
+first_shown : (t : Bool) (oid : ℕ) (page : ℕ × Page) (pages : List (ℕ × Page)) (others : Option Page) → (oid / 64 == page.0) ≡ t → length page.1 ≡ 64 → PagesRiseFrom (page.0 + 1) pages → place_for oid (rows_of pages) ≡ place_on others (oid % 64) → place_for oid (rows_of (page ∷ pages)) ≡ place_on (cond t (Some page.1) others) (oid % 64)
 first_shown true oid page pages others is long rise rest =
-    let e : oid / 16 ≡ page.0 = eqb-true (oid / 16) page.0 is in
-    within oid (page.0 * 16) (oid % 16) page.1 (rows_of pages) (omega arith) (omega arith) (unreached (page.0 + 1) oid pages rise (omega arith))
-first_shown false oid page pages others is long rise rest = outside (ltb oid (page.0 * 16)) refl ∙ rest
+    let e : oid / 64 ≡ page.0 = eqb-true (oid / 64) page.0 is in
+    within oid (page.0 * 64) (oid % 64) page.1 (rows_of pages) (omega arith) (omega arith) (unreached (page.0 + 1) oid pages rise (omega arith))
+first_shown false oid page pages others is long rise rest = outside (ltb oid (page.0 * 64)) refl ∙ rest
   where
-    outside : (u : Bool) → ltb oid (page.0 * 16) ≡ u → place_for oid (rows_of (page ∷ pages)) ≡ place_for oid (rows_of pages)
-    outside true lt = below oid (page.0 * 16) page.1 (rows_of pages) (ltb-true oid (page.0 * 16) lt)
-    outside false lt = behind oid (page.0 * 16) page.1 (rows_of pages) (omega (arith, eqb-false (oid / 16) page.0 is, ltb-false oid (page.0 * 16) lt, long))
+    outside : (u : Bool) → ltb oid (page.0 * 64) ≡ u → place_for oid (rows_of (page ∷ pages)) ≡ place_for oid (rows_of pages)
+    outside true lt = below oid (page.0 * 64) page.1 (rows_of pages) (ltb-true oid (page.0 * 64) lt)
+    outside false lt = behind oid (page.0 * 64) page.1 (rows_of pages) (omega (arith, eqb-false (oid / 64) page.0 is, ltb-false oid (page.0 * 64) lt, long))
 
-pub shown : (m oid : ℕ) (pages : List (ℕ × Page)) → PagesRiseFrom m pages → place_for oid (rows_of pages) ≡ place_on (lookup (is_at (nat_cmp (oid / 16))) pages) (oid % 16)
+pub shown : (m oid : ℕ) (pages : List (ℕ × Page)) → PagesRiseFrom m pages → place_for oid (rows_of pages) ≡ place_on (lookup (is_at (nat_cmp (oid / 64))) pages) (oid % 64)
 shown m oid [] rise = refl
 shown m oid (page ∷ pages) rise =
-    first_shown (oid / 16 == page.0) oid page pages (lookup (is_at (nat_cmp (oid / 16))) pages) refl rise.2 rise.3 (shown (page.0 + 1) oid pages rise.3)
-    ∙ ap (λ (t : Bool). place_on (cond t (Some page.1) (lookup (is_at (nat_cmp (oid / 16))) pages)) (oid % 16)) (sym (at_same (oid / 16) page.0))
+    first_shown (oid / 64 == page.0) oid page pages (lookup (is_at (nat_cmp (oid / 64))) pages) refl rise.2 rise.3 (shown (page.0 + 1) oid pages rise.3)
+    ∙ ap (λ (t : Bool). place_on (cond t (Some page.1) (lookup (is_at (nat_cmp (oid / 64))) pages)) (oid % 64)) (sym (at_same (oid / 64) page.0))
 
-long_if : (t : Bool) (page first : Page) (others : Option Page) → Some page ≡ cond t (Some first) others → length first ≡ 16 → (Some page ≡ others → length page ≡ 16) → length page ≡ 16
+long_if : (t : Bool) (page first : Page) (others : Option Page) → Some page ≡ cond t (Some first) others → length first ≡ 64 → (Some page ≡ others → length page ≡ 64) → length page ≡ 64
 long_if true page first others is long rest = let e : page ≡ first = cc in ap length e ∙ long
 long_if false page first others is long rest = rest is
 
--- a page that was found has sixteen places
-pub long_found : (m : ℕ) (test : ℕ → Bool) (page : Page) (pages : List (ℕ × Page)) → PagesRiseFrom m pages → Some page ≡ lookup test pages → length page ≡ 16
+-- a page that was found has sixty-four places
+pub long_found : (m : ℕ) (test : ℕ → Bool) (page : Page) (pages : List (ℕ × Page)) → PagesRiseFrom m pages → Some page ≡ lookup test pages → length page ≡ 64
 long_found m test page [] rise is = absurd cc
 long_found m test page (first ∷ pages) rise is = long_if (test first.0) page first.1 (lookup test pages) is rise.2 (long_found (first.0 + 1) test page pages rise.3)
 
@@ -92,62 +92,62 @@ page_rises n [] rest rise = weaker n _ rest (omega arith) rise
 page_rises n (None ∷ places) rest rise = weaker n (n + 1) (rows_from (n + 1) places ++ rest) (omega arith) (page_rises (n + 1) places rest (weaker _ _ rest (omega arith) rise))
 page_rises n (Some place ∷ places) rest rise = (omega arith, page_rises (n + 1) places rest (weaker _ _ rest (omega arith) rise))
 
-pub pages_rise : (m : ℕ) (pages : List (ℕ × Page)) → PagesRiseFrom m pages → OidsRiseFrom (m * 16) (rows_of pages)
+pub pages_rise : (m : ℕ) (pages : List (ℕ × Page)) → PagesRiseFrom m pages → OidsRiseFrom (m * 64) (rows_of pages)
 pages_rise m [] rise = tt
 pages_rise m (page ∷ pages) rise =
-    let rest = weaker (page.0 * 16 + length page.1) ((page.0 + 1) * 16) (rows_of pages) (omega (arith, rise.2)) (pages_rise (page.0 + 1) pages rise.3) in
-    weaker (m * 16) (page.0 * 16) (rows_of (page ∷ pages)) (omega (arith, rise.0)) (page_rises (page.0 * 16) page.1 (rows_of pages) rest)
+    let rest = weaker (page.0 * 64 + length page.1) ((page.0 + 1) * 64) (rows_of pages) (omega (arith, rise.2)) (pages_rise (page.0 + 1) pages rise.3) in
+    weaker (m * 64) (page.0 * 64) (rows_of (page ∷ pages)) (omega (arith, rise.0)) (page_rises (page.0 * 64) page.1 (rows_of pages) rest)
 
 -- ---- a page put
 
-first_put : (p q : Bool) (m number : ℕ) (put : Page) (page : ℕ × Page) (pages after : List (ℕ × Page)) → ltb number page.0 ≡ p → eqb number page.0 ≡ q → PagesRiseFrom m (page ∷ pages) → m ≤ number → number < 2 ^ 60 → length put ≡ 16 → (page.0 + 1 ≤ number → PagesRiseFrom (page.0 + 1) after) → PagesRiseFrom m (match_ordering (cond p Less (cond q Equal Greater)) ((number, put) ∷ page ∷ pages) ((page.0, put) ∷ pages) (page ∷ after))
+first_put : (p q : Bool) (m number : ℕ) (put : Page) (page : ℕ × Page) (pages after : List (ℕ × Page)) → ltb number page.0 ≡ p → eqb number page.0 ≡ q → PagesRiseFrom m (page ∷ pages) → m ≤ number → number < 2 ^ 58 → length put ≡ 64 → (page.0 + 1 ≤ number → PagesRiseFrom (page.0 + 1) after) → PagesRiseFrom m (match_ordering (cond p Less (cond q Equal Greater)) ((number, put) ∷ page ∷ pages) ((page.0, put) ∷ pages) (page ∷ after))
 first_put true q m number put page pages after lt eq rise le fits long rest = (le, fits, long, (omega (arith, ltb-true number page.0 lt), rise.1, rise.2, rise.3))
 first_put false true m number put page pages after lt eq rise le fits long rest = (rise.0, rise.1, long, rise.3)
 first_put false false m number put page pages after lt eq rise le fits long rest = (rise.0, rise.1, rise.2, rest (omega (arith, ltb-false number page.0 lt, eqb-false number page.0 eq)))
 
-pub put_rises : (m number : ℕ) (put : Page) (pages : List (ℕ × Page)) → PagesRiseFrom m pages → m ≤ number → number < 2 ^ 60 → length put ≡ 16 → PagesRiseFrom m (insert_entry nat_cmp pages number put)
+pub put_rises : (m number : ℕ) (put : Page) (pages : List (ℕ × Page)) → PagesRiseFrom m pages → m ≤ number → number < 2 ^ 58 → length put ≡ 64 → PagesRiseFrom m (insert_entry nat_cmp pages number put)
 put_rises m number put [] rise le fits long = (le, fits, long, tt)
 put_rises m number put (page ∷ pages) rise le fits long = first_put (ltb number page.0) (eqb number page.0) m number put page pages (insert_entry nat_cmp pages number put) refl refl rise le fits long (λ from. put_rises (page.0 + 1) number put pages rise.3 from fits long)
 
-first_set : (t : Bool) (m : ℕ) (put : Page) (page : ℕ × Page) (pages after : List (ℕ × Page)) → PagesRiseFrom m (page ∷ pages) → length put ≡ 16 → PagesRiseFrom (page.0 + 1) after → PagesRiseFrom m (cond t ((page.0, put) ∷ pages) (page ∷ after))
+first_set : (t : Bool) (m : ℕ) (put : Page) (page : ℕ × Page) (pages after : List (ℕ × Page)) → PagesRiseFrom m (page ∷ pages) → length put ≡ 64 → PagesRiseFrom (page.0 + 1) after → PagesRiseFrom m (cond t ((page.0, put) ∷ pages) (page ∷ after))
 first_set true m put page pages after rise long rest = (rise.0, rise.1, long, rise.3)
 first_set false m put page pages after rise long rest = (rise.0, rise.1, rise.2, rest)
 
-pub set_rises : (m : ℕ) (test : ℕ → Bool) (put : Page) (pages : List (ℕ × Page)) → PagesRiseFrom m pages → length put ≡ 16 → PagesRiseFrom m (set_value test pages put)
+pub set_rises : (m : ℕ) (test : ℕ → Bool) (put : Page) (pages : List (ℕ × Page)) → PagesRiseFrom m pages → length put ≡ 64 → PagesRiseFrom m (set_value test pages put)
 set_rises m test put [] rise long = tt
 set_rises m test put (page ∷ pages) rise long = first_set (test page.0) m put page pages (set_value test pages put) rise long (set_rises (page.0 + 1) test put pages rise.3 long)
 
 -- ---- a place put
 
 -- of the ids of one page
-same_page : (t : Bool) (oid place other : ℕ) (page : Page) → (oid % 16 == other % 16) ≡ t → oid / 16 ≡ other / 16 → length page ≡ 16 → get_or (set page (oid % 16) (Some place)) (other % 16) None ≡ (if oid == other then Some place else get_or page (other % 16) None)
+same_page : (t : Bool) (oid place other : ℕ) (page : Page) → (oid % 64 == other % 64) ≡ t → oid / 64 ≡ other / 64 → length page ≡ 64 → get_or (set page (oid % 64) (Some place)) (other % 64) None ≡ (if oid == other then Some place else get_or page (other % 64) None)
 same_page true oid place other page is same long =
-    let e : oid ≡ other = omega (arith, eqb-true (oid % 16) (other % 16) is) in
-    rw (eq-eqb oid other e) (get_or-set_at page (oid % 16) (other % 16) (Some place) None (omega arith) (omega arith))
+    let e : oid ≡ other = omega (arith, eqb-true (oid % 64) (other % 64) is) in
+    rw (eq-eqb oid other e) (get_or-set_at page (oid % 64) (other % 64) (Some place) None (omega arith) (omega arith))
 same_page false oid place other page is same long =
-    rw (ne_eqb oid other (λ e. eqb-false (oid % 16) (other % 16) is (ap (λ (n : ℕ). n % 16) e)))
-    (get_or-set_other page (oid % 16) (other % 16) (Some place) None (λ e. eqb-false (oid % 16) (other % 16) is (sym e)))
+    rw (ne_eqb oid other (λ e. eqb-false (oid % 64) (other % 64) is (ap (λ (n : ℕ). n % 64) e)))
+    (get_or-set_other page (oid % 64) (other % 64) (Some place) None (λ e. eqb-false (oid % 64) (other % 64) is (sym e)))
 
-one_put : (t : Bool) (oid place other : ℕ) (page : Page) (before : ℕ → Option Page) → (oid / 16 == other / 16) ≡ t → length page ≡ 16 → ((slot : ℕ) → slot < 16 → place_on (before (oid / 16)) slot ≡ get_or page slot None) → place_on (cond t (Some (set page (oid % 16) (Some place))) (before (other / 16))) (other % 16) ≡ (if oid == other then Some place else place_on (before (other / 16)) (other % 16))
+one_put : (t : Bool) (oid place other : ℕ) (page : Page) (before : ℕ → Option Page) → (oid / 64 == other / 64) ≡ t → length page ≡ 64 → ((slot : ℕ) → slot < 64 → place_on (before (oid / 64)) slot ≡ get_or page slot None) → place_on (cond t (Some (set page (oid % 64) (Some place))) (before (other / 64))) (other % 64) ≡ (if oid == other then Some place else place_on (before (other / 64)) (other % 64))
 one_put true oid place other page before is long was =
-    let e : oid / 16 ≡ other / 16 = eqb-true (oid / 16) (other / 16) is in
-    same_page (oid % 16 == other % 16) oid place other page refl e long
-    ∙ ap (λ (f : Option ℕ). if oid == other then Some place else f) (sym (was (other % 16) (omega arith)) ∙ ap (λ (number : ℕ). place_on (before number) (other % 16)) e)
-one_put false oid place other page before is long was = rw (ne_eqb oid other (λ e. eqb-false (oid / 16) (other / 16) is (ap (λ (n : ℕ). n / 16) e))) refl
+    let e : oid / 64 ≡ other / 64 = eqb-true (oid / 64) (other / 64) is in
+    same_page (oid % 64 == other % 64) oid place other page refl e long
+    ∙ ap (λ (f : Option ℕ). if oid == other then Some place else f) (sym (was (other % 64) (omega arith)) ∙ ap (λ (number : ℕ). place_on (before number) (other % 64)) e)
+one_put false oid place other page before is long was = rw (ne_eqb oid other (λ e. eqb-false (oid / 64) (other / 64) is (ap (λ (n : ℕ). n / 64) e))) refl
 
-pub all_put : (oid place : ℕ) (page : Page) (before after : List (ℕ × Page)) → PagesRiseFrom 0 before → PagesRiseFrom 0 after → length page ≡ 16 → ((slot : ℕ) → slot < 16 → place_on (lookup (is_at (nat_cmp (oid / 16))) before) slot ≡ get_or page slot None) → ((number : ℕ) → lookup (is_at (nat_cmp number)) after ≡ cond (is_at (nat_cmp (oid / 16)) number) (Some (set page (oid % 16) (Some place))) (lookup (is_at (nat_cmp number)) before)) → (other : ℕ) → place_for other (rows_of after) ≡ (if oid == other then Some place else place_for other (rows_of before))
+pub all_put : (oid place : ℕ) (page : Page) (before after : List (ℕ × Page)) → PagesRiseFrom 0 before → PagesRiseFrom 0 after → length page ≡ 64 → ((slot : ℕ) → slot < 64 → place_on (lookup (is_at (nat_cmp (oid / 64))) before) slot ≡ get_or page slot None) → ((number : ℕ) → lookup (is_at (nat_cmp number)) after ≡ cond (is_at (nat_cmp (oid / 64)) number) (Some (set page (oid % 64) (Some place))) (lookup (is_at (nat_cmp number)) before)) → (other : ℕ) → place_for other (rows_of after) ≡ (if oid == other then Some place else place_for other (rows_of before))
 all_put oid place page before after rise risen long was put other =
     shown 0 other after risen
-    ∙ ap (λ (f : Option Page). place_on f (other % 16)) (put (other / 16))
-    ∙ ap (λ (t : Bool). place_on (cond t (Some (set page (oid % 16) (Some place))) (lookup (is_at (nat_cmp (other / 16))) before)) (other % 16)) (at_same (oid / 16) (other / 16))
-    ∙ one_put (oid / 16 == other / 16) oid place other page (λ number. lookup (is_at (nat_cmp number)) before) refl long was
+    ∙ ap (λ (f : Option Page). place_on f (other % 64)) (put (other / 64))
+    ∙ ap (λ (t : Bool). place_on (cond t (Some (set page (oid % 64) (Some place))) (lookup (is_at (nat_cmp (other / 64))) before)) (other % 64)) (at_same (oid / 64) (other / 64))
+    ∙ one_put (oid / 64 == other / 64) oid place other page (λ number. lookup (is_at (nat_cmp number)) before) refl long was
     ∙ ap (λ (f : Option ℕ). if oid == other then Some place else f) (sym (shown 0 other before rise))
 
 abbrev pub empty_page : Page
-empty_page = replicate 16 None
+empty_page = replicate 64 None
 
-pub in_empty : (found : Option Page) (slot : ℕ) → slot < 16 → None ≡ found → place_on found slot ≡ get_or empty_page slot None
-in_empty found slot lt none = ap (λ (f : Option Page). place_on f slot) (sym none) ∙ sym (get_or-replicate 16 slot None None lt)
+pub in_empty : (found : Option Page) (slot : ℕ) → slot < 64 → None ≡ found → place_on found slot ≡ get_or empty_page slot None
+in_empty found slot lt none = ap (λ (f : Option Page). place_on f slot) (sym none) ∙ sym (get_or-replicate 64 slot None None lt)
 
 -- ---- loops over a page and over the pages
 
@@ -174,10 +174,10 @@ one_added n slot oid places old rows after at lt so added =
     ∙ ap (λ (r : List Row). old ++ r) (sym (rows_from-more n slot oid places at lt))
     ∙ ap (λ (k : ℕ). old ++ rows_from n (take k places)) (sym (add-one slot))
 
-pub page_added : (rows after : List Row) (pages rest all : List (ℕ × Page)) (page : ℕ × Page) → rows ++ rows_of pages ≡ rows_of all → pages ≡ page ∷ rest → after ≡ rows ++ rows_from (page.0 * 16) page.1 → after ++ rows_of rest ≡ rows_of all
+pub page_added : (rows after : List Row) (pages rest all : List (ℕ × Page)) (page : ℕ × Page) → rows ++ rows_of pages ≡ rows_of all → pages ≡ page ∷ rest → after ≡ rows ++ rows_from (page.0 * 64) page.1 → after ++ rows_of rest ≡ rows_of all
 page_added rows after pages rest all page so next added =
     ap (λ (r : List Row). r ++ rows_of rest) added
-    ∙ append_assoc rows (rows_from (page.0 * 16) page.1) (rows_of rest)
+    ∙ append_assoc rows (rows_from (page.0 * 64) page.1) (rows_of rest)
     ∙ ap (λ (ps : List (ℕ × Page)). rows ++ rows_of ps) (sym next)
     ∙ so
 

@@ -11,3 +11,9 @@ pub mod Stepping
 pub mod WholeAt
 pub mod Present
 pub mod Counting
+pub mod Windows
+pub mod Ranges
+pub mod BodiesRead
+pub mod ValuesRead
+pub mod Walking
+pub mod ScanSteps

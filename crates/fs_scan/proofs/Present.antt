@@ -23,7 +23,7 @@ use Rattle.fs_scan.specs.Present.{AllStand, ArePlaces, back_in, means_value}
 pub too_short : (bytes : List ℕ) (d : Data) (more : List ℕ) → FitsData d → bytes ≡ data_spelling d ++ more → length bytes < 43 → ⊥
 too_short bytes d more fits e short = omega (arith, ap length e, length-append (data_spelling d) more, long_data d fits.body)
 
-head_is : (bytes : List ℕ) (h : DataHead) (d : Data) (more : List ℕ) → bytes ≡ data_head h ++ drop 42 bytes → FitsDataHead h → FitsData d → bytes ≡ data_spelling d ++ more → (h ≡ head_of d) × (drop 42 bytes ≡ body_spelling d.body ++ more)
+pub head_is : (bytes : List ℕ) (h : DataHead) (d : Data) (more : List ℕ) → bytes ≡ data_head h ++ drop 42 bytes → FitsDataHead h → FitsData d → bytes ≡ data_spelling d ++ more → (h ≡ head_of d) × (drop 42 bytes ≡ body_spelling d.body ++ more)
 unfolding data_spelling
 head_is bytes h d more read fits fits_data e = same_data_head h (head_of d) (drop 42 bytes) (body_spelling d.body ++ more) fits fits_data.head (sym read ∙ e ∙ append_assoc (data_head (head_of d)) (body_spelling d.body) more)
 

@@ -1,6 +1,5 @@
 -- A transaction down to where its data records begin and end.
 use Rattle.std.specs.Prelude.{◌≡◌, ℕ, ◌+◌, ◌-◌, ◌<◌, ◌≤◌, ◌^◌, true, false, List, ◌++◌, length, take, drop}
-use Rattle.fs_record.specs.declared.heads.TxnHead.{TxnHead}
 use Rattle.fs_record.specs.Spelling.{Inside, Skipped, Block, block_spelling, long_of}
 use Rattle.fs_record.specs.Fits.{FitsTxnHead}
 use Rattle.fs_record.specs.Opening.{is_end, NoBlock}

@@ -11,3 +11,7 @@ pub mod Copied
 pub mod Scanned
 pub mod Present
 pub mod Checked
+pub mod Windows
+pub mod Walked
+pub mod Followed
+pub mod WalkedLaws

@@ -1,4 +1,4 @@
--- Objects in pages of sixteen ids: the page with the number k has the places of the ids from k * 16 on.
+-- Objects in pages of sixty-four ids: the page with the number k has the places of the ids from k * 64 on.
 use Rattle.std.specs.Prelude.{◌≡◌, ℕ, ◌+◌, ◌*◌, ◌<◌, ◌≤◌, ◌^◌, List, [], ◌∷◌, ◌++◌, length, Option, Some, None}
 use Rattle.zbase.specs.declared.ids.Row.{Row}
 
@@ -11,9 +11,9 @@ rows_from n (Some place ∷ places) = record { oid = n; place = place } ∷ rows
 -- the objects of pages that stand with their numbers
 abbrev pub rows_of : List (ℕ × List (Option ℕ)) → List Row
 rows_of [] = []
-rows_of (page ∷ pages) = rows_from (page.0 * 16) page.1 ++ rows_of pages
+rows_of (page ∷ pages) = rows_from (page.0 * 64) page.1 ++ rows_of pages
 
--- numbers of pages rise, from n on; each page has sixteen places, and its ids are below 2 ^ 64
+-- numbers of pages rise, from n on; each page has sixty-four places, and its ids are below 2 ^ 64
 abbrev pub PagesRiseFrom : ℕ → List (ℕ × List (Option ℕ)) → Type 0
 PagesRiseFrom n [] = Unit {0}
-PagesRiseFrom n (page ∷ pages) = (n ≤ page.0) × (page.0 < 2 ^ 60) × (length page.1 ≡ 16) × PagesRiseFrom (page.0 + 1) pages
+PagesRiseFrom n (page ∷ pages) = (n ≤ page.0) × (page.0 < 2 ^ 58) × (length page.1 ≡ 64) × PagesRiseFrom (page.0 + 1) pages

@@ -1,12 +1,13 @@
-//! The scan and a plain reader agree, on files that are made here and then changed byte by byte.
+//! The scan, the walk and a plain reader agree, on files that are made here and then changed byte by byte.
 
-use crate::naive::{Answer, Said, read_file};
-use crate::{Checked, ScanRefusal, Scanned, check_bytes, scan_bytes};
+use crate::naive::{Answer, Passed, Said, history, read_file};
+use crate::{Checked, ScanRefusal, Scanned, Walk, Whole, check_bytes, scan};
 use fs_record::Damage;
 use std::alloc::Global;
 use std::mem;
 use std::test::*;
 use zbase::{Bytes, Memory};
+use zdisk::{Disk, MemoryDisk};
 
 /// What a record has: data of this length, or a back pointer to the record of its object that is so many back among
 /// those of earlier transactions, 0 for a back pointer to none.
@@ -170,7 +171,8 @@ fn said(alloc: Global, scanned: &Scanned, checked: &Checked) -> Result<Said, Mem
 
 // What a scan and a check say of the bytes; an error where these two differ.
 fn scanned(alloc: Global, bytes: &[u8]) -> Result<Answer, Fail> {
-    match (scan_bytes(alloc, bytes), check_bytes(alloc, bytes)) {
+    let mut disk = MemoryDisk::new(alloc, Bytes::from_slice(alloc, bytes)?);
+    match (scan(alloc, &mut disk), check_bytes(alloc, bytes)) {
         (Ok(scanned), Ok(checked)) => {
             let of_scan = (scanned.count, scanned.last, scanned.end, scanned.torn);
             let of_check = (
@@ -194,11 +196,55 @@ fn scanned(alloc: Global, bytes: &[u8]) -> Result<Answer, Fail> {
     }
 }
 
-// What both say of the bytes; an error where they differ.
+fn passed_by(alloc: Global, whole: &Whole) -> Result<Passed, Memory> {
+    let mut values = Vec::new(alloc);
+    for written in whole.values.as_slice() {
+        let value = match &written.value {
+            Some(data) => Some(data.copy()?.into_vec()),
+            None => None,
+        };
+        values.push((written.oid.0, value))?;
+    }
+    Ok(Passed {
+        place: whole.place,
+        status: u64::from(whole.status),
+        tid: whole.tid.0,
+        values,
+    })
+}
+
+// The transactions that a walk over the disk answers in at most so many steps, or the damage to which it comes.
+fn walked<D: Disk>(
+    alloc: Global,
+    disk: &mut D,
+    most: usize,
+) -> Result<Result<Vec<Passed>, (Damage, u64)>, Fail> {
+    let mut walk = Walk::new(alloc);
+    let mut all = Vec::new(alloc);
+    for _ in 0..=most {
+        match walk.next(disk) {
+            Ok(Some(whole)) => all.push(passed_by(alloc, &whole)?)?,
+            Ok(None) => return Ok(Ok(all)),
+            Err(ScanRefusal::Damaged(kind, place)) => return Ok(Err((kind, place))),
+            Err(_) => return Err("the walk is refused".into()),
+        }
+    }
+    Err("the walk doesn't end".into())
+}
+
+// What the scan, the walk and the plain reader say of the bytes; an error where they differ.
 fn agreed(alloc: Global, bytes: &[u8]) -> Result<Answer, Fail> {
     let read = read_file(alloc, bytes)?;
     if scanned(alloc, bytes)? != read {
         return Err("the scan and the plain reader differ".into());
+    }
+    let told = match &read {
+        Ok(_) => Ok(history(alloc, bytes)?),
+        Err((kind, place)) => Err((*kind, *place)),
+    };
+    let mut disk = MemoryDisk::new(alloc, Bytes::from_slice(alloc, bytes)?);
+    if walked(alloc, &mut disk, bytes.len())? != told {
+        return Err("the walk and the plain reader differ".into());
     }
     Ok(read)
 }

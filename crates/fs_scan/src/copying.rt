@@ -10,8 +10,8 @@ use fs_record::{TxnHead, TxnTexts};
 use std::alloc::Global;
 use zbase::{Bytes, Memory, Oid};
 
-// The texts behind a transaction's head.
-fn copy_texts(alloc: Global, rest: &[u8], head: &TxnHead) -> Result<TxnTexts, Memory>
+/// The texts behind a transaction's head.
+pub fn copy_texts(alloc: Global, rest: &[u8], head: &TxnHead) -> Result<TxnTexts, Memory>
     requires { 23 + head.now.user + head.now.description + head.now.extension ≤ length rest.now }
     ensures { IfOk result (λ texts. texts ≡ texts_read head.now (drop 23 rest.now)) }
 {

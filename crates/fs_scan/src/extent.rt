@@ -1,8 +1,8 @@
-ghost use Rattle.std.specs.Prelude.{◌≡◌, ◌+◌, ◌<◌, ◌≤◌, ◌^◌, length, drop};
+ghost use Rattle.std.specs.Prelude.{◌≡◌, ◌+◌, ◌<◌, ◌≤◌, ◌==◌, ◌^◌, length, drop, if◌then◌else◌};
 ghost use Rattle.fs_scan.specs.Extent.{PartsSay};
 
 use fs_record::{RecordRefusal, TxnHead, read_txn_head};
-use zbase::u64_at;
+use zbase::{Tid, u64_at};
 
 /// A transaction whose texts lie within it, in bytes from its start.
 #[derive(Clone, Copy)]
@@ -60,4 +60,16 @@ pub fn whole_at(rest: &[u8]) -> Parts
         long,
         tail,
     })
+}
+
+/// The id of the last transaction that counts, behind this one: of one undone in the old manner the id isn't looked
+/// at.
+pub fn last_behind(extent: &Extent, last: Tid) -> Tid
+    ensures { result ≡ (if extent.now.head.status == 117 then last else extent.now.head.tid) }
+{
+    if extent.head.status == b'u' {
+        last
+    } else {
+        extent.head.tid
+    }
 }

@@ -275,3 +275,64 @@ pub fn read_file(alloc: Global, bytes: &[u8]) -> Result<Answer, AllocError> {
     }
     Ok(Ok(said))
 }
+
+/// A transaction that counts, with what each of its records means, in the file's order.
+#[derive(Debug, Drop, PartialEq, Eq)]
+pub struct Passed {
+    pub place: u64,
+    pub status: u64,
+    pub tid: u64,
+    pub values: Vec<(u64, Option<Vec<u8>>)>,
+}
+
+// What a record means: its data, or what the record means to which it points back.
+fn meaning_of(alloc: Global, bytes: &[u8], record: &Record) -> Result<Option<Vec<u8>>, AllocError> {
+    let mut at = *record;
+    for _ in bytes {
+        if at.length != 0 {
+            let mut data = Vec::new(alloc);
+            let from = at.place.saturating_add(42);
+            for byte in bytes.iter().skip(from as usize).take(at.length as usize) {
+                data.push(*byte)?;
+            }
+            return Ok(Some(data));
+        }
+        if at.back == 0 {
+            break;
+        }
+        at = record_at(bytes, at.back);
+    }
+    Ok(None)
+}
+
+fn with_meanings(alloc: Global, bytes: &[u8], t: &Transaction) -> Result<Passed, AllocError> {
+    let mut values = Vec::new(alloc);
+    if let Some(records) = &t.records {
+        for record in records {
+            values.push((record.oid, meaning_of(alloc, bytes, record)?))?;
+        }
+    }
+    Ok(Passed {
+        place: t.start,
+        status: t.status,
+        tid: t.tid,
+        values,
+    })
+}
+
+/// The transactions of a file that opens, from the oldest to the newest.
+pub fn history(alloc: Global, bytes: &[u8]) -> Result<Vec<Passed>, AllocError> {
+    let mut all = Vec::new(alloc);
+    let mut place = 4u64;
+    for _ in bytes {
+        if ends_at(bytes, place) {
+            break;
+        }
+        let transaction = transaction_at(alloc, bytes, place)?;
+        if transaction.status != u64::from(b'u') {
+            all.push(with_meanings(alloc, bytes, &transaction)?)?;
+        }
+        place = place.saturating_add(transaction.length).saturating_add(8);
+    }
+    Ok(all)
+}

@@ -1,4 +1,4 @@
-ghost use Rattle.std.specs.Prelude.{◌≡◌, ◌+◌, ◌==◌, ◌<◌, ◌^◌, ℕ, length, IfOk, IfSome, IsErrOf, if◌then◌else◌};
+ghost use Rattle.std.specs.Prelude.{◌≡◌, ◌+◌, ◌==◌, ◌<◌, ◌≤◌, ◌^◌, ℕ, length, IfOk, IfSome, IsErrOf, if◌then◌else◌};
 ghost use Rattle.zbase.specs.Faults.{Counts};
 ghost use Rattle.zdisk.specs.Disk.{content};
 ghost use Rattle.fs_record.specs.declared.damage.Damage.{Damage as Kind};
@@ -6,10 +6,12 @@ ghost use Rattle.fs_record.specs.Opening.{Damaged};
 ghost use Rattle.fs_scan.specs.Scanned.{Tells};
 ghost use Rattle.fs_scan.specs.declared.opening.ScanRefusal.TheVariants as refusals;
 
-use crate::extent::Extent;
+use crate::extent::{Extent, last_behind};
 use crate::magic::has_magic;
 use crate::places::Places;
 use crate::step::{Step, take_one};
+use crate::walk::Walk;
+use crate::window::{read_range, read_window};
 use fs_record::Damage;
 use std::alloc::{AllocError, Global};
 use zbase::{Failed, Memory, Oid, Rows, Tid};
@@ -69,38 +71,69 @@ impl From<Failed> for ScanRefusal {
     }
 }
 
-/// The id of the last transaction that counts, behind this one: of one undone in the old manner the id isn't looked
-/// at.
-fn last_behind(extent: &Extent, last: Tid) -> Tid
-    ensures { result ≡ (if extent.now.head.status == 117 then last else extent.now.head.tid) }
-{
-    if extent.head.status == b'u' {
-        last
-    } else {
-        extent.head.tid
-    }
+/// What a scan has counted of the transactions that it passed.
+#[derive(Clone, Copy)]
+struct Tally {
+    /// Where they end.
+    at: u64,
+    /// The id of the last one.
+    last: Tid,
+    /// The id of the last packed one.
+    floor: Tid,
+    /// How many count.
+    count: u64,
 }
 
-/// The id of the last packed transaction, behind this one.
-fn floor_behind(extent: &Extent, floor: Tid) -> Tid
-    ensures { result ≡ (if extent.now.head.status == 112 then extent.now.head.tid else floor) }
-{
-    if extent.head.status == b'p' {
-        extent.head.tid
-    } else {
-        floor
+impl Tally {
+    /// That of no transaction: it ends behind the magic.
+    fn new() -> Tally
+        ensures { result ≡ record { at = 4; last = 0; floor = 0; count = 0 } }
+    {
+        Tally {
+            at: 4,
+            last: Tid(0),
+            floor: Tid(0),
+            count: 0,
+        }
     }
-}
 
-/// The number of transactions that count, behind this one.
-fn count_behind(extent: &Extent, count: u64) -> u64
-    requires { count + 1 < 2 ^ 64 }
-    ensures { result ≡ (if extent.now.head.status == 117 then count else count + 1) }
-{
-    if extent.head.status == b'u' {
-        count
-    } else {
-        count + 1
+    /// That behind one transaction more. One undone in the old manner doesn't count, and its id isn't looked at.
+    fn behind(self, extent: &Extent) -> Tally
+        requires place { self.at + extent.now.long + 8 < 2 ^ 64 }
+        requires few { self.count ≤ self.at }
+        ensures at { result.at ≡ self.at + (extent.now.long + 8) }
+        ensures last { result.last ≡ (if extent.now.head.status == 117 then self.last else extent.now.head.tid) }
+        ensures floor { result.floor ≡ (if extent.now.head.status == 112 then extent.now.head.tid else self.floor) }
+        ensures count { result.count ≡ (if extent.now.head.status == 117 then self.count else self.count + 1) }
+        ensures few { result.count ≤ result.at }
+    {
+        let status = extent.head.status;
+        let counts = if status == b'u' { 0 } else { 1 };
+        Tally {
+            at: self.at + extent.long as u64 + 8,
+            last: last_behind(extent, self.last),
+            floor: if status == b'p' {
+                extent.head.tid
+            } else {
+                self.floor
+            },
+            count: self.count + counts,
+        }
+    }
+
+    /// What is told where the file ends here, and so many bytes stand behind it.
+    fn told(self, torn: u64, greatest: Option<Oid>, rows: Rows) -> Scanned
+        ensures { result ≡ record { end = self.at; torn = torn; greatest = greatest; last = self.last; floor = self.floor; count = self.count; rows = rows } }
+    {
+        Scanned {
+            end: self.at,
+            torn,
+            greatest,
+            last: self.last,
+            floor: self.floor,
+            count: self.count,
+            rows,
+        }
     }
 }
 
@@ -117,31 +150,16 @@ pub fn scan_bytes(alloc: Global, bytes: &[u8]) -> Result<Scanned, ScanRefusal>
         return Err(ScanRefusal::Damaged(Damage::BadMagic, 0));
     }
     let mut places = Places::new(alloc);
-    let mut last = Tid(0);
-    let mut floor = Tid(0);
-    let mut count = 0;
-    let mut at = 4;
+    let mut tally = Tally::new();
     'each: loop {
-        let rest = &bytes[at..];
-        match take_one(&mut places, rest, at as u64, last)? {
+        let rest = &bytes[tally.at as usize..];
+        match take_one(&mut places, rest, tally.at, tally.last)? {
             Step::End => {
-                return Ok(Scanned {
-                    end: at as u64,
-                    torn: (bytes.len() - at) as u64,
-                    greatest: places.greatest(),
-                    last,
-                    floor,
-                    count,
-                    rows: places.newest()?,
-                });
+                let rows = places.newest()?;
+                return Ok(tally.told(rest.len() as u64, places.greatest(), rows));
             }
-            Step::Damaged(kind) => return Err(ScanRefusal::Damaged(kind, at as u64)),
-            Step::Right(extent) => {
-                last = last_behind(&extent, last);
-                floor = floor_behind(&extent, floor);
-                count = count_behind(&extent, count);
-                at += extent.long + 8;
-            }
+            Step::Damaged(kind) => return Err(ScanRefusal::Damaged(kind, tally.at)),
+            Step::Right(extent) => tally = tally.behind(&extent),
         }
     }
 }
@@ -155,13 +173,13 @@ pub fn read_whole<D: Disk>(alloc: Global, disk: &mut D) -> Result<Vec<u8>, ScanR
     ensures counts { Counts (D.counter disk.old) (D.counter disk.new) (IsErrOf result ScanRefusal.Disk) }
 {
     let len = disk.len()?;
-    let mut bytes = vec![in alloc; 0u8; len as usize]?;
-    disk.read_at(0, &mut bytes)?;
-    Ok(bytes)
+    read_range(alloc, disk, 0, len)
 }
 
 /// What the file of a disk has: its end, its torn rest, each object's last data record; or what is wrong with it
-/// and where. It reads the file once and changes nothing.
+/// and where. It reads the file once, a transaction at a time, and changes nothing.
+///
+/// FileStorage format notes: a file is read forward from its start, and a write that was broken off ends it.
 pub fn scan<D: Disk>(alloc: Global, disk: &mut D) -> Result<Scanned, ScanRefusal>
     ensures told { IfOk result (λ scanned. IfSome (D.told disk.old) (λ told. Tells (content told) scanned)) }
     ensures damaged { (kind : Kind) (place : ℕ) → IsErrOf result (ScanRefusal.Damaged kind place) → IfSome (D.told disk.old) (λ told. Damaged (content told) place kind) }
@@ -169,6 +187,19 @@ pub fn scan<D: Disk>(alloc: Global, disk: &mut D) -> Result<Scanned, ScanRefusal
     ensures spare { (D.spare_calls disk.new ≡ D.spare_calls disk.old) × (D.spare_bytes disk.new ≡ D.spare_bytes disk.old) }
     ensures counts { Counts (D.counter disk.old) (D.counter disk.new) (IsErrOf result ScanRefusal.Disk) }
 {
-    let bytes = read_whole(alloc, disk)?;
-    scan_bytes(alloc, bytes.as_slice())
+    let len = disk.len()?;
+    let mut walk = Walk::new(alloc);
+    let mut tally = Tally::new();
+    walk.enter(disk, len)?;
+    'each: loop {
+        let window = read_window(alloc, disk, len, tally.at)?;
+        match walk.step(&window, tally.at)? {
+            Step::End => {
+                let rows = walk.newest()?;
+                return Ok(tally.told(len.saturating_sub(tally.at), walk.greatest(), rows));
+            }
+            Step::Damaged(kind) => return Err(ScanRefusal::Damaged(kind, tally.at)),
+            Step::Right(extent) => tally = tally.behind(&extent),
+        }
+    }
 }

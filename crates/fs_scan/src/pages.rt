@@ -9,13 +9,13 @@ use zbase::{Memory, Oid, Row, Rows};
 
 /// Objects with a place each, which contracts see as a list by rising id.
 ///
-/// A page holds the places of sixteen ids that follow one another. Ids are given out one after another, so the
-/// pages of a real file are nearly full, and their tree has a sixteenth of the keys of a tree of ids: it is less
+/// A page holds the places of sixty-four ids that follow one another. Ids are given out one after another, so the
+/// pages of a real file are nearly full, and their tree has a sixty-fourth of the keys of a tree of ids: it is less
 /// deep, and a look-up misses the processor's caches less often.
 #[derive(Drop)]
 pub struct Pages {
-    /// By an id's sixteenth; an id's slot is what the division leaves.
-    pages: BTreeMap<u64, [Option<u64>; 16]>,
+    /// By an id's sixty-fourth; an id's slot is what the division leaves.
+    pages: BTreeMap<u64, [Option<u64>; 64]>,
 }
 
 impl Model for Pages {
@@ -44,8 +44,8 @@ impl Pages {
     pub fn get(&self, oid: u64) -> Option<u64>
         ensures { result ≡ place_for oid self.now }
     {
-        match self.pages.get(&(oid / 16)) {
-            Some(page) => page[(oid % 16) as usize],
+        match self.pages.get(&(oid / 64)) {
+            Some(page) => page[(oid % 64) as usize],
             None => None,
         }
     }
@@ -56,13 +56,13 @@ impl Pages {
         ensures ok { OnOk result ((other : ℕ) → place_for other self.new ≡ (if oid == other then Some place else place_for other self.old)) }
         ensures err { OnErr result (self.new ≡ self.old) }
     {
-        let slot = (oid % 16) as usize;
-        match self.pages.get_mut(&(oid / 16)) {
+        let slot = (oid % 64) as usize;
+        match self.pages.get_mut(&(oid / 64)) {
             Some(page) => page[slot] = Some(place),
             None => {
-                let mut page = [None; 16];
+                let mut page = [None; 64];
                 page[slot] = Some(place);
-                self.pages.insert(oid / 16, page)?;
+                self.pages.insert(oid / 64, page)?;
             }
         }
         Ok(())
@@ -75,18 +75,18 @@ impl Pages {
     {
         let mut rows = Rows::new(alloc);
         for (number, page) in self.pages.iter() {
-            add_page(&mut rows, *number * 16, page)?;
+            add_page(&mut rows, *number * 64, page)?;
         }
         Ok(rows)
     }
 }
 
 // Adds the objects of a page, whose first id is given. For want of memory the first of them may be added.
-fn add_page(rows: &mut Rows, first: u64, page: &[Option<u64>; 16]) -> Result<(), Memory>
-    requires { first + 16 ≤ 2 ^ 64 }
+fn add_page(rows: &mut Rows, first: u64, page: &[Option<u64>; 64]) -> Result<(), Memory>
+    requires { first + 64 ≤ 2 ^ 64 }
     ensures { OnOk result (rows.new ≡ rows.old ++ rows_from first page.now) }
 {
-    for slot in 0..16 {
+    for slot in 0..64 {
         if let Some(place) = page[slot] {
             rows.push(Row {
                 oid: Oid(first + slot as u64),

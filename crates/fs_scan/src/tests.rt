@@ -1,12 +1,14 @@
 use crate::pages::Pages;
 use crate::places::Places;
 use crate::step::{Step, take_one};
-use crate::{Checked, PlainRefusal, ScanRefusal, Wholes, check, read_plain_file, scan, scan_bytes};
+use crate::{
+    Checked, PlainRefusal, ScanRefusal, Walk, Wholes, check, read_plain_file, scan, scan_bytes,
+};
 use fs_record::Damage;
 use std::alloc::Global;
 use std::test::*;
 use zbase::{Bytes, FaultPlan, Memory, Oid, Row, Tid};
-use zdisk::MemoryDisk;
+use zdisk::{Disk, MemoryDisk};
 
 /// A file of one transaction at place 4, of two records, at the places 27 and 103.
 const TWO_OBJECTS: [u8; 184] = [
@@ -277,13 +279,62 @@ fn a_scan_has_the_last_record_of_each_object(rt: HostRuntime) -> Result<(), Fail
 
 #[test]
 fn a_fault_of_the_disk_ends_a_scan(rt: HostRuntime) -> Result<(), Fail> {
-    for failing in [1, 2] {
+    for failing in [1, 2, 3, 4, 5] {
         let bytes = Bytes::from_slice(rt.alloc(), &TWO_OBJECTS)?;
         let plan = FaultPlan::new(Vec::from_slice(rt.alloc(), &[failing])?);
         let mut disk = MemoryDisk::with_faults(bytes, plan);
         assert_eq!(rt; scan(rt.alloc(), &mut disk).err(), Some(ScanRefusal::Disk));
         assert_eq!(rt; disk.calls(), failing);
     }
+    Ok(())
+}
+
+// What the first three steps of a walk answer: each the place of a transaction, or none, or a refusal.
+fn three_steps<D: Disk>(alloc: Global, disk: &mut D) -> [Result<Option<u64>, ScanRefusal>; 3] {
+    let mut walk = Walk::new(alloc);
+    [
+        walk.next(disk).map(|found| found.map(|whole| whole.place)),
+        walk.next(disk).map(|found| found.map(|whole| whole.place)),
+        walk.next(disk).map(|found| found.map(|whole| whole.place)),
+    ]
+}
+
+#[test]
+fn a_fault_of_the_disk_ends_a_step_of_a_walk(rt: HostRuntime) -> Result<(), Fail> {
+    for failing in [1, 2, 3, 4] {
+        let bytes = Bytes::from_slice(rt.alloc(), &TWO_OBJECTS)?;
+        let plan = FaultPlan::new(Vec::from_slice(rt.alloc(), &[failing])?);
+        let mut disk = MemoryDisk::with_faults(bytes, plan);
+        // then it goes on
+        let steps = three_steps(rt.alloc(), &mut disk);
+        assert_eq!(rt; steps, [Err(ScanRefusal::Disk), Ok(Some(4)), Ok(None)]);
+    }
+    Ok(())
+}
+
+#[test]
+fn a_walk_answers_texts_of_any_bytes(rt: HostRuntime) -> Result<(), Fail> {
+    let mut file = Bytes::from_slice(rt.alloc(), b"FS21")?;
+    file.append(&FIRST.to_be_bytes())?;
+    file.append(&[0, 0, 0, 0, 0, 0, 0, 28])?;
+    file.append(b"p\x00\x02\x00\x00\x00\x03\xff\xfeend")?;
+    file.append(&[0, 0, 0, 0, 0, 0, 0, 28])?;
+    let mut disk = MemoryDisk::new(rt.alloc(), file);
+    let mut walk = Walk::new(rt.alloc());
+    match walk.next(&mut disk) {
+        Ok(Some(whole)) => {
+            assert_eq!(rt;
+                (whole.place, whole.status, whole.tid),
+                (4, b'p', Tid(FIRST))
+            );
+            assert_eq!(rt; whole.texts.user.as_slice(), b"\xff\xfe".as_slice());
+            assert_eq!(rt; whole.texts.description.len(), 0);
+            assert_eq!(rt; whole.texts.extension.as_slice(), b"end".as_slice());
+            assert_eq!(rt; whole.values.len(), 0);
+        }
+        other => panic!(rt; "{other:?}"),
+    }
+    assert!(rt; matches!(walk.next(&mut disk), Ok(None)));
     Ok(())
 }
 

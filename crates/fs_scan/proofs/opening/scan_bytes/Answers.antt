@@ -9,17 +9,19 @@ pub returns-in-Damaged-clause-damaged : goal.returns-in-Damaged-clause-damaged
 returns-in-Damaged-clause-damaged c = λ kind place is.
     let bytes = c.args.bytes.now in
     let a = rw c.in-Damaged.is at c.in_ok-take_one.ensures.ok in
-    let rest = take_rest bytes c.each.at in
-    same_damage bytes c.in-Damaged.kind kind c.each.at place
-    (damaged bytes c.each.at c.each.last c.each.floor c.each.count c.each.places c.in-Damaged.kind c.each.invariant.came (ap is_end (sym rest) ∙ a.0) (subst (λ (r : List ℕ). IsDamageAt r c.each.at c.each.last c.each.places c.in-Damaged.kind) rest a.1))
+    let rest = take_rest bytes c.each.tally.at in
+    same_damage bytes c.in-Damaged.kind kind c.each.tally.at place
+    (damaged bytes c.each.tally.at c.each.tally.last c.each.tally.floor c.each.tally.count c.each.places c.in-Damaged.kind c.each.invariant.came (ap is_end (sym rest) ∙ a.0) (subst (λ (r : List ℕ). IsDamageAt r c.each.tally.at c.each.tally.last c.each.places c.in-Damaged.kind) rest a.1))
     is
 
 pub each-preserved : goal.each-preserved
 each-preserved c =
     let bytes = c.args.bytes.now in
     let a = rw c.in-Right.is at c.in_ok-take_one.ensures.ok in
-    let t = subst (λ (r : List ℕ). Takes r c.each.at c.each.last c.each.places c.take_one.new.places c.in-Right.extent) (take_rest bytes c.each.at) a.1 in
+    let t = subst (λ (r : List ℕ). Takes r c.each.tally.at c.each.tally.last c.each.places c.take_one.new.places c.in-Right.extent) (take_rest bytes c.each.tally.at) a.1 in
+    let b = c.behind-tally.ensures in
     record {
-      came = goes_on bytes c.each.at c.each.last c.each.floor c.each.count _ _ _ c.each.places c.take_one.new.places c.in-Right.extent c.each.invariant.came t c.last_behind-last.ensures c.floor_behind-floor.ensures c.count_behind-count.ensures;
-      within = omega (arith, t.whole.room, length-drop c.each.at bytes);
+      came = rw b.at (goes_on bytes c.each.tally.at c.each.tally.last c.each.tally.floor c.each.tally.count _ _ _ c.each.places c.take_one.new.places c.in-Right.extent c.each.invariant.came t b.last b.floor b.count);
+      within = omega (arith, t.whole.room, b.at, length-drop c.each.tally.at bytes);
+      few = b.few;
     }

@@ -4,9 +4,10 @@ use Rattle.fs_scan.proofs.opening.scan_bytes.Given as goal
 
 abbrev pub invariant-each : goal.invariant-each
 invariant-each l = record {
-  came : ScansTo l.bytes l.at l.last l.floor l.count l.places;
-  within : l.at ≤ length l.bytes;
+  came : ScansTo l.bytes l.tally.at l.tally.last l.tally.floor l.tally.count l.places;
+  within : l.tally.at ≤ length l.bytes;
+  few : l.tally.count ≤ l.tally.at;
 }
 
 abbrev pub decreases-each : goal.decreases-each
-decreases-each l = length l.bytes - l.at
+decreases-each l = length l.bytes - l.tally.at

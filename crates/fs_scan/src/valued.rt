@@ -1,0 +1,108 @@
+ghost use Rattle.std.specs.Prelude.{◌≡◌, ◌+◌, ◌<◌, ◌≤◌, ℕ, List, IfOk, IfSome, IsErrOf, length, true};
+ghost use Rattle.std.specs.Option.{ForSome};
+ghost use Rattle.zbase.specs.Faults.{Counts};
+ghost use Rattle.zdisk.specs.Disk.{content};
+ghost use Rattle.fs_record.specs.declared.damage.Damage.{Damage as Kind};
+ghost use Rattle.fs_record.specs.File.{Earlier, has_body, rows, value_of};
+ghost use Rattle.fs_record.specs.Spelling.{Data};
+ghost use Rattle.fs_scan.specs.Extent.{IsWhole, area_in};
+ghost use Rattle.fs_scan.specs.Followed.{MeansValues, MeansWhole};
+ghost use Rattle.fs_scan.specs.Found.{data_in};
+ghost use Rattle.fs_scan.specs.Marked.{AreRecords};
+ghost use Rattle.fs_scan.specs.Present.{AllStand};
+
+use crate::copying::copy_texts;
+use crate::data::{Found, data_at};
+use crate::extent::Extent;
+use crate::following::follow;
+use crate::{OidValue, OidValues, ScanRefusal, Whole};
+use std::alloc::Global;
+use zbase::{Bytes, Value};
+use zdisk::Disk;
+
+// The value of a data record that stands at the front: its data, or what its back pointer leads to.
+fn value_at_front<D: Disk>(
+    alloc: Global,
+    disk: &mut D,
+    len: u64,
+    rest: &[u8],
+    found: &Found,
+) -> Result<Value, ScanRefusal>
+    requires within { (43 ≤ found.now.size) × (found.now.size ≤ length rest.now) }
+    requires full { 0 < found.now.head.length → found.now.size ≡ 42 + found.now.head.length }
+    requires whole { ForSome (D.told disk.old) (λ told. len ≡ length (content told)) }
+    ensures value { IfOk result (λ value. IfSome (D.told disk.old) (λ told. (records : List Earlier) → AllStand (content told) records → has_body (rows records) (data_in found.now rest.now) ≡ true → value ≡ value_of records (data_in found.now rest.now).body)) }
+    ensures undamaged { (kind : Kind) (place : ℕ) → IsErrOf result (ScanRefusal.Damaged kind place) → ⊥ }
+    ensures same { D.told disk.new ≡ D.told disk.old }
+    ensures spare { (D.spare_calls disk.new ≡ D.spare_calls disk.old) × (D.spare_bytes disk.new ≡ D.spare_bytes disk.old) }
+    ensures counts { Counts (D.counter disk.old) (D.counter disk.new) (IsErrOf result ScanRefusal.Disk) }
+{
+    if found.head.length != 0 {
+        return Ok(Some(Bytes::from_slice(alloc, &rest[42..found.size])?));
+    }
+    if found.back == 0 {
+        return Ok(None);
+    }
+    follow(alloc, disk, len, found.back)
+}
+
+// The values of an area's data records, in a disk's file of this length.
+fn read_values<D: Disk>(
+    alloc: Global,
+    disk: &mut D,
+    len: u64,
+    area: &[u8],
+) -> Result<OidValues, ScanRefusal>
+    requires records { (ds : List Data) × AreRecords area.now ds }
+    requires whole { ForSome (D.told disk.old) (λ told. len ≡ length (content told)) }
+    ensures values { IfOk result (MeansValues (D.told disk.old) area.now) }
+    ensures undamaged { (kind : Kind) (place : ℕ) → IsErrOf result (ScanRefusal.Damaged kind place) → ⊥ }
+    ensures same { D.told disk.new ≡ D.told disk.old }
+    ensures spare { (D.spare_calls disk.new ≡ D.spare_calls disk.old) × (D.spare_bytes disk.new ≡ D.spare_bytes disk.old) }
+    ensures counts { Counts (D.counter disk.old) (D.counter disk.new) (IsErrOf result ScanRefusal.Disk) }
+{
+    let mut values = OidValues::new(alloc);
+    let mut at = 0;
+    while at < area.len() {
+        let rest = &area[at..];
+        let Some(found) = data_at(rest) else {
+            unreachable!();
+        };
+        let value = value_at_front(alloc, disk, len, rest, &found)?;
+        values.push(OidValue {
+            oid: found.head.oid,
+            value,
+        })?;
+        at += found.size;
+    }
+    Ok(values)
+}
+
+/// The transaction in the window, which begins at this place in a disk's file of this length, with its values.
+pub fn read_whole_in<D: Disk>(
+    alloc: Global,
+    disk: &mut D,
+    len: u64,
+    window: &[u8],
+    place: u64,
+    extent: &Extent,
+) -> Result<Whole, ScanRefusal>
+    requires stands { IsWhole window.now extent.now }
+    requires records { (ds : List Data) × AreRecords (area_in extent.now window.now) ds }
+    requires whole { ForSome (D.told disk.old) (λ told. len ≡ length (content told)) }
+    ensures means { IfOk result (MeansWhole (D.told disk.old) window.now place extent.now) }
+    ensures undamaged { (kind : Kind) (place : ℕ) → IsErrOf result (ScanRefusal.Damaged kind place) → ⊥ }
+    ensures same { D.told disk.new ≡ D.told disk.old }
+    ensures spare { (D.spare_calls disk.new ≡ D.spare_calls disk.old) × (D.spare_bytes disk.new ≡ D.spare_bytes disk.old) }
+    ensures counts { Counts (D.counter disk.old) (D.counter disk.new) (IsErrOf result ScanRefusal.Disk) }
+{
+    let values = read_values(alloc, disk, len, &window[extent.from..extent.long])?;
+    let texts = copy_texts(alloc, window, &extent.head)?;
+    Ok(Whole {
+        place,
+        status: extent.head.status,
+        tid: extent.head.tid,
+        texts,
+        values,
+    })
+}

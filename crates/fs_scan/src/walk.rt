@@ -1,0 +1,182 @@
+ghost use Rattle.std.specs.Prelude.{◌≡◌, ◌+◌, ◌++◌, ◌<◌, ◌^◌, ℕ, List, IfErr, IfOk, IfSome, IsErrOf, MatchOption, None, OnErr, OnOk, Some, drop, length};
+ghost use Rattle.std.specs.Option.{ForSome};
+ghost use Rattle.zbase.specs.Faults.{Counts};
+ghost use Rattle.zdisk.specs.Disk.{content};
+ghost use Rattle.fs_record.specs.declared.damage.Damage.{Damage as Kind};
+ghost use Rattle.fs_record.specs.Opening.{Damaged};
+ghost use Rattle.fs_record.specs.File.{magic};
+ghost use Rattle.fs_record.specs.Spelling.{Data};
+ghost use Rattle.fs_scan.specs.Extent.{IsWhole, area_in};
+ghost use Rattle.fs_scan.specs.Followed.{MeansWhole};
+ghost use Rattle.fs_scan.specs.Marked.{AreRecords};
+ghost use Rattle.fs_scan.specs.Newest.{AreNewest, greatest_of};
+ghost use Rattle.fs_scan.specs.Walked.{IsOn, Steps, Walks, begun, place_on, standing};
+
+use crate::extent::{Extent, last_behind};
+use crate::magic::has_magic;
+use crate::places::Places;
+use crate::step::{Step, take_one};
+use crate::valued::read_whole_in;
+use crate::window::{read_range, read_window};
+use crate::{ScanRefusal, Whole};
+use fs_record::Damage;
+use std::alloc::Global;
+use std::marker::Model;
+use zbase::{Memory, Oid, Rows, Tid};
+use zdisk::Disk;
+
+/// A walk over the transactions of a file, from the oldest to the newest. It keeps the place of each data record, and
+/// of the file's bytes those of one transaction while it is read.
+#[derive(Drop)]
+pub struct Walk {
+    places: Places,
+    last: Tid,
+    /// Where the next transaction begins, none before the first step.
+    at: Option<u64>,
+}
+
+impl Model for Walk {
+    ghost use Rattle.fs_scan.specs.Rising.{RiseWithin};
+    ghost use Rattle.fs_scan.specs.Walked.{Course, place_on};
+
+    ghost Value = { Course };
+
+    ghost view = { λ walk. record { place = walk.at; last = walk.last; records = walk.places } };
+
+    ghost invariant = { λ walk. RiseWithin 0 (place_on walk.at) walk.places };
+}
+
+impl Walk {
+    /// A walk that has not begun. Takes no memory.
+    pub fn new(alloc: Global) -> Walk
+        ensures begun { result ≡ begun }
+        ensures on { (bytes : List ℕ) → IsOn bytes result }
+    {
+        Walk {
+            places: Places::new(alloc),
+            last: Tid(0),
+            at: None,
+        }
+    }
+
+    /// The allocator that the walk keeps.
+    fn alloc(&self) -> Global {
+        self.places.alloc()
+    }
+
+    /// Goes over the magic where the walk has not begun, and says where the next transaction begins.
+    pub(crate) fn enter<D: Disk>(&mut self, disk: &mut D, len: u64) -> Result<u64, ScanRefusal>
+        requires { ForSome (D.told disk.old) (λ told. len ≡ length (content told)) }
+        ensures entered { IfOk result (λ at. (at ≡ place_on self.old.place) × (self.new ≡ standing at self.old)) }
+        ensures magic { IfOk result (λ at. self.old.place ≡ None → IfSome (D.told disk.old) (λ told. content told ≡ magic ++ drop 4 (content told))) }
+        ensures stays { IfErr result (λ _. self.new ≡ self.old) }
+        ensures damaged { (kind : Kind) (place : ℕ) → IsErrOf result (ScanRefusal.Damaged kind place) → IfSome (D.told disk.old) (λ told. Damaged (content told) place kind) }
+        ensures same { D.told disk.new ≡ D.told disk.old }
+        ensures spare { (D.spare_calls disk.new ≡ D.spare_calls disk.old) × (D.spare_bytes disk.new ≡ D.spare_bytes disk.old) }
+        ensures counts { Counts (D.counter disk.old) (D.counter disk.new) (IsErrOf result ScanRefusal.Disk) }
+    {
+        if let Some(at) = self.at {
+            return Ok(at);
+        }
+        let front = read_range(self.alloc(), disk, 0, len.min(4))?;
+        if !has_magic(&front) {
+            return Err(ScanRefusal::Damaged(Damage::BadMagic, 0));
+        }
+        self.at = Some(4);
+        Ok(4)
+    }
+
+    /// Takes what the window shows at the walk's place, and goes behind it where it is a right transaction. For want of
+    /// memory the walk begins anew.
+    pub(crate) fn step(&mut self, window: &[u8], at: u64) -> Result<Step, Memory>
+        requires here { self.old.place ≡ Some at }
+        requires place { at + length window.now < 2 ^ 64 }
+        ensures ok { IfOk result (λ s. Steps window.now at self.old self.new s) }
+        ensures err { OnErr result (self.new ≡ begun) }
+    {
+        let step = match take_one(&mut self.places, window, at, self.last) {
+            Ok(step) => step,
+            Err(refusal) => {
+                *self = Walk::new(self.places.alloc());
+                return Err(refusal);
+            }
+        };
+        if let Step::Right(extent) = &step {
+            self.last = last_behind(extent, self.last);
+            self.at = Some(at + extent.long as u64 + 8);
+        }
+        Ok(step)
+    }
+
+    // The transaction that was gone over, with its values. Where they can't be read, the walk begins anew, since it would
+    // leave this one out.
+    fn whole_in<D: Disk>(
+        &mut self,
+        disk: &mut D,
+        len: u64,
+        window: &[u8],
+        place: u64,
+        extent: &Extent,
+    ) -> Result<Option<Whole>, ScanRefusal>
+        requires stands { IsWhole window.now extent.now }
+        requires records { (ds : List Data) × AreRecords (area_in extent.now window.now) ds }
+        requires whole { ForSome (D.told disk.old) (λ told. len ≡ length (content told)) }
+        ensures means { IfOk result (λ found. MatchOption found ⊥ (MeansWhole (D.told disk.old) window.now place extent.now)) }
+        ensures ok { OnOk result (self.new ≡ self.old) }
+        ensures err { OnErr result (self.new ≡ begun) }
+        ensures undamaged { (kind : Kind) (place : ℕ) → IsErrOf result (ScanRefusal.Damaged kind place) → ⊥ }
+        ensures same { D.told disk.new ≡ D.told disk.old }
+        ensures spare { (D.spare_calls disk.new ≡ D.spare_calls disk.old) × (D.spare_bytes disk.new ≡ D.spare_bytes disk.old) }
+        ensures counts { Counts (D.counter disk.old) (D.counter disk.new) (IsErrOf result ScanRefusal.Disk) }
+    {
+        match read_whole_in(self.alloc(), disk, len, window, place, extent) {
+            Ok(whole) => Ok(Some(whole)),
+            Err(refusal) => {
+                *self = Walk::new(self.alloc());
+                Err(refusal)
+            }
+        }
+    }
+
+    /// The greatest id of an object with a data record so far.
+    pub(crate) fn greatest(&self) -> Option<Oid>
+        ensures { result ≡ greatest_of self.now.records }
+    {
+        self.places.greatest()
+    }
+
+    /// Where each object's last data record so far stands, by rising id.
+    pub(crate) fn newest(&self) -> Result<Rows, Memory>
+        ensures { IfOk result (AreNewest self.now.records) }
+    {
+        self.places.newest()
+    }
+
+    /// The next transaction that counts, with its values, back pointers followed; none at the file's end. It changes
+    /// nothing on the disk. Where the disk failed, or for want of memory, the walk may begin anew.
+    pub fn next<D: Disk>(&mut self, disk: &mut D) -> Result<Option<Whole>, ScanRefusal>
+        requires { ForSome (D.told disk.old) (λ told. IsOn (content told) self.old) }
+        ensures walked { IfOk result (λ found. IfSome (D.told disk.old) (λ told. Walks (content told) self.old self.new found)) }
+        ensures on { IfSome (D.told disk.old) (λ told. IsOn (content told) self.new) }
+        ensures rises { IfOk result (λ found. IfSome found (λ _. (place_on self.old.place < place_on self.new.place) × (place_on self.new.place < 2 ^ 64))) }
+        ensures damaged { (kind : Kind) (place : ℕ) → IsErrOf result (ScanRefusal.Damaged kind place) → IfSome (D.told disk.old) (λ told. Damaged (content told) place kind) }
+        ensures same { D.told disk.new ≡ D.told disk.old }
+        ensures spare { (D.spare_calls disk.new ≡ D.spare_calls disk.old) × (D.spare_bytes disk.new ≡ D.spare_bytes disk.old) }
+        ensures counts { Counts (D.counter disk.old) (D.counter disk.new) (IsErrOf result ScanRefusal.Disk) }
+    {
+        let len = disk.len()?;
+        let mut at = self.enter(disk, len)?;
+        'undone: loop {
+            let window = read_window(self.alloc(), disk, len, at)?;
+            let extent = match self.step(&window, at)? {
+                Step::End => return Ok(None),
+                Step::Damaged(kind) => return Err(ScanRefusal::Damaged(kind, at)),
+                Step::Right(extent) => extent,
+            };
+            if extent.head.status != b'u' {
+                return self.whole_in(disk, len, &window, at, &extent);
+            }
+            at += extent.long as u64 + 8;
+        }
+    }
+}
