@@ -6,3 +6,4 @@ pub mod LineRefusals
 pub mod InOrder
 pub mod LostMarks
 pub mod Giving
+pub mod DumpSteps

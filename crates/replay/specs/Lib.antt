@@ -3,3 +3,4 @@ pub mod ShownInOrder
 pub mod Losing
 pub mod BrokenOff
 pub mod Refusals
+pub mod Dumped

@@ -60,7 +60,7 @@ fn transaction_line_of(transaction: &Whole) -> Result<Line, Memory>
     ))
 }
 
-fn put_transaction<K: Sink>(
+pub(crate) fn put_transaction<K: Sink>(
     alloc: Global,
     transaction: &Whole,
     out: &mut K,

@@ -3,8 +3,11 @@
 //! `replay` runs a schedule over a store, item by item, and writes what each step printed as it comes. Its contract
 //! is that of the whole report: the schedule *may have* it (`schedule`, *Explained*), over every lawful evaluator. So
 //! the printed history gives each committed request the reply and the objects of running the requests one by one.
+//!
+//! `dump` writes the history of a file, as a report does at its end.
 #![tactic(auto)]
 
+mod dumping;
 mod history_out;
 mod losing;
 mod printing;
@@ -14,6 +17,7 @@ mod running;
 #[cfg(test)]
 mod tests;
 
+pub use dumping::{DumpRefusal, dump};
 pub use history_out::put_history;
 pub use refusal::RunRefusal;
 pub use running::replay;

@@ -1,0 +1,20 @@
+use Rattle.std.proofs.Common.{◌≡◌, ◌<◌, ◌-◌, ◌^◌, IfSome}
+use Rattle.zbase.specs.Faults.{Counts}
+use Rattle.zdisk.specs.Disk.{content}
+use Rattle.fs_scan.specs.Walked.{IsOn, place_on}
+use Rattle.replay.proofs.DumpSteps.{Printed}
+use Rattle.replay.proofs.dumping.dump.Given as goal
+
+-- the transactions so far are printed, and no fault came
+abbrev pub invariant-each : goal.invariant-each
+invariant-each g l = record {
+  printed : IfSome (g.D.Disk.told l.fn.disk) (λ told. Printed (content told) l.count l.walk (g.K.Sink.written l.fn.out) (g.K.Sink.written l.out));
+  on : IfSome (g.D.Disk.told l.fn.disk) (λ told. IsOn (content told) l.walk);
+  place : place_on l.walk.place < 2 ^ 64;
+  same : g.D.Disk.told l.disk ≡ g.D.Disk.told l.fn.disk;
+  disk : Counts (g.D.Disk.counter l.fn.disk) (g.D.Disk.counter l.disk) ⊥;
+  sink : Counts (g.K.Sink.counter l.fn.out) (g.K.Sink.counter l.out) ⊥;
+}
+
+abbrev pub decreases-each : goal.decreases-each
+decreases-each g l = 2 ^ 64 - place_on l.walk.place
