@@ -12,6 +12,8 @@ use Rattle.zope.specs.declared.refusal.FileRefusal.{FileRefusal}
 use Rattle.zope.specs.declared.refusal.Refusal.{Refusal}
 use Rattle.fs_store.specs.Stores.{most_length}
 use Rattle.fs_scan.specs.declared.opening.ScanRefusal.{ScanRefusal}
+use Rattle.replay.specs.declared.dumping.DumpRefusal.{DumpRefusal}
+use Rattle.zope.specs.DumpCauses.{DumpCause, IsOfDump, of_dump}
 use Rattle.zope.specs.CheckCauses.{IsOfScan, ScanCause, of_scan}
 use Rattle.zope.specs.Given.{IfKept, Stored, most_file}
 use Rattle.zope.specs.ReplayCauses.{FileCause, IsOfReading, of_file}
@@ -104,3 +106,34 @@ damaged_told (Some t) ScanRefusal.Memory result same short scanned kind place is
 pub short_enough : (told : Option Told) (n : ℕ) → (most_length < n → ⊥) → IfSome told (λ t. n ≡ length (content t)) → IfSome told (λ t. length (content t) ≤ most_length)
 short_enough None n le is = tt
 short_enough (Some t) n le is = subst (λ (k : ℕ). k ≤ most_length) is (omega (arith, le))
+
+-- the damage that a dump of the disk's bytes met is the command's
+pub dump_damaged : {T U : Type 0} (told : Option Told) (r : DumpRefusal) (result : Result U Refusal) (X : Type 0) → result ≡ Err (of_dump r) → IfSome told (λ t. length (content t) ≤ most_length) → ((kind : Damage) (place : ℕ) → IsErrOf {T = T} (Err r) (DumpRefusal.Damaged kind place) → IfSome told (λ t. Damaged (content t) place kind × X))
+    → (kind : Damage) (place : ℕ) → IsErrOf result (Refusal.Damaged kind place) → IfSome told (λ t. (length (content t) ≤ most_length) × (Damaged (content t) place kind × X))
+dump_damaged None r result X same short dumped kind place is = tt
+dump_damaged (Some t) (DumpRefusal.Damaged k p) result X same short dumped kind place is =
+    let both : k ≡ kind = cc in
+    let places : p ≡ place = cc in
+    let d = dumped k p refl in
+    (short, (subst (λ (n : ℕ). Damaged (content t) n kind) places (subst (λ (x : Damage). Damaged (content t) p x) both d.0), d.1))
+dump_damaged (Some t) DumpRefusal.Disk result X same short dumped kind place is = absurd cc
+dump_damaged (Some t) DumpRefusal.Output result X same short dumped kind place is = absurd cc
+dump_damaged (Some t) DumpRefusal.Memory result X same short dumped kind place is = absurd cc
+
+module _ {T : Type 0} (files : Option (List Entry)) (name : List ℕ) (told : Option Told) (sink disk : Type 0) (old new : Option (List ℕ)) (found : IfSome files (λ all. told ≡ option_map synced (file_at all name))) (there : IfSome files (λ all. file_at all name ≡ None → ⊥)) where
+  pub undumped : (r : Result T Refusal) → ((kind : Damage) (place : ℕ) → IsErrOf r (Refusal.Damaged kind place) → IfSome told (λ t. (length (content t) ≤ most_length) × (Damaged (content t) place kind × (new ≡ old))))
+      → ((n : ℕ) → IsErrOf r (Refusal.TooLong n) → (most_length < n) × IfSome told (λ t. n ≡ length (content t)) × (new ≡ old))
+      → (IsErrOf r Refusal.Missing → ⊥) → (IsErrOf r Refusal.Disk → disk) → (IsErrOf r Refusal.Output → sink) → IfErr r IsOfDump → IfErr r (DumpCause name files sink disk old new)
+  undumped (Ok x) damaged long missing failed rose others = tt
+  undumped (Err (Refusal.Damaged kind place)) damaged long missing failed rose others = kept files name told (λ bytes. Damaged bytes place kind × (new ≡ old)) found there (damaged kind place refl)
+  undumped (Err (Refusal.TooLong n)) damaged long missing failed rose others = ((long n refl).0, is_length files name told n found there (long n refl).1, (long n refl).2)
+  undumped (Err Refusal.Missing) damaged long missing failed rose others = absurd (missing refl)
+  undumped (Err Refusal.Disk) damaged long missing failed rose others = (failed refl, there)
+  undumped (Err Refusal.Output) damaged long missing failed rose others = rose refl
+  undumped (Err Refusal.Memory) damaged long missing failed rose others = tt
+  undumped (Err Refusal.NotYet) damaged long missing failed rose others = absurd others
+  undumped (Err Refusal.Usage) damaged long missing failed rose others = absurd others
+  undumped (Err (Refusal.BadLine n)) damaged long missing failed rose others = absurd others
+  undumped (Err Refusal.Input) damaged long missing failed rose others = absurd others
+  undumped (Err Refusal.InputTooLarge) damaged long missing failed rose others = absurd others
+  undumped (Err (Refusal.FileTooLarge n)) damaged long missing failed rose others = absurd others

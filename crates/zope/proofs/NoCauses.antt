@@ -16,12 +16,13 @@ use Rattle.schedule.specs.Items.{ArmNothing, IsSchedule}
 use Rattle.zope.specs.declared.refusal.Refusal.{Refusal}
 use Rattle.fs_store.specs.Stores.{most_length}
 use Rattle.zope.specs.Causes.{Cause, NoCause}
-use Rattle.zope.specs.CheckCauses.{CheckCause, NoCheckCause, PrintCause, ScanCause}
-use Rattle.zope.specs.Given.{IfKept, most_file, most_input}
+use Rattle.zope.specs.CheckCauses.{CheckCause, PrintCause, ScanCause}
+use Rattle.zope.specs.DumpCauses.{DumpCause}
+use Rattle.zope.specs.Given.{IfKept, IsSound, most_file, most_input}
 use Rattle.zope.specs.ReplayCauses.{Broke, FileCause, InputCause, NoReplayCause, ReplayCause, RunCause}
 use Rattle.zope.specs.Shelved.{HasFile, IsLength, IsMissing}
 use Rattle.zope.specs.Stores.{Opens}
-use Rattle.zope.specs.Words.{GivesLimit, IsCheckOf, IsCommand, IsReplayWith}
+use Rattle.zope.specs.Words.{GivesLimit, IsCheckOf, IsCommand, IsDumpOf, IsReplayWith}
 
 abbrev pub OneSchedule : Type 0
 OneSchedule = (text : List ℕ) (a b : List Item2) → IsSchedule text a → IsSchedule text b → a ≡ b
@@ -160,26 +161,60 @@ replay_memory name limit files input source sink more disk old new e one both wi
     let opens : Opens meets.bytes limit c.3 = subst (λ (b : List ℕ). Opens b limit c.3) (sym bytes) c.5 in
     of_run (Broke c.3 c.0 old new) sink (λ n broke. meets.runs c.3 n old new opens (subst (λ (xs : List Item2). Broke c.3 xs old new n) same broke)) (λ rose. meets.sink_calm (wider rose)) e c.6
 
-check_memory : (name : List ℕ) (files : Option (List Entry)) (sink more disk : Type 0) (old new : Option (List ℕ)) (e : Refusal) → NotDamaged → (sink → more) → CheckCause name files sink disk old new e → NoCheckCause name files more disk → e ≡ Refusal.Memory
+check_memory : (name : List ℕ) (files : Option (List Entry)) (sink more disk : Type 0) (old new : Option (List ℕ)) (e : Refusal) → NotDamaged → (sink → more) → CheckCause name files sink disk old new e → IsSound name files more disk → e ≡ Refusal.Memory
 check_memory name files sink more disk old new e law wider (inl c) meets = of_scan files meets.entries name meets.bytes meets.front meets.end disk meets.shelf meets.there meets.fits meets.opens law meets.disk_calm e c.0
 check_memory name files sink more disk old new e law wider (inr c) meets = of_print sink _ old new (λ rose. meets.sink_calm (wider rose)) e c.2
 
--- the words of one command are none of the other
+dump_memory : (name : List ℕ) (files : Option (List Entry)) (sink more disk : Type 0) (old new : Option (List ℕ)) (e : Refusal) → NotDamaged → (sink → more) → DumpCause name files sink disk old new e → IsSound name files more disk → e ≡ Refusal.Memory
+dump_memory name files sink more disk old new Refusal.Memory law wider c meets = refl
+dump_memory name files sink more disk old new Refusal.Missing law wider c meets = absurd (not_none (file_at meets.entries name) meets.bytes meets.there (subst (λ f. IsMissing f name) meets.shelf c.0))
+dump_memory name files sink more disk old new (Refusal.TooLong n) law wider c meets =
+    let long : option_map length (file_at meets.entries name) ≡ Some n = subst (λ f. IsLength f name n) meets.shelf c.1 in
+    let same : length meets.bytes ≡ n = same_bytes (option_map length (file_at meets.entries name)) (length meets.bytes) n (ap (option_map length) meets.there) long in
+    absurd (omega (arith, c.0, same, meets.fits))
+dump_memory name files sink more disk old new Refusal.Disk law wider c meets = absurd (meets.disk_calm c.0)
+dump_memory name files sink more disk old new (Refusal.Damaged kind place) law wider c meets =
+    absurd (law meets.bytes meets.front meets.end place kind meets.opens (kept_same files meets.entries name meets.bytes (λ b. Damaged b place kind × (new ≡ old)) meets.shelf meets.there c).0)
+dump_memory name files sink more disk old new Refusal.Output law wider c meets = absurd (meets.sink_calm (wider c))
+dump_memory name files sink more disk old new Refusal.NotYet law wider c meets = absurd c
+dump_memory name files sink more disk old new Refusal.Usage law wider c meets = absurd c
+dump_memory name files sink more disk old new (Refusal.BadLine n) law wider c meets = absurd c
+dump_memory name files sink more disk old new Refusal.Input law wider c meets = absurd c
+dump_memory name files sink more disk old new Refusal.InputTooLarge law wider c meets = absurd c
+dump_memory name files sink more disk old new (Refusal.FileTooLarge n) law wider c meets = absurd c
+
+-- the words of one command are none of another
+
 not_check : (words : List (List ℕ)) (a b : List ℕ) (k : ℕ) → IsReplayWith words a k → IsCheckOf words b → ⊥
 not_check words a b k replays checks = (let both = sym replays.1 ∙ checks in cc)
 
-same_check : (words : List (List ℕ)) (a b : List ℕ) → IsCheckOf words a → IsCheckOf words b → a ≡ b
-same_check words a b p q = (let both = sym p ∙ q in cc)
+not_dump : (words : List (List ℕ)) (a b : List ℕ) (k : ℕ) → IsReplayWith words a k → IsDumpOf words b → ⊥
+not_dump words a b k replays dumps = (let both = sym replays.1 ∙ dumps in cc)
+
+not_over : (words : List (List ℕ)) (a b : List ℕ) (k : ℕ) → IsReplayWith words a k → IsCheckOf words b ⊎ IsDumpOf words b → ⊥
+not_over words a b k replays (inl checks) = not_check words a b k replays checks
+not_over words a b k replays (inr dumps) = not_dump words a b k replays dumps
+
+-- words that are a command and one more name one file
+check_over : (words : List (List ℕ)) (a b : List ℕ) → IsCheckOf words a → IsCheckOf words b ⊎ IsDumpOf words b → a ≡ b
+check_over words a b p (inl q) = (let both = sym p ∙ q in cc)
+check_over words a b p (inr q) = (let both = sym p ∙ q in cc)
+
+dump_over : (words : List (List ℕ)) (a b : List ℕ) → IsDumpOf words a → IsCheckOf words b ⊎ IsDumpOf words b → a ≡ b
+dump_over words a b p (inl q) = (let both = sym p ∙ q in cc)
+dump_over words a b p (inr q) = (let both = sym p ∙ q in cc)
 
 pub only_memory : (words : List (List ℕ)) (files : Option (List Entry)) (input : Option (List ℕ)) (source sink more disk : Type 0) (old new : Option (List ℕ)) (e : Refusal) → OneSchedule → NotBoth → NotDamaged → (sink → more) → Cause words files input source sink disk old new e → NoCause words files input source more disk → e ≡ Refusal.Memory
-only_memory words files input source sink more disk old new e one both law wider (inl usage) (inl meets) = absurd (usage.1 (inl (meets.0, (meets.1, meets.2))))
-only_memory words files input source sink more disk old new e one both law wider (inl usage) (inr meets) = absurd (usage.1 (inr (meets.0, meets.1)))
-only_memory words files input source sink more disk old new e one both law wider (inr (inl c)) (inr meets) = absurd (not_check words c.0 meets.0 c.1 c.2 meets.1)
-only_memory words files input source sink more disk old new e one both law wider (inr (inr c)) (inl meets) = absurd (not_check words meets.0 c.0 meets.1 meets.2 c.1)
+only_memory words files input source sink more disk old new e one both law wider (inl usage) (inl meets) = absurd (usage.1 (meets.0, inl (meets.1, meets.2)))
+only_memory words files input source sink more disk old new e one both law wider (inl usage) (inr meets) = absurd (usage.1 (meets.0, inr meets.1))
+only_memory words files input source sink more disk old new e one both law wider (inr (inl c)) (inr meets) = absurd (not_over words c.0 meets.0 c.1 c.2 meets.1)
+only_memory words files input source sink more disk old new e one both law wider (inr (inr (inl c))) (inl meets) = absurd (not_check words meets.0 c.0 meets.1 meets.2 c.1)
+only_memory words files input source sink more disk old new e one both law wider (inr (inr (inr c))) (inl meets) = absurd (not_dump words meets.0 c.0 meets.1 meets.2 c.1)
 only_memory words files input source sink more disk old new e one both law wider (inr (inl c)) (inl meets) =
     let same = same_words words c.0 meets.0 c.1 meets.1 c.2 meets.2 in
     replay_memory meets.0 meets.1 files input source sink more disk old new e one both wider (subst (λ k. ReplayCause meets.0 k files input source sink disk old new e) same.1 (subst (λ (n : List ℕ). ReplayCause n c.1 files input source sink disk old new e) same.0 c.3)) meets.3
-only_memory words files input source sink more disk old new e one both law wider (inr (inr c)) (inr meets) = check_memory meets.0 files sink more disk old new e law wider (subst (λ (n : List ℕ). CheckCause n files sink disk old new e) (same_check words c.0 meets.0 c.1 meets.1) c.2) meets.2
+only_memory words files input source sink more disk old new e one both law wider (inr (inr (inl c))) (inr meets) = check_memory meets.0 files sink more disk old new e law wider (subst (λ (n : List ℕ). CheckCause n files sink disk old new e) (check_over words c.0 meets.0 c.1 meets.1) c.2) meets.2
+only_memory words files input source sink more disk old new e one both law wider (inr (inr (inr c))) (inr meets) = dump_memory meets.0 files sink more disk old new e law wider (subst (λ (n : List ℕ). DumpCause n files sink disk old new e) (dump_over words c.0 meets.0 c.1 meets.1) c.2) meets.2
 
 pub sink_is_calm : (words : List (List ℕ)) (files : Option (List Entry)) (input : Option (List ℕ)) (source sink disk : Type 0) → NoCause words files input source sink disk → sink → ⊥
 sink_is_calm words files input source sink disk (inl meets) = meets.3.sink_calm
@@ -194,8 +229,9 @@ rose_before a b c le rose = omega (arith, rose)
 -- words that name no command are refused for that alone
 pub only_usage : (words : List (List ℕ)) (files : Option (List Entry)) (input : Option (List ℕ)) (source sink disk : Type 0) (old new : Option (List ℕ)) (e : Refusal) → Cause words files input source sink disk old new e → (IsCommand words → ⊥) → e ≡ Refusal.Usage
 only_usage words files input source sink disk old new e (inl usage) other = usage.0
-only_usage words files input source sink disk old new e (inr (inl c)) other = absurd (other (inl (c.0, (c.1, c.2))))
-only_usage words files input source sink disk old new e (inr (inr c)) other = absurd (other (inr (c.0, c.1)))
+only_usage words files input source sink disk old new e (inr (inl c)) other = absurd (other (c.0, inl (c.1, c.2)))
+only_usage words files input source sink disk old new e (inr (inr (inl c))) other = absurd (other (c.0, inr (inl c.1)))
+only_usage words files input source sink disk old new e (inr (inr (inr c))) other = absurd (other (c.0, inr (inr c.1)))
 
 -- a count that rose did so before or behind any moment between
 pub rose_either : (a b c : ℕ) → a < c → (a < b) ⊎ (b < c)

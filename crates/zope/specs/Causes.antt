@@ -4,23 +4,28 @@ use Rattle.std.specs.Io.KnownBytes.{append_known}
 use Rattle.zio.specs.Shelves.{Entry}
 use Rattle.fs_record.specs.declared.damage.Damage.{Damage}
 use Rattle.zope.specs.declared.refusal.Refusal.{Refusal}
-use Rattle.zope.specs.CheckCauses.{CheckCause, NoCheckCause}
+use Rattle.zope.specs.CheckCauses.{CheckCause}
+use Rattle.zope.specs.DumpCauses.{DumpCause, Dumped}
+use Rattle.zope.specs.Given.{IsSound}
 use Rattle.zope.specs.Numbers.{NumbersPrinted}
 use Rattle.zope.specs.ReplayCauses.{NoReplayCause, ReplayCause}
 use Rattle.zope.specs.Replayed.{Replayed}
-use Rattle.zope.specs.Words.{IsCheckOf, IsCommand, IsOf, IsReplayWith}
+use Rattle.zope.specs.Words.{IsCheckOf, IsCommand, IsDumpOf, IsOf, IsReplayWith}
 
 -- what a command that ended well did
 abbrev pub Did : (words : List (List ℕ)) (files : Option (List Entry)) (input old new : Option (List ℕ)) → Type 0
 Did words files input old new =
-    ((name : List ℕ) × (limit : ℕ) × IsReplayWith words name limit × Replayed name limit files input old new) ⊎ ((name : List ℕ) × IsCheckOf words name × NumbersPrinted name files old new)
+    ((name : List ℕ) × (limit : ℕ) × IsReplayWith words name limit × Replayed name limit files input old new)
+    ⊎ (((name : List ℕ) × IsCheckOf words name × NumbersPrinted name files old new)
+    ⊎ ((name : List ℕ) × IsDumpOf words name × Dumped name files old new))
 
 -- the cause of a refusal: of the words, or of the command that they name
 abbrev pub Cause : (words : List (List ℕ)) (files : Option (List Entry)) (input : Option (List ℕ)) (source sink disk : Type 0) (old new : Option (List ℕ)) → Refusal → Type 0
 Cause words files input source sink disk old new e =
     ((e ≡ Refusal.Usage) × (IsCommand words → ⊥) × (new ≡ old))
     ⊎ (((name : List ℕ) × (limit : ℕ) × IsReplayWith words name limit × ReplayCause name limit files input source sink disk old new e)
-    ⊎ ((name : List ℕ) × IsCheckOf words name × CheckCause name files sink disk old new e))
+    ⊎ (((name : List ℕ) × IsCheckOf words name × CheckCause name files sink disk old new e)
+    ⊎ ((name : List ℕ) × IsDumpOf words name × DumpCause name files sink disk old new e)))
 
 -- the number of a damage
 abbrev pub kind_number : Damage → ℕ
@@ -59,4 +64,5 @@ Comes words files input source sink disk old new e = (mid : Option (List ℕ)) �
 -- nothing that the command looks at is a cause, and no count rose
 abbrev pub NoCause : (words : List (List ℕ)) (files : Option (List Entry)) (input : Option (List ℕ)) (source sink disk : Type 0) → Type 0
 NoCause words files input source sink disk =
-    ((name : List ℕ) × (limit : ℕ) × IsReplayWith words name limit × NoReplayCause name limit files input source sink disk) ⊎ ((name : List ℕ) × IsCheckOf words name × NoCheckCause name files sink disk)
+    ((name : List ℕ) × (limit : ℕ) × IsReplayWith words name limit × NoReplayCause name limit files input source sink disk)
+    ⊎ ((name : List ℕ) × (IsCheckOf words name ⊎ IsDumpOf words name) × IsSound name files sink disk)

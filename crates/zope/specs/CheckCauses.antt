@@ -1,11 +1,10 @@
 -- Why a check of a file did not end well, and what it wrote before its last line.
 --
 -- The order of looking is: the shelf; the file's size; its reading; the printing.
-use Rattle.std.specs.Prelude.{◌≡◌, ◌⊎◌, ℕ, ◌≤◌, ◌<◌, List, length, Option, Some}
-use Rattle.zio.specs.Shelves.{Entry, file_at}
+use Rattle.std.specs.Prelude.{◌≡◌, ◌⊎◌, ℕ, ◌<◌, List, Option}
+use Rattle.zio.specs.Shelves.{Entry}
 use Rattle.zio.specs.Sinks.{AppendsFront}
-use Rattle.fs_record.specs.File.{Front}
-use Rattle.fs_record.specs.Opening.{Cut, Damaged}
+use Rattle.fs_record.specs.Opening.{Damaged}
 use Rattle.fs_scan.specs.Checked.{Checks}
 use Rattle.fs_scan.specs.declared.checking.Checked.{Checked}
 use Rattle.fs_scan.specs.declared.opening.ScanRefusal.{ScanRefusal}
@@ -49,16 +48,3 @@ abbrev pub of_scan : ScanRefusal → Refusal
 of_scan (ScanRefusal.Damaged kind place) = Refusal.Damaged kind place
 of_scan ScanRefusal.Disk = Refusal.Disk
 of_scan ScanRefusal.Memory = Refusal.Memory
-
--- nothing that a check looks at is a cause: the file is there, opens and isn't too long, and no count rose
-pub record NoCheckCause (name : List ℕ) (files : Option (List Entry)) (sink disk : Type 0) : Type 0 where
-  pub entries : List Entry
-  pub shelf : files ≡ Some entries
-  pub bytes : List ℕ
-  pub there : file_at entries name ≡ Some bytes
-  pub fits : length bytes ≤ most_length
-  pub front : Front
-  pub end : ℕ
-  pub opens : Cut bytes front end
-  pub sink_calm : sink → ⊥
-  pub disk_calm : disk → ⊥

@@ -6,4 +6,5 @@ pub mod Replayed
 pub mod Numbers
 pub mod ReplayCauses
 pub mod CheckCauses
+pub mod DumpCauses
 pub mod Causes

@@ -169,6 +169,23 @@ fn a_file_that_is_too_large_is_not_read(rt: HostRuntime) -> Result<(), Fail> {
 }
 
 #[test]
+fn a_file_that_is_too_long_is_not_dumped(rt: HostRuntime) -> Result<(), Fail> {
+    let alloc = rt.alloc();
+    let dump = &["dump", "empty.fs"];
+    let mut input = MemorySource::new(Bytes::new(alloc), FaultPlan::none(alloc));
+    for (length, status, output) in [
+        (281_474_976_710_656, 12, "too long 281474976710656\n"),
+        (u64::MAX, 12, "too long 18446744073709551615\n"),
+    ] {
+        assert!(rt;
+            ends_long(alloc, dump, length, &mut input, status, output)?,
+            "{length}"
+        );
+    }
+    Ok(())
+}
+
+#[test]
 fn a_file_that_is_too_long_is_not_checked(rt: HostRuntime) -> Result<(), Fail> {
     let alloc = rt.alloc();
     let check = &["check", "empty.fs"];

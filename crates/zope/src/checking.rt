@@ -20,7 +20,7 @@ use zdisk::Disk;
 use zio::{OutsideRefusal, Shelf, ShelfRefusal, Sink};
 
 /// The most bytes that a file may have.
-const MAX_LENGTH: u64 = 281_474_976_710_655;
+pub const MAX_LENGTH: u64 = 281_474_976_710_655;
 
 // The numbers of the file on a disk. Its length is looked at first.
 fn check_disk<D: Disk>(alloc: Global, disk: &mut D) -> Result<Checked, Refusal>

@@ -3,13 +3,14 @@ ghost use Rattle.zbase.specs.Faults.{Counts, Rose};
 ghost use Rattle.zope.specs.Causes.{Cause, Did};
 
 use crate::checking::check_file;
+use crate::dumping::dump_file;
 use crate::refusal::Refusal;
 use crate::replaying::replay_file;
-use crate::words::{check_words, replay_words};
+use crate::words::{check_words, dump_words, replay_words};
 use std::alloc::Global;
 use zio::{Shelf, Sink, Source};
 
-/// Runs the command that the words name: `replay FILE`, maybe with `--limit N`, or `check FILE`.
+/// Runs the command that the words name: `replay FILE`, maybe with `--limit N`, `check FILE` or `dump FILE`.
 pub fn run_command<F: Shelf, S: Source, K: Sink>(
     alloc: Global,
     words: &[String],
@@ -24,8 +25,11 @@ pub fn run_command<F: Shelf, S: Source, K: Sink>(
     if let Some((name, limit)) = replay_words(words) {
         return replay_file(alloc, name, limit, files, input, out);
     }
-    match check_words(words) {
-        Some(name) => check_file(alloc, name, files, out),
+    if let Some(name) = check_words(words) {
+        return check_file(alloc, name, files, out);
+    }
+    match dump_words(words) {
+        Some(name) => dump_file(alloc, name, files, out),
         None => Err(Refusal::Usage),
     }
 }

@@ -8,6 +8,9 @@ mod check_tests;
 mod checking;
 mod command;
 #[cfg(test)]
+mod dump_tests;
+mod dumping;
+#[cfg(test)]
 mod edit_tests;
 mod inputs;
 mod last_lines;

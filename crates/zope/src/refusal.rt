@@ -1,12 +1,13 @@
 ghost use Rattle.std.specs.Prelude.{◌≡◌};
 ghost use Rattle.zope.specs.CheckCauses.{of_scan};
+ghost use Rattle.zope.specs.DumpCauses.{of_dump};
 ghost use Rattle.zope.specs.ReplayCauses.{of_file, of_input, of_run, of_schedule};
 ghost use Rattle.zope.specs.declared.refusal.FileRefusal.TheVariants.{Memory as FileMemory};
 ghost use Rattle.zope.specs.declared.refusal.InputRefusal.TheVariants.{Memory as InputMemory};
 
 use fs_record::Damage;
 use fs_scan::ScanRefusal;
-use replay::RunRefusal;
+use replay::{DumpRefusal, RunRefusal};
 use schedule::ScheduleRefusal;
 use std::alloc::{AllocError, AllocFailed};
 
@@ -143,6 +144,19 @@ impl From<ScanRefusal> for Refusal {
             ScanRefusal::Damaged(kind, place) => Refusal::Damaged(kind, place),
             ScanRefusal::Disk => Refusal::Disk,
             ScanRefusal::Memory => Refusal::Memory,
+        }
+    }
+}
+
+impl From<DumpRefusal> for Refusal {
+    ghost from_gives = { λ refusal e. e ≡ of_dump refusal };
+
+    fn from(refusal: DumpRefusal) -> Refusal {
+        match refusal {
+            DumpRefusal::Damaged(kind, place) => Refusal::Damaged(kind, place),
+            DumpRefusal::Disk => Refusal::Disk,
+            DumpRefusal::Output => Refusal::Output,
+            DumpRefusal::Memory => Refusal::Memory,
         }
     }
 }

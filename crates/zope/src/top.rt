@@ -93,7 +93,7 @@ pub fn run<F: Shelf, S: Source, K: Sink, H: Hub, C: Clock>(
     _clock: &mut C,
 ) -> Status
     // The words are `replay FILE`, maybe with a limit, and the report that was written explains the schedule; or they
-    // are `check FILE`, and the file's numbers were written.
+    // are `check FILE`, and the file's numbers were written; or they are `dump FILE`, and its history was.
     ensures did { result.0 ≡ 0 → Did (map string_bytes words.now) (F.files files.old) (S.left input.old) (K.written out.old) (K.written out.new) }
     // The file begins as one, and isn't of whole committed transactions that hold their data.
     ensures not_yet { result.0 ≡ 1 → Comes (map string_bytes words.now) (F.files files.old) (S.left input.old) (Rose (S.counter input.old) (S.counter input.new)) (Rose (K.counter out.old) (K.counter out.new)) (Rose (F.counter files.old) (F.counter files.new) ⊎ (F.sound_disks files.old → ⊥)) (K.written out.old) (K.written out.new) Refusal.NotYet }
@@ -113,7 +113,7 @@ pub fn run<F: Shelf, S: Source, K: Sink, H: Hub, C: Clock>(
     ensures missing { result.0 ≡ 8 → Comes (map string_bytes words.now) (F.files files.old) (S.left input.old) (Rose (S.counter input.old) (S.counter input.new)) (Rose (K.counter out.old) (K.counter out.new)) (Rose (F.counter files.old) (F.counter files.new) ⊎ (F.sound_disks files.old → ⊥)) (K.written out.old) (K.written out.new) Refusal.Missing }
     // The schedule of a replay is longer than its limit, or the file than its own.
     ensures too_large { result.0 ≡ 9 → Comes (map string_bytes words.now) (F.files files.old) (S.left input.old) (Rose (S.counter input.old) (S.counter input.new)) (Rose (K.counter out.old) (K.counter out.new)) (Rose (F.counter files.old) (F.counter files.new) ⊎ (F.sound_disks files.old → ⊥)) (K.written out.old) (K.written out.new) Refusal.InputTooLarge ⊎ ((n : ℕ) × Comes (map string_bytes words.now) (F.files files.old) (S.left input.old) (Rose (S.counter input.old) (S.counter input.new)) (Rose (K.counter out.old) (K.counter out.new)) (Rose (F.counter files.old) (F.counter files.new) ⊎ (F.sound_disks files.old → ⊥)) (K.written out.old) (K.written out.new) (Refusal.FileTooLarge n)) }
-    // The file of a check is longer than any file may be.
+    // The file of a check or a dump is longer than any file may be.
     ensures too_long { result.0 ≡ 12 → (n : ℕ) × Comes (map string_bytes words.now) (F.files files.old) (S.left input.old) (Rose (S.counter input.old) (S.counter input.new)) (Rose (K.counter out.old) (K.counter out.new)) (Rose (F.counter files.old) (F.counter files.new) ⊎ (F.sound_disks files.old → ⊥)) (K.written out.old) (K.written out.new) (Refusal.TooLong n) }
     ensures known { (result.0 ≤ 9) ⊎ (result.0 ≡ 12) }
     // Where there is no cause, the run ends well, or for want of memory.

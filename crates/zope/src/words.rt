@@ -1,5 +1,5 @@
-ghost use Rattle.std.specs.Prelude.{◌≡◌, ◌≤◌, ℕ, map, MatchOption, None, string_bytes};
-ghost use Rattle.zope.specs.Words.{GivesLimit, IsCheck, IsCheckOf, IsCommand, IsLimit, IsOf, IsReplay, IsReplayWith};
+ghost use Rattle.std.specs.Prelude.{◌≡◌, ◌≤◌, ◌∷◌, [], ℕ, List, map, MatchOption, None, string_bytes};
+ghost use Rattle.zope.specs.Words.{GivesLimit, IsCheckOf, IsCommand, IsDumpOf, IsLimit, IsOf, IsReplayOf, IsReplayWith};
 
 /// The most bytes that `--limit` may give a file, and those that it may have without it.
 const MAX_LIMIT: u64 = 281_474_976_710_655;
@@ -37,7 +37,7 @@ fn limit_words(rest: &[String]) -> Option<u64>
 /// The file that a replay is asked for, and how many bytes it may have: none exactly where the words aren't `replay`
 /// and one more word, with or without `--limit` and a number behind them.
 pub fn replay_words(words: &[String]) -> Option<(&str, u64)>
-    ensures { MatchOption result (IsReplay (map string_bytes words.now) → ⊥) (λ command. IsReplayWith (map string_bytes words.now) command.0.now command.1) }
+    ensures { MatchOption result ((name : List ℕ) → IsReplayOf (map string_bytes words.now) name → ⊥) (λ command. IsReplayWith (map string_bytes words.now) command.0.now command.1) }
 {
     let Some((command, rest)) = words.split_first() else {
         return None;
@@ -54,28 +54,45 @@ pub fn replay_words(words: &[String]) -> Option<(&str, u64)>
     }
 }
 
-/// The file that a check is asked for: none exactly where the words aren't `check` and one more word.
-pub fn check_words(words: &[String]) -> Option<&str>
-    ensures { MatchOption result (IsCheck (map string_bytes words.now) → ⊥) (λ name. IsCheckOf (map string_bytes words.now) name.now) }
+// The file behind a command's word: none exactly where the words aren't that word and one more.
+fn named<'a>(words: &'a [String], command: &str) -> Option<&'a str>
+    ensures { MatchOption result ((name : List ℕ) → map string_bytes words.now ≡ command.now ∷ name ∷ [] → ⊥) (λ name. map string_bytes words.now ≡ command.now ∷ name.now ∷ []) }
 {
-    let Some((command, rest)) = words.split_first() else {
+    let Some((first, rest)) = words.split_first() else {
         return None;
     };
     let Some((name, rest)) = rest.split_first() else {
         return None;
     };
-    if command.as_str() != "check" || rest.len() > 0 {
+    if first.as_str() != command || rest.len() > 0 {
         return None;
     }
     Some(name.as_str())
+}
+
+/// The file that a check is asked for: none exactly where the words aren't `check` and one more word.
+pub fn check_words(words: &[String]) -> Option<&str>
+    ensures { MatchOption result ((name : List ℕ) → IsCheckOf (map string_bytes words.now) name → ⊥) (λ name. IsCheckOf (map string_bytes words.now) name.now) }
+{
+    named(words, "check")
+}
+
+/// The file that a dump is asked for: none exactly where the words aren't `dump` and one more word.
+pub fn dump_words(words: &[String]) -> Option<&str>
+    ensures { MatchOption result ((name : List ℕ) → IsDumpOf (map string_bytes words.now) name → ⊥) (λ name. IsDumpOf (map string_bytes words.now) name.now) }
+{
+    named(words, "dump")
 }
 
 /// The file that the command is over: none exactly where the words are none of the program's.
 pub fn file_words(words: &[String]) -> Option<&str>
     ensures { MatchOption result (IsCommand (map string_bytes words.now) → ⊥) (λ name. IsOf (map string_bytes words.now) name.now) }
 {
-    match replay_words(words) {
-        Some((name, _)) => Some(name),
-        None => check_words(words),
+    if let Some((name, _)) = replay_words(words) {
+        return Some(name);
+    }
+    match check_words(words) {
+        Some(name) => Some(name),
+        None => dump_words(words),
     }
 }

@@ -9,6 +9,11 @@ returns-in-Err-clause-bad_line g c is =
     let bad = c.refuse.ensures.bad_line is in
     (bad.0.0, subst (Comes _ _ _ _ _ _ _ _) bad.0.1 (_, c.in-Err.ensures.cause, bad.1))
 
+pub returns-in-Err-clause-damaged : goal.returns-in-Err-clause-damaged
+returns-in-Err-clause-damaged g c is =
+    let bad = c.refuse.ensures.damaged is in
+    (bad.0.0, bad.0.1, subst (Comes _ _ _ _ _ _ _ _) bad.0.2 (_, c.in-Err.ensures.cause, bad.1))
+
 pub returns-in-Err-clause-complete : goal.returns-in-Err-clause-complete
 returns-in-Err-clause-complete g c meets =
     let before = g.K.Sink.counter c.args.out.now in
