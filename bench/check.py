@@ -12,7 +12,7 @@ import struct
 import subprocess
 import tempfile
 
-from replay import HOME, PROGRAM, timed
+from replay import HOME, PROGRAM, least, timed
 
 # the program itself, without the script that builds it where that is due
 BUILT = HOME / "crates" / "zope" / "out" / "zope"
@@ -20,13 +20,13 @@ BUILT = HOME / "crates" / "zope" / "out" / "zope"
 FIRST = 0x0331620000000000
 
 
-def write_file(path, oids, size):
-    """A file with a record of so many bytes of data for each object, a thousand to a transaction."""
+def write_file(path, oids, size, together=1000):
+    """A file with a record of so many bytes of data for each object, so many to a transaction."""
     data, place = b"d" * size, 4
     with open(path, "wb") as out:
         out.write(b"FS21")
-        for number in range(0, len(oids), 1000):
-            tid, part = FIRST + number, oids[number : number + 1000]
+        for number in range(0, len(oids), together):
+            tid, part = FIRST + number, oids[number : number + together]
             records = b"".join(struct.pack(">QQQQHQ", oid, tid, 0, place, 0, size) + data for oid in part)
             length = 23 + len(records)
             head = struct.pack(">QQ", tid, length) + b" " + struct.pack(">HHH", 0, 0, 0)
@@ -35,23 +35,14 @@ def write_file(path, oids, size):
     return place
 
 
-def checked(path):
-    """The numbers that a check prints, its seconds, and its greatest memory in bytes."""
+def checked(path, records, end):
+    """The seconds and the greatest memory in bytes of a check of a file of these numbers."""
     with tempfile.TemporaryFile() as out:
-        seconds, memory = timed([BUILT, "check", path], out=out)
+        run = timed([BUILT, "check", path], out=out)
         out.seek(0)
         numbers = dict(line.split() for line in out.read().decode().splitlines())
-    return numbers, seconds, memory
-
-
-def best_check(path, records, end, rounds):
-    """The least seconds of so many checks of a file of these numbers, and the greatest memory."""
-    best, most = 1e9, 0
-    for _ in range(rounds):
-        numbers, seconds, memory = checked(path)
-        assert numbers["objects"] == str(records) and numbers["end"] == str(end) and numbers["torn"] == "0", numbers
-        best, most = min(best, seconds), max(most, memory)
-    return best, most
+    assert numbers["objects"] == str(records) and numbers["end"] == str(end) and numbers["torn"] == "0", numbers
+    return run
 
 
 def main():
@@ -66,7 +57,7 @@ def main():
     with tempfile.TemporaryDirectory() as made:
         made = pathlib.Path(made)
         empty = write_file(made / "empty.fs", [], given.size)
-        started, _ = best_check(made / "empty.fs", 0, empty, 50)
+        started, _ = least(lambda: checked(made / "empty.fs", 0, empty), 50)
         print(f"starting the program: {started * 1000:.2f} ms")
         for order in ("rising", "random"):
             a_record = {}
@@ -76,7 +67,7 @@ def main():
                     random.Random(1).shuffle(oids)
                 path = made / f"{order}-{records}.fs"
                 end = write_file(path, oids, given.size)
-                seconds, memory = best_check(path, records, end, rounds)
+                seconds, memory = least(lambda: checked(path, records, end), rounds)
                 digest = min(timed(["sha1sum", path], out=subprocess.DEVNULL)[0] for _ in range(given.rounds))
                 a_record[records] = (seconds - started) / records, seconds / records
                 print(f"{order} ids, {records} records, {end} bytes: {seconds:.4f} s, sha1sum {digest:.4f} s, ratio {seconds / digest:.2f}")

@@ -96,6 +96,12 @@ def timed(words, given=None, out=None):
     return seconds, usage.ru_maxrss * 1024
 
 
+def least(run, rounds):
+    """The least seconds of so many runs, and the greatest memory; each run gives both."""
+    runs = [run() for _ in range(rounds)]
+    return min(seconds for seconds, _ in runs), max(memory for _, memory in runs)
+
+
 def main():
     options = argparse.ArgumentParser(description=__doc__)
     options.add_argument("--transactions", type=int, default=10_000)
