@@ -12,15 +12,15 @@ use Rattle.std.specs.Ordering.{is_eq, nat_cmp, match_ordering}
 use Rattle.std.specs.BTreeMap.{is_at, insert_entry}
 use Rattle.zbase.specs.declared.ids.Row.{Row}
 use Rattle.fs_scan.specs.Newest.{place_for, OidsRiseFrom}
-use Rattle.fs_scan.specs.Pages.{rows_from, rows_of, PagesRiseFrom}
+use Rattle.fs_scan.specs.Pages.{place_held, rows_from, rows_of, PagesRiseFrom}
 
 abbrev pub Page : Type 0
-Page = List (Option ℕ)
+Page = List ℕ
 
 -- the place in a slot of a page, if there is a page
 abbrev pub place_on : Option Page → ℕ → Option ℕ
 place_on None slot = None
-place_on (Some page) slot = get_or page slot None
+place_on (Some page) slot = place_held (get_or page slot 0)
 
 -- ---- a look-up
 
@@ -36,21 +36,21 @@ at_same a o = one_of (ltb a o) (eqb a o) (λ p. ne_eqb a o (λ e. omega (arith, 
 -- an id below a page, and one behind it
 below : (oid n : ℕ) (places : Page) (rest : List Row) → oid < n → place_for oid (rows_from n places ++ rest) ≡ place_for oid rest
 below oid n [] rest lt = refl
-below oid n (None ∷ places) rest lt = below oid (n + 1) places rest (omega arith)
-below oid n (Some place ∷ places) rest lt = rw (ne_eqb oid n (λ e. omega (arith, lt, e))) (below oid (n + 1) places rest (omega arith))
+below oid n (zero ∷ places) rest lt = below oid (n + 1) places rest (omega arith)
+below oid n (suc p ∷ places) rest lt = rw (ne_eqb oid n (λ e. omega (arith, lt, e))) (below oid (n + 1) places rest (omega arith))
 
 behind : (oid n : ℕ) (places : Page) (rest : List Row) → n + length places ≤ oid → place_for oid (rows_from n places ++ rest) ≡ place_for oid rest
 behind oid n [] rest le = refl
-behind oid n (None ∷ places) rest le = behind oid (n + 1) places rest (omega arith)
-behind oid n (Some place ∷ places) rest le = rw (ne_eqb oid n (λ e. omega (arith, le, e))) (behind oid (n + 1) places rest (omega arith))
+behind oid n (zero ∷ places) rest le = behind oid (n + 1) places rest (omega arith)
+behind oid n (suc p ∷ places) rest le = rw (ne_eqb oid n (λ e. omega (arith, le, e))) (behind oid (n + 1) places rest (omega arith))
 
 -- an id of a page, of which nothing else speaks
-within : (oid n slot : ℕ) (places : Page) (rest : List Row) → n + slot ≡ oid → slot < length places → place_for oid rest ≡ None → place_for oid (rows_from n places ++ rest) ≡ get_or places slot None
+within : (oid n slot : ℕ) (places : Page) (rest : List Row) → n + slot ≡ oid → slot < length places → place_for oid rest ≡ None → place_for oid (rows_from n places ++ rest) ≡ place_held (get_or places slot 0)
 within oid n slot [] rest at lt none = absurd (omega arith)
-within oid n zero (None ∷ places) rest at lt none = below oid (n + 1) places rest (omega arith) ∙ none
-within oid n zero (Some place ∷ places) rest at lt none = rw (eq-eqb oid n (omega arith)) refl
-within oid n (suc slot) (None ∷ places) rest at lt none = within oid (n + 1) slot places rest (omega arith) (omega arith) none
-within oid n (suc slot) (Some place ∷ places) rest at lt none = rw (ne_eqb oid n (λ e. omega (arith, at, e))) (within oid (n + 1) slot places rest (omega arith) (omega arith) none)
+within oid n zero (zero ∷ places) rest at lt none = below oid (n + 1) places rest (omega arith) ∙ none
+within oid n zero (suc p ∷ places) rest at lt none = rw (eq-eqb oid n (omega arith)) refl
+within oid n (suc slot) (zero ∷ places) rest at lt none = within oid (n + 1) slot places rest (omega arith) (omega arith) none
+within oid n (suc slot) (suc p ∷ places) rest at lt none = rw (ne_eqb oid n (λ e. omega (arith, at, e))) (within oid (n + 1) slot places rest (omega arith) (omega arith) none)
 
 unreached : (m oid : ℕ) (pages : List (ℕ × Page)) → PagesRiseFrom m pages → oid < m * 64 → place_for oid (rows_of pages) ≡ None
 unreached m oid [] rise lt = refl
@@ -89,8 +89,8 @@ weaker m n (row ∷ rows) le rise = (omega (arith, rise.0), rise.1)
 
 page_rises : (n : ℕ) (places : Page) (rest : List Row) → OidsRiseFrom (n + length places) rest → OidsRiseFrom n (rows_from n places ++ rest)
 page_rises n [] rest rise = weaker n _ rest (omega arith) rise
-page_rises n (None ∷ places) rest rise = weaker n (n + 1) (rows_from (n + 1) places ++ rest) (omega arith) (page_rises (n + 1) places rest (weaker _ _ rest (omega arith) rise))
-page_rises n (Some place ∷ places) rest rise = (omega arith, page_rises (n + 1) places rest (weaker _ _ rest (omega arith) rise))
+page_rises n (zero ∷ places) rest rise = weaker n (n + 1) (rows_from (n + 1) places ++ rest) (omega arith) (page_rises (n + 1) places rest (weaker _ _ rest (omega arith) rise))
+page_rises n (suc p ∷ places) rest rise = (omega arith, page_rises (n + 1) places rest (weaker _ _ rest (omega arith) rise))
 
 pub pages_rise : (m : ℕ) (pages : List (ℕ × Page)) → PagesRiseFrom m pages → OidsRiseFrom (m * 64) (rows_of pages)
 pages_rise m [] rise = tt
@@ -119,35 +119,39 @@ set_rises m test put (page ∷ pages) rise long = first_set (test page.0) m put 
 
 -- ---- a place put
 
+held_there : (place : ℕ) → 0 < place → place_held place ≡ Some place
+held_there zero some = absurd (omega arith)
+held_there (suc p) some = refl
+
 -- of the ids of one page
-same_page : (t : Bool) (oid place other : ℕ) (page : Page) → (oid % 64 == other % 64) ≡ t → oid / 64 ≡ other / 64 → length page ≡ 64 → get_or (set page (oid % 64) (Some place)) (other % 64) None ≡ (if oid == other then Some place else get_or page (other % 64) None)
-same_page true oid place other page is same long =
+same_page : (t : Bool) (oid place other : ℕ) (page : Page) → 0 < place → (oid % 64 == other % 64) ≡ t → oid / 64 ≡ other / 64 → length page ≡ 64 → place_held (get_or (set page (oid % 64) place) (other % 64) 0) ≡ (if oid == other then Some place else place_held (get_or page (other % 64) 0))
+same_page true oid place other page some is same long =
     let e : oid ≡ other = omega (arith, eqb-true (oid % 64) (other % 64) is) in
-    rw (eq-eqb oid other e) (get_or-set_at page (oid % 64) (other % 64) (Some place) None (omega arith) (omega arith))
-same_page false oid place other page is same long =
+    rw (eq-eqb oid other e) (ap place_held (get_or-set_at page (oid % 64) (other % 64) place 0 (omega arith) (omega arith)) ∙ held_there place some)
+same_page false oid place other page some is same long =
     rw (ne_eqb oid other (λ e. eqb-false (oid % 64) (other % 64) is (ap (λ (n : ℕ). n % 64) e)))
-    (get_or-set_other page (oid % 64) (other % 64) (Some place) None (λ e. eqb-false (oid % 64) (other % 64) is (sym e)))
+    (ap place_held (get_or-set_other page (oid % 64) (other % 64) place 0 (λ e. eqb-false (oid % 64) (other % 64) is (sym e))))
 
-one_put : (t : Bool) (oid place other : ℕ) (page : Page) (before : ℕ → Option Page) → (oid / 64 == other / 64) ≡ t → length page ≡ 64 → ((slot : ℕ) → slot < 64 → place_on (before (oid / 64)) slot ≡ get_or page slot None) → place_on (cond t (Some (set page (oid % 64) (Some place))) (before (other / 64))) (other % 64) ≡ (if oid == other then Some place else place_on (before (other / 64)) (other % 64))
-one_put true oid place other page before is long was =
+one_put : (t : Bool) (oid place other : ℕ) (page : Page) (before : ℕ → Option Page) → 0 < place → (oid / 64 == other / 64) ≡ t → length page ≡ 64 → ((slot : ℕ) → slot < 64 → place_on (before (oid / 64)) slot ≡ place_held (get_or page slot 0)) → place_on (cond t (Some (set page (oid % 64) place)) (before (other / 64))) (other % 64) ≡ (if oid == other then Some place else place_on (before (other / 64)) (other % 64))
+one_put true oid place other page before some is long was =
     let e : oid / 64 ≡ other / 64 = eqb-true (oid / 64) (other / 64) is in
-    same_page (oid % 64 == other % 64) oid place other page refl e long
+    same_page (oid % 64 == other % 64) oid place other page some refl e long
     ∙ ap (λ (f : Option ℕ). if oid == other then Some place else f) (sym (was (other % 64) (omega arith)) ∙ ap (λ (number : ℕ). place_on (before number) (other % 64)) e)
-one_put false oid place other page before is long was = rw (ne_eqb oid other (λ e. eqb-false (oid / 64) (other / 64) is (ap (λ (n : ℕ). n / 64) e))) refl
+one_put false oid place other page before some is long was = rw (ne_eqb oid other (λ e. eqb-false (oid / 64) (other / 64) is (ap (λ (n : ℕ). n / 64) e))) refl
 
-pub all_put : (oid place : ℕ) (page : Page) (before after : List (ℕ × Page)) → PagesRiseFrom 0 before → PagesRiseFrom 0 after → length page ≡ 64 → ((slot : ℕ) → slot < 64 → place_on (lookup (is_at (nat_cmp (oid / 64))) before) slot ≡ get_or page slot None) → ((number : ℕ) → lookup (is_at (nat_cmp number)) after ≡ cond (is_at (nat_cmp (oid / 64)) number) (Some (set page (oid % 64) (Some place))) (lookup (is_at (nat_cmp number)) before)) → (other : ℕ) → place_for other (rows_of after) ≡ (if oid == other then Some place else place_for other (rows_of before))
-all_put oid place page before after rise risen long was put other =
+pub all_put : (oid place : ℕ) (page : Page) (before after : List (ℕ × Page)) → 0 < place → PagesRiseFrom 0 before → PagesRiseFrom 0 after → length page ≡ 64 → ((slot : ℕ) → slot < 64 → place_on (lookup (is_at (nat_cmp (oid / 64))) before) slot ≡ place_held (get_or page slot 0)) → ((number : ℕ) → lookup (is_at (nat_cmp number)) after ≡ cond (is_at (nat_cmp (oid / 64)) number) (Some (set page (oid % 64) place)) (lookup (is_at (nat_cmp number)) before)) → (other : ℕ) → place_for other (rows_of after) ≡ (if oid == other then Some place else place_for other (rows_of before))
+all_put oid place page before after some rise risen long was put other =
     shown 0 other after risen
     ∙ ap (λ (f : Option Page). place_on f (other % 64)) (put (other / 64))
-    ∙ ap (λ (t : Bool). place_on (cond t (Some (set page (oid % 64) (Some place))) (lookup (is_at (nat_cmp (other / 64))) before)) (other % 64)) (at_same (oid / 64) (other / 64))
-    ∙ one_put (oid / 64 == other / 64) oid place other page (λ number. lookup (is_at (nat_cmp number)) before) refl long was
+    ∙ ap (λ (t : Bool). place_on (cond t (Some (set page (oid % 64) place)) (lookup (is_at (nat_cmp (other / 64))) before)) (other % 64)) (at_same (oid / 64) (other / 64))
+    ∙ one_put (oid / 64 == other / 64) oid place other page (λ number. lookup (is_at (nat_cmp number)) before) some refl long was
     ∙ ap (λ (f : Option ℕ). if oid == other then Some place else f) (sym (shown 0 other before rise))
 
 abbrev pub empty_page : Page
-empty_page = replicate 64 None
+empty_page = replicate 64 0
 
-pub in_empty : (found : Option Page) (slot : ℕ) → slot < 64 → None ≡ found → place_on found slot ≡ get_or empty_page slot None
-in_empty found slot lt none = ap (λ (f : Option Page). place_on f slot) (sym none) ∙ sym (get_or-replicate 64 slot None None lt)
+pub in_empty : (found : Option Page) (slot : ℕ) → slot < 64 → None ≡ found → place_on found slot ≡ place_held (get_or empty_page slot 0)
+in_empty found slot lt none = ap (λ (f : Option Page). place_on f slot) (sym none) ∙ sym (ap place_held (get_or-replicate 64 slot 0 0 lt))
 
 -- ---- loops over a page and over the pages
 
@@ -155,22 +159,22 @@ abbrev pub row_if : ℕ → Option ℕ → List Row
 row_if oid None = []
 row_if oid (Some place) = record { oid = oid; place = place } ∷ []
 
-rows_from-more : (n slot oid : ℕ) (places : Page) → n + slot ≡ oid → slot < length places → rows_from n (take (suc slot) places) ≡ rows_from n (take slot places) ++ row_if oid (get_or places slot None)
+rows_from-more : (n slot oid : ℕ) (places : Page) → n + slot ≡ oid → slot < length places → rows_from n (take (suc slot) places) ≡ rows_from n (take slot places) ++ row_if oid (place_held (get_or places slot 0))
 rows_from-more n slot oid [] at lt = absurd (omega arith)
-rows_from-more n zero oid (None ∷ places) at lt = refl
-rows_from-more n zero oid (Some place ∷ places) at lt = let e : n ≡ oid = omega arith in ap (λ (o : ℕ). record { oid = o; place = place } ∷ []) e
-rows_from-more n (suc slot) oid (None ∷ places) at lt = rows_from-more (n + 1) slot oid places (omega arith) (omega arith)
-rows_from-more n (suc slot) oid (Some place ∷ places) at lt = ap (λ (rows : List Row). record { oid = n; place = place } ∷ rows) (rows_from-more (n + 1) slot oid places (omega arith) (omega arith))
+rows_from-more n zero oid (zero ∷ places) at lt = refl
+rows_from-more n zero oid (suc p ∷ places) at lt = let e : n ≡ oid = omega arith in ap (λ (o : ℕ). record { oid = o; place = suc p } ∷ []) e
+rows_from-more n (suc slot) oid (zero ∷ places) at lt = rows_from-more (n + 1) slot oid places (omega arith) (omega arith)
+rows_from-more n (suc slot) oid (suc p ∷ places) at lt = ap (λ (rows : List Row). record { oid = n; place = suc p } ∷ rows) (rows_from-more (n + 1) slot oid places (omega arith) (omega arith))
 
 weaker_pages : (m n : ℕ) (pages : List (ℕ × Page)) → m ≤ n → PagesRiseFrom n pages → PagesRiseFrom m pages
 weaker_pages m n [] le rise = tt
 weaker_pages m n (page ∷ pages) le rise = (omega (arith, rise.0), rise.1, rise.2, rise.3)
 
-pub one_added : (n slot oid : ℕ) (places : Page) (old rows after : List Row) → n + slot ≡ oid → slot < length places → rows ≡ old ++ rows_from n (take slot places) → after ≡ rows ++ row_if oid (get_or places slot None) → after ≡ old ++ rows_from n (take (slot + 1) places)
+pub one_added : (n slot oid : ℕ) (places : Page) (old rows after : List Row) → n + slot ≡ oid → slot < length places → rows ≡ old ++ rows_from n (take slot places) → after ≡ rows ++ row_if oid (place_held (get_or places slot 0)) → after ≡ old ++ rows_from n (take (slot + 1) places)
 one_added n slot oid places old rows after at lt so added =
     added
-    ∙ ap (λ (r : List Row). r ++ row_if oid (get_or places slot None)) so
-    ∙ append_assoc old (rows_from n (take slot places)) (row_if oid (get_or places slot None))
+    ∙ ap (λ (r : List Row). r ++ row_if oid (place_held (get_or places slot 0))) so
+    ∙ append_assoc old (rows_from n (take slot places)) (row_if oid (place_held (get_or places slot 0)))
     ∙ ap (λ (r : List Row). old ++ r) (sym (rows_from-more n slot oid places at lt))
     ∙ ap (λ (k : ℕ). old ++ rows_from n (take k places)) (sym (add-one slot))
 

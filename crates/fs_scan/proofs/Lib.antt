@@ -1,11 +1,10 @@
 mod Behind
 mod Scanning
-pub mod CopiedValues
+pub mod CopiedTexts
 pub mod DataAt
 pub mod KeptPages
 pub mod KeptPlaces
 pub mod OneByOne
-pub mod PlainFiles
 pub mod RisingPlaces
 pub mod Stepping
 pub mod WholeAt

@@ -4,15 +4,15 @@ use Rattle.std.specs.Option.{is_some}
 use Rattle.std.specs.List.{list_any}
 use Rattle.std.proofs.lemmas.List.Filters.{length-filter_more}
 use Rattle.zbase.specs.declared.ids.Row.{Row}
-use Rattle.std.proofs.lemmas.List.{length-append, length-drop}
+use Rattle.std.proofs.lemmas.List.{length-append, length-drop, drop_at}
 use Rattle.std.proofs.lemmas.Bool.{eq-eqb, ne_eqb, false≢true}
-use Rattle.zbase.specs.Numbers.{be64}
-use Rattle.zbase.specs.NumberLaws.{length-be64, same_be64}
+use Rattle.zbase.specs.Numbers.{be64, be16}
+use Rattle.zbase.specs.NumberLaws.{length-be64, length-be16, same_be64}
 use Rattle.fs_record.specs.declared.heads.DataHead.{DataHead}
 use Rattle.fs_record.specs.declared.body.Body.{Body}
 use Rattle.fs_record.specs.declared.body.Body.TheVariants.{Full, Back}
 use Rattle.fs_record.specs.Spelling.{data_head, head_of, Data, data_spelling, body_length, body_spelling}
-use Rattle.fs_record.specs.SpellingLaws.{same_data_head, long_data}
+use Rattle.fs_record.specs.SpellingLaws.{same_data_head, long_data, length-data_head}
 use Rattle.fs_record.specs.Fits.{FitsDataHead, FitsBody, FitsData}
 use Rattle.fs_record.specs.File.{Earlier, rows, is_row, is_right_body, value_at, value_of}
 use Rattle.fs_record.specs.Standing.{IsBefore, IsPlace}
@@ -27,30 +27,55 @@ pub head_is : (bytes : List ℕ) (h : DataHead) (d : Data) (more : List ℕ) →
 unfolding data_spelling
 head_is bytes h d more read fits fits_data e = same_data_head h (head_of d) (drop 42 bytes) (body_spelling d.body ++ more) fits fits_data.head (sym read ∙ e ∙ append_assoc (data_head (head_of d)) (body_spelling d.body) more)
 
+-- ---- its length and its back pointer alone
+
+-- what stands in front of the length
+before_length : DataHead → List ℕ
+before_length h = be64 h.oid ++ be64 h.tid ++ be64 h.prev ++ be64 h.start ++ be16 h.version
+
+length-before_length : (h : DataHead) → length (before_length h) ≡ 34
+unfolding before_length
+length-before_length h = simp (length-append, length-be64, length-be16)
+
+regroup : (front long body more : List ℕ) → ((front ++ long) ++ body) ++ more ≡ front ++ (long ++ (body ++ more))
+regroup front long body more = simp append_assoc
+
+length_stands : (d : Data) (more : List ℕ) → drop 34 (data_spelling d ++ more) ≡ be64 (body_length d.body) ++ (body_spelling d.body ++ more)
+unfolding data_spelling data_head before_length
+length_stands d more =
+    let front = before_length (head_of d) in
+    let long = be64 (body_length d.body) in
+    let body = body_spelling d.body in
+    ap (drop 34) (regroup front long body more) ∙ drop_at front (long ++ (body ++ more)) 34 (length-before_length (head_of d))
+
+-- the length that is read, and what stands behind it
+length_is : (bytes : List ℕ) (long : ℕ) (d : Data) (more : List ℕ) → drop 34 bytes ≡ be64 long ++ drop 42 bytes → long < 2 ^ 64 → FitsData d → bytes ≡ data_spelling d ++ more → (long ≡ body_length d.body) × (drop 42 bytes ≡ body_spelling d.body ++ more)
+length_is bytes long d more read lt fits e =
+    same_be64 long (body_length d.body) (drop 42 bytes) (body_spelling d.body ++ more) lt fits.head.length (sym read ∙ ap (drop 34) e ∙ length_stands d more)
+
 full : (body : Body) → body_length body ≢ 0 → None ≡ back_in body
 full (Full bytes) long = refl
 full (Back place) long = absurd (long refl)
 
-pub has_data : (bytes : List ℕ) (h : DataHead) (d : Data) (more : List ℕ) → bytes ≡ data_head h ++ drop 42 bytes → FitsDataHead h → FitsData d → bytes ≡ data_spelling d ++ more → h.length ≢ 0 → None ≡ back_in d.body
-has_data bytes h d more read fits fits_data e long = full d.body (λ none. long (ap (λ (g : DataHead). g.length) (head_is bytes h d more read fits fits_data e).0 ∙ none))
+pub has_data : (bytes : List ℕ) (long : ℕ) (d : Data) (more : List ℕ) → drop 34 bytes ≡ be64 long ++ drop 42 bytes → long < 2 ^ 64 → FitsData d → bytes ≡ data_spelling d ++ more → long ≢ 0 → None ≡ back_in d.body
+has_data bytes long d more read lt fits e some = full d.body (λ none. some ((length_is bytes long d more read lt fits e).0 ∙ none))
 
-short_body : (body : Body) (behind more : List ℕ) → FitsBody body → body_length body ≡ 0 → behind ≡ body_spelling body ++ more → length behind < 8 → None ≡ back_in body
-short_body (Full bytes) behind more fits none e short = refl
-short_body (Back place) behind more fits none e short = absurd (omega (arith, ap length e, length-append (be64 place) more, length-be64 place))
+short_body : (h : DataHead) (body : Body) (bytes more : List ℕ) → bytes ≡ (data_head h ++ body_spelling body) ++ more → length bytes < 50 → None ≡ back_in body
+short_body h (Full written) bytes more e short = refl
+short_body h (Back place) bytes more e short = absurd (omega (arith, ap length e, length-append (data_head h ++ be64 place) more, length-append (data_head h) (be64 place), length-data_head h, length-be64 place))
 
-pub no_room : (bytes : List ℕ) (h : DataHead) (d : Data) (more : List ℕ) → bytes ≡ data_head h ++ drop 42 bytes → FitsDataHead h → FitsData d → bytes ≡ data_spelling d ++ more → h.length ≡ 0 → length bytes < 50 → None ≡ back_in d.body
-no_room bytes h d more read fits fits_data e none short =
-    let r = head_is bytes h d more read fits fits_data e in
-    short_body d.body (drop 42 bytes) more fits_data.body (sym (ap (λ (g : DataHead). g.length) r.0) ∙ none) r.1 (omega (arith, length-drop 42 bytes, ap length e, length-append (data_spelling d) more, long_data d fits_data.body))
+pub no_room : (bytes : List ℕ) (d : Data) (more : List ℕ) → bytes ≡ data_spelling d ++ more → length bytes < 50 → None ≡ back_in d.body
+unfolding data_spelling
+no_room bytes d more e short = short_body (head_of d) d.body bytes more e short
 
 body_back : (body : Body) (place : ℕ) (behind rest more : List ℕ) → FitsBody body → body_length body ≡ 0 → behind ≡ body_spelling body ++ more → behind ≡ be64 place ++ rest → place < 2 ^ 64 → Some place ≡ back_in body
 body_back (Full bytes) place behind rest more fits none e read lt = absurd (omega arith)
 body_back (Back at) place behind rest more fits none e read lt = ap Some (same_be64 place at rest more lt fits (sym read ∙ e)).0
 
-pub points_back : (bytes : List ℕ) (h : DataHead) (d : Data) (more : List ℕ) (place : ℕ) → bytes ≡ data_head h ++ drop 42 bytes → FitsDataHead h → FitsData d → bytes ≡ data_spelling d ++ more → h.length ≡ 0 → drop 42 bytes ≡ be64 place ++ drop 50 bytes → place < 2 ^ 64 → Some place ≡ back_in d.body
-points_back bytes h d more place read fits fits_data e none there lt =
-    let r = head_is bytes h d more read fits fits_data e in
-    body_back d.body place (drop 42 bytes) (drop 50 bytes) more fits_data.body (sym (ap (λ (g : DataHead). g.length) r.0) ∙ none) r.1 there lt
+pub points_back : (bytes : List ℕ) (long : ℕ) (d : Data) (more : List ℕ) (place : ℕ) → drop 34 bytes ≡ be64 long ++ drop 42 bytes → long < 2 ^ 64 → FitsData d → bytes ≡ data_spelling d ++ more → long ≡ 0 → drop 42 bytes ≡ be64 place ++ drop 50 bytes → place < 2 ^ 64 → Some place ≡ back_in d.body
+points_back bytes long d more place read long_fits fits e none there lt =
+    let r = length_is bytes long d more read long_fits fits e in
+    body_back d.body place (drop 42 bytes) (drop 50 bytes) more fits.body (sym r.0 ∙ none) r.1 there lt
 
 -- ---- the way back
 

@@ -1,11 +1,12 @@
 -- Records whose places rise: what a search finds among them, and how they go on.
 use Rattle.std.proofs.Common.{◌≡◌, ◌≢◌, ℕ, zero, suc, ◌+◌, ◌<◌, ◌≤◌, Bool, true, false, ◌&&◌, ◌||◌, eqb, List, [], ◌∷◌, ◌++◌, length, get_or, take, drop, Result, Ok, Err, IfOk, IfErr, refl, sym, ap, subst, ◌∙◌, append_assoc, arith, inl, inr}
-use Rattle.std.specs.List.{list_any, flat_map, AllByRecursion}
+use Rattle.std.specs.List.{list_any, flat_map, All, AllByRecursion}
 use Rattle.std.specs.List.Sorted.{IsSearchInRange, IsBinarySearchResult, IsNonDecreasingBy}
 use Rattle.std.specs.Ordering.{nat_cmp, ordering_index}
 use Rattle.std.proofs.lemmas.Bool.{ne_eqb, eq-eqb, cases_lt}
 use Rattle.std.proofs.lemmas.Bool.Decides.{nat_tests}
 use Rattle.std.proofs.lemmas.Cmp.{ranked}
+use Rattle.std.proofs.lemmas.List.Elements.{All-from_recursion}
 use Rattle.std.proofs.lemmas.List.Sorted.{IsNonDecreasingBy-from_default}
 use Rattle.zbase.specs.declared.ids.Row.{Row}
 use Rattle.std.proofs.lemmas.List.{length-append, take_more, take-append-drop}
@@ -122,6 +123,15 @@ pub read_rise : (area : List ℕ) (old rows : List Row) (place from tid start : 
 read_rise area old rows place from tid start marks h r =
     let more = records_rise place (place + from) r.ds (omega arith) r.are.fits in
     rise_within 0 _ (old ++ rows) (rise_on 0 place _ old rows h (subst (RiseWithin place (place + from + length (flat_map data_spelling r.ds))) (sym r.rows) more))
+
+-- records that begin behind the file's start
+places_placed : (place : ℕ) (ds : List Data) → 0 < place → AllByRecursion (λ (row : Row). 0 < row.place) (places_from place ds)
+places_placed place [] some = tt
+places_placed place (d ∷ ds) some = (some, places_placed (place + length (data_spelling d)) ds (omega arith))
+
+pub read_placed : (area : List ℕ) (old rows : List Row) (place tid start : ℕ) (marks : Marks) → 0 < place → Read area old [] rows place tid start marks → All (λ (row : Row). 0 < row.place) rows
+read_placed area old rows place tid start marks some r =
+    subst (All (λ (row : Row). 0 < row.place)) (sym r.rows) (All-from_recursion (λ (row : Row). 0 < row.place) (places_from place r.ds) (places_placed place r.ds some))
 
 -- the records of a file rise, up to where its next transaction begins
 rows_rise : (place : ℕ) (old : List Row) (b : Block) (i : Inside) (status : ℕ) → FitsInside status i → RiseWithin 0 place old → RiseWithin 0 (place + (long_of (record { tid = b.tid; status = b.status; texts = b.texts; inside = i; tail = b.tail }) + 8)) (rows_after old place b i)

@@ -1,6 +1,7 @@
 -- The values of a transaction's data records, read with their back pointers followed.
 use Rattle.std.proofs.Common.{◌≡◌, ℕ, ◌+◌, ◌<◌, ◌≤◌, Bool, true, false, ◌&&◌, List, [], ◌∷◌, ◌++◌, length, drop, Option, Some, None, IfSome, refl, sym, ap, subst, ◌∙◌}
 use Rattle.std.specs.List.{list_all}
+use Rattle.std.proofs.lemmas.List.{map-append}
 use Rattle.std.proofs.lemmas.List.Folds.{list_all-append}
 use Rattle.std.proofs.lemmas.Bool.{false≢true}
 use Rattle.zdisk.specs.Disk.{Told, content}
@@ -14,7 +15,6 @@ use Rattle.fs_scan.specs.Followed.{MeansValues}
 use Rattle.fs_scan.specs.Marked.{AreRecords}
 use Rattle.fs_scan.specs.Present.{AllStand}
 use Rattle.fs_scan.specs.Wholes.{records_in}
-use Rattle.fs_scan.proofs.CopiedValues.{one_more}
 use Rattle.fs_scan.proofs.OneByOne.{StandTo, none_yet, stands_more, all_stand, none_stand}
 
 -- ---- one record
@@ -24,6 +24,20 @@ abbrev pub Means : Option Told → Found → List ℕ → Value → Type 0
 Means disk f rest v = IfSome disk (λ told. (records : List Earlier) → AllStand (content told) records → has_body (rows records) (data_in f rest) ≡ true → v ≡ value_of records (data_in f rest).body)
 
 -- ---- one record after another
+
+pair_of : ℕ → Value → ℕ × Value
+pair_of o v = (o, v)
+
+same_pair : (o o' : ℕ) (v v' : Value) → o ≡ o' → v ≡ v' → pair_of o v ≡ pair_of o' v'
+same_pair o o' v v' a b = cc
+
+one_more : (values : List OidValue) (v : OidValue) (ds : List Data) (d : Data) (earlier : List Earlier) → records_in values ≡ values_of earlier ds → v.oid ≡ d.oid → v.value ≡ value_of earlier d.body → records_in (values ++ v ∷ []) ≡ values_of earlier (ds ++ d ∷ [])
+unfolding pair_of
+one_more values v ds d earlier e o x =
+    map-append (λ (w : OidValue). (w.oid, w.value)) values (v ∷ [])
+    ∙ ap (λ (z : List (ℕ × Value)). z ++ (v.oid, v.value) ∷ []) e
+    ∙ ap (λ (p : ℕ × Value). values_of earlier ds ++ p ∷ []) (same_pair v.oid d.oid v.value (value_of earlier d.body) o x)
+    ∙ sym (map-append (λ (g : Data). (g.oid, value_of earlier g.body)) ds (d ∷ []))
 
 -- the values of the records up to at
 pub record ValuesTo (disk : Option Told) (area : List ℕ) (at : ℕ) (values : List OidValue) : Type 0 where

@@ -1,10 +1,10 @@
 -- A walk that has come to a place, and goes on by what stands there.
-use Rattle.std.proofs.Common.{◌≡◌, ℕ, ◌+◌, Bool, true, false, cond, List, [], ◌∷◌, ◌++◌, length, drop, Option, Some, None, IfSome, Result, Ok, Err, IfOk, OnOk, OnErr, refl, sym, ap, subst, ◌∙◌, append_assoc, append-nil, arith, inr}
-use Rattle.std.specs.Prelude.{◌==◌, if◌then◌else◌, MatchOption}
+use Rattle.std.proofs.Common.{◌≡◌, ℕ, ◌+◌, Bool, true, false, cond, List, [], ◌∷◌, ◌++◌, length, drop, ◌<◌, Option, Some, None, IfSome, Result, Ok, Err, IfOk, OnOk, OnErr, refl, sym, ap, subst, ◌∙◌, append_assoc, append-nil, arith, inr}
+use Rattle.std.specs.Prelude.{◌==◌, ◌&&◌, nat_lt, if◌then◌else◌, MatchOption}
 use Rattle.std.specs.Option.{ForSome}
 use Rattle.std.specs.List.{AllByRecursion, list_all, flat_map}
 use Rattle.std.proofs.lemmas.List.{length-append, drop-drop, drop_at}
-use Rattle.std.proofs.lemmas.Bool.{eq-eqb, ne_eqb, false≢true}
+use Rattle.std.proofs.lemmas.Bool.{eq-eqb, ltb-true, ne_eqb, false≢true}
 use Rattle.zbase.specs.History.{History, Transaction}
 use Rattle.zbase.specs.Values.{Revision, last}
 use Rattle.zbase.specs.declared.ids.Row.{Row}
@@ -314,3 +314,29 @@ on_either disk mid after (Ok found) same fresh on = by_disk disk on
     by_disk None o = tt
     by_disk (Some told) o = subst (IsOn (content told)) (sym same) o
 on_either disk mid after (Err refusal) same fresh on = anew disk after fresh
+
+-- ---- ids rise, also where the disk doesn't tell
+
+pub same_last : (last : ℕ) (e : Extent) {now : ℕ} → e.head.status ≡ 117 → now ≡ (if e.head.status == 117 then last else e.head.tid) → now ≡ last
+same_last last e undone is = is ∙ ap (λ (t : Bool). if t then last else e.head.tid) (eq-eqb e.head.status 117 undone)
+
+first_holds : (t u : Bool) → (t && u) ≡ true → t ≡ true
+first_holds true u e = refl
+first_holds false u e = absurd (false≢true e)
+
+rises : (at last : ℕ) (old : List Row) (b : Block) (ds : List Data) → fault_in at last old b (Records ds) ≡ None → last < b.tid
+unfolding fault_in
+rises at last old b ds e = ltb-true last b.tid (first_holds (nat_lt last b.tid) _ (passed _ _ BadTid e).0)
+
+later_block : (at last : ℕ) (old : List Row) (window : List ℕ) (e : Extent) (i : Inside) → FitsInside e.head.status i → (e.head.status ≡ 117 → ⊥) → fault_in at last old (block_in e window i) i ≡ None → last < e.head.tid
+later_block at last old window e (Records ds) fits counted right = rises at last old (block_in e window (Records ds)) ds right
+later_block at last old window e (Skipped bytes) fits counted right = absurd (false≢true (sym (ne_eqb e.head.status 117 counted) ∙ fits))
+
+pub found_later : {E : Type 0} (again : Option Told) (old now mid after : Course) (at : ℕ) (window : List ℕ) (e : Extent) (r : Result (Option Whole) E) → now.last ≡ old.last → Steps window at now mid (steps.Right e) → (e.head.status ≡ 117 → ⊥) → IfOk r (λ found. MatchOption found ⊥ (MeansWhole again window at e)) → OnOk r (after ≡ mid)
+    → IfOk r (λ found. IfSome found (λ whole. (old.last < whole.tid) × (after.last ≡ whole.tid)))
+found_later again old now mid after at window e (Ok (Some whole)) same says counted means is =
+    let k : Takes window at now.last now.records mid.records e = says.0.1 in
+    let last : mid.last ≡ e.head.tid = ap (λ (c : Course). c.last) says.1 ∙ ap (λ (t : Bool). if t then now.last else e.head.tid) (ne_eqb e.head.status 117 counted) in
+    (omega (arith, later_block at now.last now.records window e k.inside k.stands.fits.inside counted k.right, same, means.tid), ap (λ (c : Course). c.last) is ∙ last ∙ sym means.tid)
+found_later again old now mid after at window e (Ok None) same says counted means is = tt
+found_later again old now mid after at window e (Err refusal) same says counted means is = tt

@@ -22,6 +22,7 @@ pub record MeansValues (disk : Option Told) (area : List ℕ) (values : List Oid
 pub record MeansWhole (disk : Option Told) (window : List ℕ) (place : ℕ) (extent : Extent) (whole : Whole) : Type 0 where
   pub begins : whole.place ≡ place
   pub status : whole.status ≡ extent.head.status
+  pub tid : whole.tid ≡ extent.head.tid
   pub ds : List Data
   pub are : AreRecords (area_in extent window) ds
   pub said : IfSome disk (λ told. (records : List Earlier) → AllStand (content told) records → list_all (has_body (rows records)) ds ≡ true → transaction_in whole ≡ transaction_of records (block_in extent window (Records ds)) ds)

@@ -6,8 +6,6 @@ pub mod Rising
 pub mod Pages
 pub mod Newest
 pub mod Wholes
-pub mod Plain
-pub mod Copied
 pub mod Scanned
 pub mod Present
 pub mod Checked

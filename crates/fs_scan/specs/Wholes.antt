@@ -11,6 +11,6 @@ records_in values = map (λ (v : OidValue). (v.oid, v.value)) values
 abbrev pub transaction_in : Whole → Transaction
 transaction_in w = record { tid = w.tid; user = w.texts.user; description = w.texts.description; extension = w.texts.extension; records = records_in w.values }
 
--- none of the transactions is packed
-abbrev pub history_in : List Whole → History
-history_in ws = record { floor = 0; transactions = map transaction_in ws }
+-- the greatest id of a packed one is the floor, 0 for none
+abbrev pub history_in : ℕ → List Whole → History
+history_in floor ws = record { floor = floor; transactions = map transaction_in ws }

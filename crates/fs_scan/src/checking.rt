@@ -11,7 +11,6 @@ ghost use Rattle.fs_scan.specs.Checked.{Checks};
 ghost use Rattle.fs_scan.specs.Present.{AllStand, ArePlaces, back_in, means_value};
 
 use crate::opening::{ScanRefusal, read_whole, scan_bytes};
-use fs_record::read_data_head;
 use std::alloc::Global;
 use zbase::{Row, Tid, u64_at};
 use zdisk::Disk;
@@ -32,16 +31,17 @@ pub struct Checked {
 }
 
 /// Where the data record at the front points back to, none where it has data.
+///
+/// It reads the length and the back pointer alone: the newest records of the objects stand anywhere in the file, and
+/// the less of each is read, the more of them the processor fetches at once.
 fn back_of(bytes: &[u8]) -> Option<u64>
     ensures { (d : Data) (more : List ℕ) → FitsData d → bytes.now ≡ data_spelling d ++ more → result ≡ back_in d.body }
 {
-    let Ok(head) = read_data_head(bytes) else {
-        return None;
-    };
-    if head.length != 0 {
+    // a back pointer ends a record of 50 bytes, so one with less behind it has data
+    if bytes.len() < 50 {
         return None;
     }
-    if bytes.len() < 50 {
+    if u64_at(bytes, 34) != 0 {
         return None;
     }
     Some(u64_at(bytes, 42))

@@ -1,16 +1,14 @@
 //! Reads the transactions of a storage file one after another.
 //!
 //! `step::take_one` says of any bytes what stands at a place in a file: the end, a damage or a right transaction.
-//! `read_plain_file` reads all transactions of a file that has nothing but committed ones that aren't packed and
-//! hold their data (`specs/Plain`), with their values (`specs/Wholes`). `scan` tells of any file where it ends and
-//! where each object's last record stands (`specs/Scanned`), and `check` its numbers (`specs/Checked`). A `Walk`
-//! answers its transactions one after another, with their values (`specs/Walked`).
+//! `scan` tells of any file where it ends and where each object's last record stands (`specs/Scanned`), and `check`
+//! its numbers (`specs/Checked`). A `Walk` answers its transactions one after another, with their values
+//! (`specs/Walked`).
 #![tactic(auto)]
 
 #[cfg(test)]
 mod agreeing;
 mod checking;
-mod copying;
 mod data;
 mod extent;
 mod following;
@@ -21,11 +19,11 @@ mod naive;
 mod opening;
 mod pages;
 mod places;
-mod plain;
 mod records;
 mod step;
 #[cfg(test)]
 mod tests;
+mod texts;
 mod valued;
 mod walk;
 mod wholes;
@@ -33,6 +31,5 @@ mod window;
 
 pub use checking::{Checked, check, check_bytes};
 pub use opening::{ScanRefusal, Scanned, scan, scan_bytes};
-pub use plain::{PlainRefusal, read_plain_file};
 pub use walk::Walk;
 pub use wholes::{OidValue, OidValues, Whole, Wholes};

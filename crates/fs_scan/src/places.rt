@@ -1,5 +1,5 @@
-ghost use Rattle.std.specs.Prelude.{◌≡◌, ◌++◌, ◌∷◌, [], IfOk, IfErr, OnOk, OnErr};
-ghost use Rattle.std.specs.List.{list_any};
+ghost use Rattle.std.specs.Prelude.{◌≡◌, ◌<◌, ◌++◌, ◌∷◌, [], IfOk, IfErr, OnOk, OnErr};
+ghost use Rattle.std.specs.List.{list_any, All};
 ghost use Rattle.fs_record.specs.File.{last_place, is_row};
 ghost use Rattle.fs_scan.specs.Newest.{greatest_of, or_greater, AreNewest};
 ghost use Rattle.fs_scan.specs.Rising.{RiseFrom, IsAt, NoneAt, AddsFirst};
@@ -79,7 +79,8 @@ impl Places {
 
     // Adds a record behind all others. For want of memory the list stays as it was.
     fn push(&mut self, row: Row) -> Result<(), Memory>
-        requires { RiseFrom 0 (self.old ++ row ∷ []) }
+        requires rise { RiseFrom 0 (self.old ++ row ∷ []) }
+        requires placed { 0 < row.place }
         ensures ok { OnOk result (self.new ≡ self.old ++ row ∷ []) }
         ensures err { OnErr result (self.new ≡ self.old) }
     {
@@ -94,7 +95,8 @@ impl Places {
 
     /// Adds the records of a transaction behind all others. For want of memory the first of them may be added.
     pub fn add(&mut self, rows: &[Row]) -> Result<(), Memory>
-        requires { RiseFrom 0 (self.old ++ rows.now) }
+        requires rise { RiseFrom 0 (self.old ++ rows.now) }
+        requires placed { All (λ row. 0 < row.place) rows.now }
         ensures ok { OnOk result (self.new ≡ self.old ++ rows.now) }
         ensures err { OnErr result (AddsFirst self.old self.new rows.now) }
     {

@@ -1,9 +1,7 @@
 use crate::pages::Pages;
 use crate::places::Places;
 use crate::step::{Step, take_one};
-use crate::{
-    Checked, PlainRefusal, ScanRefusal, Walk, Wholes, check, read_plain_file, scan, scan_bytes,
-};
+use crate::{Checked, ScanRefusal, Walk, Wholes, check, scan, scan_bytes};
 use fs_record::Damage;
 use std::alloc::Global;
 use std::test::*;
@@ -23,8 +21,24 @@ const TWO_OBJECTS: [u8; 184] = [
 
 const FIRST: u64 = 0x0331_6200_0000_0000;
 
-fn refusal(read: Result<Wholes, PlainRefusal>) -> Option<PlainRefusal> {
-    read.err()
+// The first transactions of a file, up to three.
+fn walked<D: Disk>(alloc: Global, disk: &mut D) -> Result<Wholes, ScanRefusal> {
+    let mut walk = Walk::new(alloc);
+    let mut wholes = Wholes::new(alloc);
+    if let Some(whole) = walk.next(disk)? {
+        wholes.push(whole)?;
+    }
+    if let Some(whole) = walk.next(disk)? {
+        wholes.push(whole)?;
+    }
+    if let Some(whole) = walk.next(disk)? {
+        wholes.push(whole)?;
+    }
+    Ok(wholes)
+}
+
+fn disk_of(alloc: Global, bytes: &[u8]) -> Result<MemoryDisk, Memory> {
+    Ok(MemoryDisk::new(alloc, Bytes::from_slice(alloc, bytes)?))
 }
 
 // A data record of the transaction at place 184; no data stands for a back pointer.
@@ -60,9 +74,8 @@ fn longer(alloc: Global, records: &Bytes) -> Result<Bytes, Memory> {
 
 #[test]
 fn the_worked_file_has_two_objects(rt: HostRuntime) -> Result<(), Fail> {
-    let wholes = read_plain_file(rt.alloc(), &TWO_OBJECTS)
-        .ok()
-        .ok_or("reads")?;
+    let mut disk = disk_of(rt.alloc(), &TWO_OBJECTS)?;
+    let wholes = walked(rt.alloc(), &mut disk).ok().ok_or("reads")?;
     assert_eq!(rt; wholes.len(), 1);
     for whole in wholes.as_slice() {
         assert_eq!(rt; (whole.place, whole.status), (4, b' '));
@@ -79,43 +92,10 @@ fn the_worked_file_has_two_objects(rt: HostRuntime) -> Result<(), Fail> {
 }
 
 #[test]
-fn a_file_may_have_no_transaction(rt: HostRuntime) {
-    assert_eq!(rt;
-        read_plain_file(rt.alloc(), b"FS21").map(|wholes| wholes.len()),
-        Ok(0)
-    );
-}
-
-#[test]
-fn other_bytes_are_refused(rt: HostRuntime) -> Result<(), Fail> {
-    let plain = Some(PlainRefusal::NotPlain);
-    let magic = Some(PlainRefusal::BadMagic);
-    let changes = [
-        (0, 0, magic),
-        (20, b'p', plain),
-        (20, b'u', plain),
-        (20, b'c', plain),
-        (26, 1, plain),
-        (58, 5, plain),
-        (126, 1, plain),
-        (135, 1, plain),
-        (183, 171, plain),
-    ];
-    for (place, byte, expected) in changes {
-        let mut file = TWO_OBJECTS;
-        file[place] = byte;
-        assert_eq!(rt; refusal(read_plain_file(rt.alloc(), &file)), expected);
-    }
-    assert_eq!(rt;
-        refusal(read_plain_file(rt.alloc(), &TWO_OBJECTS[..183])),
-        plain
-    );
-    let mut torn = Bytes::from_slice(rt.alloc(), &TWO_OBJECTS)?;
-    torn.append(&[1; 22])?;
-    assert_eq!(rt;
-        refusal(read_plain_file(rt.alloc(), torn.as_slice())),
-        plain
-    );
+fn a_file_may_have_no_transaction(rt: HostRuntime) -> Result<(), Fail> {
+    let mut disk = disk_of(rt.alloc(), b"FS21")?;
+    let found = walked(rt.alloc(), &mut disk);
+    assert_eq!(rt; found.map(|wholes| wholes.len()), Ok(0));
     Ok(())
 }
 
@@ -126,9 +106,8 @@ fn a_second_transaction_is_judged_by_the_first(rt: HostRuntime) -> Result<(), Fa
     put_record(&mut records, 1, 103, b"newer", 0)?;
     put_record(&mut records, 2, 0, b"other", 0)?;
     let file = longer(rt.alloc(), &records)?;
-    let wholes = read_plain_file(rt.alloc(), file.as_slice())
-        .ok()
-        .ok_or("reads")?;
+    let mut disk = MemoryDisk::new(rt.alloc(), file);
+    let wholes = walked(rt.alloc(), &mut disk).ok().ok_or("reads")?;
     assert_eq!(rt; wholes.len(), 2);
     let whole = wholes.as_slice().last().ok_or("has a last")?;
     assert_eq!(rt; (whole.place, whole.tid), (184, Tid(FIRST + 1)));
@@ -161,7 +140,7 @@ fn step_behind(alloc: Global, file: &Bytes) -> Result<Option<Damage>, Fail> {
 }
 
 #[test]
-fn back_pointers_are_right_and_not_plain(rt: HostRuntime) -> Result<(), Fail> {
+fn back_pointers_are_right_or_damage(rt: HostRuntime) -> Result<(), Fail> {
     let cases = [
         (1, 103, 103, None),
         (1, 103, 0, None),
@@ -174,10 +153,6 @@ fn back_pointers_are_right_and_not_plain(rt: HostRuntime) -> Result<(), Fail> {
         put_record(&mut records, oid, previous, b"", back)?;
         let file = longer(rt.alloc(), &records)?;
         assert_eq!(rt; step_behind(rt.alloc(), &file)?, expected);
-        assert_eq!(rt;
-            refusal(read_plain_file(rt.alloc(), file.as_slice())),
-            Some(PlainRefusal::NotPlain)
-        );
     }
     Ok(())
 }
@@ -305,8 +280,8 @@ fn a_fault_of_the_disk_ends_a_step_of_a_walk(rt: HostRuntime) -> Result<(), Fail
         let bytes = Bytes::from_slice(rt.alloc(), &TWO_OBJECTS)?;
         let plan = FaultPlan::new(Vec::from_slice(rt.alloc(), &[failing])?);
         let mut disk = MemoryDisk::with_faults(bytes, plan);
-        // then it goes on
         let steps = three_steps(rt.alloc(), &mut disk);
+        // then it goes on
         assert_eq!(rt; steps, [Err(ScanRefusal::Disk), Ok(Some(4)), Ok(None)]);
     }
     Ok(())
@@ -406,13 +381,13 @@ const FALLING: [u64; 11] = [
 #[test]
 fn ids_across_pages_keep_their_places(rt: HostRuntime) -> Result<(), Fail> {
     let mut pages = Pages::new(rt.alloc());
-    for round in 0..2 {
+    for round in 1..3 {
         for (index, oid) in FALLING.iter().enumerate() {
             pages.insert(*oid, round * 100 + index as u64)?;
         }
     }
     for (index, oid) in FALLING.iter().enumerate() {
-        assert_eq!(rt; pages.get(*oid), Some(100 + index as u64));
+        assert_eq!(rt; pages.get(*oid), Some(200 + index as u64));
     }
     for oid in [1, 14, 18, 30, 34, 47, 48, u64::MAX - 1, u64::MAX - 17] {
         assert_eq!(rt; pages.get(oid), None);

@@ -11,10 +11,10 @@ ghost use Rattle.fs_scan.specs.Found.{data_in};
 ghost use Rattle.fs_scan.specs.Marked.{AreRecords};
 ghost use Rattle.fs_scan.specs.Present.{AllStand};
 
-use crate::copying::copy_texts;
 use crate::data::{Found, data_at};
 use crate::extent::Extent;
 use crate::following::follow;
+use crate::texts::copy_texts;
 use crate::{OidValue, OidValues, ScanRefusal, Whole};
 use std::alloc::Global;
 use zbase::{Bytes, Value};

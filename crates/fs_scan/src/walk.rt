@@ -159,6 +159,7 @@ impl Walk {
         ensures walked { IfOk result (λ found. IfSome (D.told disk.old) (λ told. Walks (content told) self.old self.new found)) }
         ensures on { IfSome (D.told disk.old) (λ told. IsOn (content told) self.new) }
         ensures rises { IfOk result (λ found. IfSome found (λ _. (place_on self.old.place < place_on self.new.place) × (place_on self.new.place < 2 ^ 64))) }
+        ensures later { IfOk result (λ found. IfSome found (λ whole. (self.old.last < whole.tid) × (self.new.last ≡ whole.tid))) }
         ensures damaged { (kind : Kind) (place : ℕ) → IsErrOf result (ScanRefusal.Damaged kind place) → IfSome (D.told disk.old) (λ told. Damaged (content told) place kind) }
         ensures same { D.told disk.new ≡ D.told disk.old }
         ensures spare { (D.spare_calls disk.new ≡ D.spare_calls disk.old) × (D.spare_bytes disk.new ≡ D.spare_bytes disk.old) }

@@ -10,4 +10,4 @@ invariant_of-self-2 c =
     (c.in-Ok.ensures.items ∙ ap (λ (rows : List Row). rows ++ c.args.row ∷ []) c.in_ok-reserve.ensures.items)
     (rw (← c.row.view_is) c.or_greater.ensures)
     (rw (← c.row.view_is) c.in_ok-insert.ensures.ok)
-    (subst (λ (rows : List Row). RiseFrom 0 (rows ++ c.args.row ∷ [])) (sym c.self.view_is) c.requires)
+    (subst (λ (rows : List Row). RiseFrom 0 (rows ++ c.args.row ∷ [])) (sym c.self.view_is) c.requires.rise)

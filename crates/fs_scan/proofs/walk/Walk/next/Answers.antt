@@ -4,7 +4,7 @@ use Rattle.zdisk.specs.Disk.{Told, content}
 use Rattle.fs_record.specs.File.{magic}
 use Rattle.fs_scan.specs.Walked.{Course}
 use Rattle.fs_scan.specs.Windows.{Shows}
-use Rattle.fs_scan.proofs.Walking.{entered, anew, breaks, goes_on, goes_over, passes, walks_over, on_either, records_there}
+use Rattle.fs_scan.proofs.Walking.{entered, anew, breaks, goes_on, goes_over, passes, walks_over, on_either, records_there, same_last, found_later}
 use Rattle.fs_scan.proofs.walk.Walk.next.Goals as goal
 
 pub undone-init : goal.undone-init
@@ -15,6 +15,7 @@ undone-init g c =
       underway = entered (g.D.Disk.told c.args.disk.now) c.args.self.now c.enter.new.self c.in_ok-at.at c.requires i.entered.0 i.entered.1 (λ none. subst (λ (d : Option Told). IfSome d (λ told. content told ≡ magic ++ drop 4 (content told))) n.same (i.magic none));
       length = n.value;
       here = ap (λ (course : Course). course.place) i.entered.1;
+      last = ap (λ (course : Course). course.last) i.entered.1;
       rises = omega (arith, i.entered.0);
       same = i.same ∙ n.same;
       spare = (i.spare.0 ∙ n.spare.0, i.spare.1 ∙ n.spare.1);
@@ -54,6 +55,11 @@ returns-then-extent-ne117-clause-on g c =
     on_either (g.D.Disk.told c.args.disk.now) c.step.new.self c.whole_in.new.self c.whole_in.result c.whole_in.ensures.ok c.whole_in.ensures.err
     (goes_on (g.D.Disk.told c.args.disk.now) c.args.self.now c.undone.self c.step.new.self c.undone.at c.in_ok-window.window.items i.underway shows c.in-Right.extent says)
 
+pub returns-then-extent-ne117-clause-later : goal.returns-then-extent-ne117-clause-later
+returns-then-extent-ne117-clause-later g c =
+    let says = rw c.deref.ensures.value at (rw c.in-Right.is at c.in_ok-step.ensures.ok) in
+    found_later _ c.args.self.now c.undone.self c.step.new.self c.whole_in.new.self c.undone.at c.in_ok-window.window.items c.in-Right.extent c.whole_in.result c.undone.invariant.last says c.if-extent-ne117.true (rw c.deref-then-extent-ne117.ensures.value at c.whole_in.ensures.means) c.whole_in.ensures.ok
+
 pub undone-preserved : goal.undone-preserved
 undone-preserved g c =
     let i = c.undone.invariant in
@@ -64,6 +70,7 @@ undone-preserved g c =
       underway = goes_over (g.D.Disk.told c.args.disk.now) c.args.self.now c.undone.self c.step.new.self c.undone.at c.in_ok-window.window.items i.underway shows c.in-Right.extent says _ (omega arith) c.if-extent-ne117.false;
       length = i.length;
       here = ap (λ (course : Course). course.place) says.1 ∙ ap Some (omega arith);
+      last = same_last c.undone.self.last c.in-Right.extent c.if-extent-ne117.false (ap (λ (course : Course). course.last) says.1) ∙ i.last;
       rises = omega (arith, i.rises);
       same = w.same ∙ i.same;
       spare = (w.spare.0 ∙ i.spare.0, w.spare.1 ∙ i.spare.1);

@@ -11,6 +11,7 @@ invariant-undone g l = record {
   underway : IfSome (g.D.Disk.told l.fn.disk) (λ told. Underway (content told) l.fn.self l.self l.at);
   length : IfSome (g.D.Disk.told l.fn.disk) (λ told. l.len ≡ length (content told));
   here : l.self.place ≡ Some l.at;
+  last : l.self.last ≡ l.fn.self.last;
   rises : place_on l.fn.self.place ≤ l.at;
   same : g.D.Disk.told l.disk ≡ g.D.Disk.told l.fn.disk;
   spare : (g.D.Disk.spare_calls l.disk ≡ g.D.Disk.spare_calls l.fn.disk) × (g.D.Disk.spare_bytes l.disk ≡ g.D.Disk.spare_bytes l.fn.disk);
