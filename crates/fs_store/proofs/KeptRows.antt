@@ -162,20 +162,20 @@ said_of ws t w at done (v ∷ vs) k is long =
 
 -- a whole transaction more
 pub said_transaction : (ws : List Whole) (t : ℕ) (w : Whole) (ps : List Place) (xs : List Whole) → slice_get ws t ≡ Some w
-    → map (revision_at ws) ps ≡ map (λ r. Some r) (revisions (history_in xs))
-    → map (revision_at ws) (ps ++ places_of t 0 w.values) ≡ map (λ r. Some r) (revisions (history_in (xs ++ w ∷ [])))
+    → map (revision_at ws) ps ≡ map (λ r. Some r) (revisions (history_in 0 xs))
+    → map (revision_at ws) (ps ++ places_of t 0 w.values) ≡ map (λ r. Some r) (revisions (history_in 0 (xs ++ w ∷ [])))
 said_transaction ws t w ps xs at before =
     map-append (revision_at ws) ps (places_of t 0 w.values)
     ∙ ap (λ os. os ++ map (revision_at ws) (places_of t 0 w.values)) before
-    ∙ ap (λ os. map (λ r. Some r) (revisions (history_in xs)) ++ os) (said_of ws t w at [] w.values 0 refl refl)
-    ∙ sym (map-append (λ r. Some r) (revisions (history_in xs)) (revisions_of (transaction_in w)))
+    ∙ ap (λ os. map (λ r. Some r) (revisions (history_in 0 xs)) ++ os) (said_of ws t w at [] w.values 0 refl refl)
+    ∙ sym (map-append (λ r. Some r) (revisions (history_in 0 xs)) (revisions_of (transaction_in w)))
     ∙ ap (map (λ r. Some r)) (sym all)
   where
-    all : revisions (history_in (xs ++ w ∷ [])) ≡ revisions (history_in xs) ++ revisions_of (transaction_in w)
+    all : revisions (history_in 0 (xs ++ w ∷ [])) ≡ revisions (history_in 0 xs) ++ revisions_of (transaction_in w)
     all =
         ap (flat_map revisions_of) (map-append transaction_in xs (w ∷ []))
         ∙ flat_map-append revisions_of (map transaction_in xs) (transaction_in w ∷ [])
-        ∙ ap (λ rs. revisions (history_in xs) ++ rs) (append-nil (revisions_of (transaction_in w)))
+        ∙ ap (λ rs. revisions (history_in 0 xs) ++ rs) (append-nil (revisions_of (transaction_in w)))
 
 -- what stands at a place
 pub record Stands (ws : List Whole) (p : Place) : Type 0 where

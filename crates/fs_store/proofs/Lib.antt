@@ -7,3 +7,5 @@ pub mod Sorting
 pub mod Clashes
 pub mod PartSteps
 pub mod Searching
+pub mod ReadingAll
+pub mod Tidying

@@ -20,40 +20,37 @@ use Rattle.fs_store.proofs.KeptRows.{at_oid, said_at, said_long, said_oids, said
 
 pub sound_same : (old new : Past) → IsSound old → new.transactions.items ≡ old.transactions.items → IsLinked new.rows → places new.rows ≡ places old.rows → IsSound new
 sound_same old new has same linked rows = record {
-  history = subst (λ ws. IsHistory (history_in ws)) (sym same) has.history;
+  history = subst (λ ws. IsHistory (history_in 0 ws)) (sym same) has.history;
   linked = linked;
-  say = ap (map (revision_at new.transactions.items)) rows ∙ subst (λ ws. map (revision_at ws) (places old.rows) ≡ map (λ r. Some r) (revisions (history_in ws))) (sym same) has.say;
+  say = ap (map (revision_at new.transactions.items)) rows ∙ subst (λ ws. map (revision_at ws) (places old.rows) ≡ map (λ r. Some r) (revisions (history_in 0 ws))) (sym same) has.say;
 }
 
-history_more : (ws : List Whole) (w : Whole) → history_in (ws ++ w ∷ []) ≡ added (history_in ws) (transaction_in w)
-history_more ws w = ap (λ ts. let h : History = record { floor = 0; transactions = ts } in h) (map-append transaction_in ws (w ∷ []))
-
-pub history_added : (old new : Past) (w : Whole) → new.transactions.items ≡ old.transactions.items ++ w ∷ [] → history_of new ≡ added (history_of old) (transaction_in w)
-history_added old new w one = ap history_in one ∙ history_more old.transactions.items w
+pub history_more : (floor : ℕ) (ws : List Whole) (w : Whole) → history_in floor (ws ++ w ∷ []) ≡ added (history_in floor ws) (transaction_in w)
+history_more floor ws w = ap (λ ts. let h : History = record { floor = floor; transactions = ts } in h) (map-append transaction_in ws (w ∷ []))
 
 pub sound_added : (old new : Past) (w : Whole) (t : ℕ) → IsSound old → last (history_of old) < w.tid → t ≡ length old.transactions.items → new.transactions.items ≡ old.transactions.items ++ w ∷ [] → IsLinked new.rows
     → places new.rows ≡ places old.rows ++ places_of t 0 w.values → IsSound new
 sound_added old new w t has above count one linked rows = record {
-  history = subst IsHistory (sym (history_added old new w one)) (added_history (history_of old) (transaction_in w) has.history above);
+  history = subst (λ ws. IsHistory (history_in old.floor ws)) (sym one) (subst IsHistory (sym (history_more old.floor old.transactions.items w)) (added_history (history_of old) (transaction_in w) has.history above));
   linked = linked;
   say =
       ap (map (revision_at new.transactions.items)) rows
-      ∙ subst (λ ws. map (revision_at ws) (places old.rows ++ places_of t 0 w.values) ≡ map (λ r. Some r) (revisions (history_in ws))) (sym one) all;
+      ∙ subst (λ ws. map (revision_at ws) (places old.rows ++ places_of t 0 w.values) ≡ map (λ r. Some r) (revisions (history_in 0 ws))) (sym one) all;
 }
   where
     ws : List Whole
     ws = old.transactions.items
 
-    all : map (revision_at (ws ++ w ∷ [])) (places old.rows ++ places_of t 0 w.values) ≡ map (λ r. Some r) (revisions (history_in (ws ++ w ∷ [])))
-    all = said_transaction (ws ++ w ∷ []) t w (places old.rows) ws (ap (slice_get (ws ++ w ∷ [])) count ∙ item_at ws w []) (said_more ws (w ∷ []) (places old.rows) (revisions (history_in ws)) has.say)
+    all : map (revision_at (ws ++ w ∷ [])) (places old.rows ++ places_of t 0 w.values) ≡ map (λ r. Some r) (revisions (history_in 0 (ws ++ w ∷ [])))
+    all = said_transaction (ws ++ w ∷ []) t w (places old.rows) ws (ap (slice_get (ws ++ w ∷ [])) count ∙ item_at ws w []) (said_more ws (w ∷ []) (places old.rows) (revisions (history_in 0 ws)) has.say)
 
 -- the rows of the transactions so far, and of one more
 pub said_new : (ws : List Whole) (i n : ℕ) (w : Whole) (ps new : List Place) → n ≡ length ws → i < n → w ≡ get_or ws i w → new ≡ ps ++ places_of i 0 w.values
-    → map (revision_at ws) ps ≡ map (λ r. Some r) (revisions (history_in (take i ws))) → map (revision_at ws) new ≡ map (λ r. Some r) (revisions (history_in (take (i + 1) ws)))
+    → map (revision_at ws) ps ≡ map (λ r. Some r) (revisions (history_in 0 (take i ws))) → map (revision_at ws) new ≡ map (λ r. Some r) (revisions (history_in 0 (take (i + 1) ws)))
 said_new ws i n w ps new long lt is so before =
     ap (map (revision_at ws)) so
     ∙ said_transaction ws i w ps (take i ws) (slice_get_read ws n i w long lt is) before
-    ∙ ap (λ xs. map (λ r. Some r) (revisions (history_in xs))) (sym (take_more ws i w (omega (arith, lt, long)) ∙ ap (λ x. take i ws ++ x ∷ []) (sym is)))
+    ∙ ap (λ xs. map (λ r. Some r) (revisions (history_in 0 xs))) (sym (take_more ws i w (omega (arith, lt, long)) ∙ ap (λ x. take i ws ++ x ∷ []) (sym is)))
 
 pub not_le : (a b : ℕ) → b < a → nat_le a b ≡ false
 not_le a b h = grind (arith, nat_tests)

@@ -1,6 +1,8 @@
 pub mod Drafts
+pub mod FileReads
 pub mod Kept
 pub mod NewestRows
+pub mod Opened
 pub mod Pasts
 pub mod Rows
 pub mod Stores

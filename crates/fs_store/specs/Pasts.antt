@@ -8,7 +8,7 @@ use Rattle.fs_store.specs.declared.past.Past.{Past}
 use Rattle.fs_store.specs.Rows.{places, revision_at, IsLinked, HasRoomFor}
 
 abbrev pub history_of : Past → History
-history_of p = history_in p.transactions.items
+history_of p = history_in p.floor p.transactions.items
 
 -- ids rise, and there is one row for each record, in their order
 pub record IsSound (p : Past) : Type 0 where

@@ -4,10 +4,12 @@
 //! read; the vote is refused where one of these has a later serial, and else the transaction waits until it is
 //! finished or aborted. `specs/Stores` says what a store is seen as, `specs/Verdicts` when a vote is refused.
 //!
-//! So far the transactions are kept in memory, and the disk is handed back as it was given.
+//! `Store::open` opens a disk's file, and cuts off what a broken write left (`specs/Opened`). So far its transactions
+//! are kept in memory from then on, and new ones aren't written to the disk.
 #![tactic(auto)]
 
 mod newest;
+mod opening;
 mod parts;
 mod past;
 mod reads;
@@ -19,10 +21,13 @@ mod voted;
 mod voting;
 mod waiting;
 
+pub use opening::{MAX_LENGTH, OpenRefusal};
 pub use reads::{Loaded, Seen};
 pub use refusal::VoteRefusal;
 pub use store::Store;
 pub use voted::Voted;
 
+#[cfg(test)]
+mod opening_tests;
 #[cfg(test)]
 mod tests;

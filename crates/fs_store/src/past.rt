@@ -14,6 +14,8 @@ use zbase::{Memory, Oid, Tid, Value};
 /// The transactions of a history, from the oldest, with a row for each of their records.
 #[derive(Drop)]
 pub(crate) struct Past {
+    /// The greatest id of a packed transaction, 0 for none.
+    floor: Tid,
     transactions: Vec<Whole>,
     rows: Rows,
 }
@@ -22,10 +24,10 @@ impl Past {
     ghost use Rattle.fs_store.specs.Pasts.{history_of, HasRoomToAdd, IsSound};
 
     /// The transactions, without a copy of their values.
-    pub(crate) fn new(alloc: Global, transactions: Wholes) -> Result<Past, Memory>
-        requires { IsHistory (history_in transactions) }
+    pub(crate) fn new(alloc: Global, floor: Tid, transactions: Wholes) -> Result<Past, Memory>
+        requires { IsHistory (history_in floor transactions) }
         ensures sound { IfOk result (λ past. IsSound past) }
-        ensures history { IfOk result (λ past. history_of past ≡ history_in transactions) }
+        ensures history { IfOk result (λ past. history_of past ≡ history_in floor transactions) }
     {
         let transactions = transactions.into_vec();
         let mut rows = Rows::new(alloc);
@@ -34,7 +36,11 @@ impl Past {
             rows.reserve(transaction.values.as_slice())?;
             rows.add_all(number, transaction.values.as_slice());
         }
-        Ok(Past { transactions, rows })
+        Ok(Past {
+            floor,
+            transactions,
+            rows,
+        })
     }
 
     /// The transactions, from the oldest.

@@ -1,19 +1,23 @@
 ghost use Rattle.std.specs.Prelude.{◌≡◌, ◌==◌, ◌≤◌, ◌<◌, ◌⊎◌, ℕ, false, IfOk, IfErr, None, OnOk, OnErr, Some, length, map};
 ghost use Rattle.std.specs.Option.{option_map};
+ghost use Rattle.zbase.specs.Faults.{Counts};
 ghost use Rattle.zbase.specs.History.{IsHistory};
 ghost use Rattle.zbase.specs.Values.{last, serial, transaction, upto, value};
 ghost use Rattle.evaluator.specs.Facts.{log_row, parts_of};
 ghost use Rattle.fs_scan.specs.Wholes.{history_in, transaction_in};
 ghost use Rattle.fs_store.specs.Kept.{IsFree};
+ghost use Rattle.fs_store.specs.Opened.{IsRefusedFor, LeavesDisk, Opens};
 ghost use Rattle.fs_store.specs.Stores.{Out, IsDraft, IsVoteOf, finished, most_length, voting};
 ghost use Rattle.fs_store.specs.Verdicts.{greatest_number, spent, tid_at, verdict, voted_out};
+ghost use Rattle.fs_store.specs.declared.opening.OpenRefusal.{OpenRefusal};
 ghost use Rattle.fs_store.specs.declared.refusal.VoteRefusal.{VoteRefusal};
 
+use crate::opening::{FileRead, open_file};
 use crate::past::Past;
 use crate::settling::settle;
 use crate::voting::{clash_among, made_by, size_of};
 use crate::waiting::Waiting;
-use crate::{Loaded, Seen, VoteRefusal, Voted, parts};
+use crate::{Loaded, OpenRefusal, Seen, VoteRefusal, Voted, parts};
 use evaluator::{Draft, LogRows, Parts};
 use fs_scan::{Whole, Wholes};
 use std::alloc::Global;
@@ -39,14 +43,43 @@ impl<D: Disk + Drop> Model for Store<D> {
 
     ghost Value = { StoreView };
 
-    ghost view = { λ store. record { history = history_of store.past; end = store.end; limit = store.limit; out = option_map out_of store.out } };
+    ghost view = { λ store. record { history = history_of store.past; end = store.end; limit = store.limit; out = option_map out_of store.out; disk = record { told = D.told store.disk; counter = D.counter store.disk; calls = D.device_calls store.disk; spare_calls = D.spare_calls store.disk; spare_bytes = D.spare_bytes store.disk } } };
 
     ghost invariant = { λ store. IsKept store.past store.end store.limit store.out };
 }
 
 impl<D: Disk + Drop> Store<D> {
-    /// A store of these transactions, from the oldest, in a file that ends at `end` and may have `limit` bytes. For
-    /// want of memory the disk comes back.
+    /// The store of the history to which the disk's file opens, which may have `limit` bytes. The file is synced; a
+    /// torn rest is cut off, and the file synced again. With `Err` the disk comes back.
+    ///
+    /// FileStorage format notes: a file is read forward from its start, and what a write left that was broken off is
+    /// cut off its end.
+    pub fn open(alloc: Global, disk: D, limit: u64) -> Result<Store<D>, (OpenRefusal, D)>
+        requires limit { limit ≤ most_length }
+        ensures opened { IfOk result (Opens (D.told disk) limit) }
+        ensures calm { IfOk result (λ store. Counts (D.counter disk) store.disk.counter ⊥) }
+        ensures refused { IfErr result (λ (refusal, _). IsRefusedFor (D.told disk) refusal) }
+        ensures left { IfErr result (λ (refusal, back). LeavesDisk (D.told disk) (D.told back) refusal) }
+        ensures counts { IfErr result (λ (refusal, back). Counts (D.counter disk) (D.counter back) (refusal ≡ OpenRefusal.Disk)) }
+    {
+        let mut disk = disk;
+        match open_file(alloc, &mut disk) {
+            Ok(opened) => {
+                let FileRead { past, end, torn: _ } = opened;
+                Ok(Store {
+                    disk,
+                    past,
+                    end,
+                    limit,
+                    out: None,
+                })
+            }
+            Err(refusal) => Err((refusal, disk)),
+        }
+    }
+
+    /// A store of these transactions, from the oldest, of which none is packed, in a file that ends at `end` and may
+    /// have `limit` bytes: nothing is read of the disk. For want of memory it comes back.
     pub fn new(
         alloc: Global,
         disk: D,
@@ -54,12 +87,12 @@ impl<D: Disk + Drop> Store<D> {
         end: u64,
         limit: u64,
     ) -> Result<Store<D>, (Memory, D)>
-        requires history { IsHistory (history_in transactions) }
+        requires history { IsHistory (history_in 0 transactions) }
         requires limit { limit ≤ most_length }
-        ensures ok { IfOk result (λ store. store ≡ record { history = history_in transactions; end = end; limit = limit; out = None }) }
+        ensures ok { IfOk result (λ store. (store.history ≡ history_in 0 transactions) × (store.end ≡ end) × (store.limit ≡ limit) × (store.out ≡ None)) }
         ensures back { IfErr result (λ (_, back). back ≡ disk) }
     {
-        match Past::new(alloc, transactions) {
+        match Past::new(alloc, Tid(0), transactions) {
             Ok(past) => Ok(Store {
                 disk,
                 past,
@@ -255,6 +288,10 @@ impl<D: Disk + Drop> Store<D> {
     /// The disk under the store.
     pub fn into_disk(self) -> D
         requires { self.out ≡ None }
+        ensures told { D.told result ≡ self.disk.told }
+        ensures counter { D.counter result ≡ self.disk.counter }
+        ensures calls { D.device_calls result ≡ self.disk.calls }
+        ensures spare { (D.spare_calls result ≡ self.disk.spare_calls) × (D.spare_bytes result ≡ self.disk.spare_bytes) }
     {
         let Store {
             disk,

@@ -42,7 +42,7 @@ fn whole(alloc: Global, tid: u64, values: OidValues) -> Result<Whole, Memory>
 // One transaction, which writes one object.
 fn one(alloc: Global, tid: u64, oid: u64) -> Result<Wholes, Memory>
     requires { 0 < tid }
-    ensures { IfOk result (λ transactions. IsHistory (history_in transactions)) }
+    ensures { IfOk result (λ transactions. IsHistory (history_in 0 transactions)) }
 {
     let mut values = OidValues::new(alloc);
     values.push(written(alloc, oid, "a")?)?;
@@ -53,7 +53,7 @@ fn one(alloc: Global, tid: u64, oid: u64) -> Result<Wholes, Memory>
 
 // The transactions 5 and 7. The first writes the object 1 twice, and the second takes the object 3 away.
 fn two(alloc: Global) -> Result<Wholes, Memory>
-    ensures { IfOk result (λ transactions. IsHistory (history_in transactions)) }
+    ensures { IfOk result (λ transactions. IsHistory (history_in 0 transactions)) }
 {
     let mut values = OidValues::new(alloc);
     values.push(written(alloc, 1, "first")?)?;
@@ -76,7 +76,7 @@ fn two(alloc: Global) -> Result<Wholes, Memory>
 
 // A store of these transactions, whose file ends at 200.
 fn store_of(alloc: Global, transactions: Wholes, limit: u64) -> Result<Store<MemoryDisk>, Memory>
-    requires history { IsHistory (history_in transactions) }
+    requires history { IsHistory (history_in 0 transactions) }
     requires limit { limit ≤ most_length }
 {
     let disk = MemoryDisk::new(alloc, Bytes::new(alloc));

@@ -8,5 +8,5 @@ use Rattle.fs_store.proofs.past.Past.new.Given as goal
 abbrev pub invariant-loop-number : goal.invariant-loop-number
 invariant-loop-number l = record {
   linked : IsLinked l.rows;
-  say : map (revision_at l.transactions.items) (places l.rows) ≡ map (λ r. Some r) (revisions (history_in (take l.number l.transactions.items)));
+  say : map (revision_at l.transactions.items) (places l.rows) ≡ map (λ r. Some r) (revisions (history_in 0 (take l.number l.transactions.items)));
 }

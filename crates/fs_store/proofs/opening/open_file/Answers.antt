@@ -1,0 +1,16 @@
+use Rattle.std.proofs.Common.{Err, ap, ◌∙◌, arith}
+use Rattle.std.proofs.lemmas.Result.{err_from_is_err_and}
+use Rattle.fs_store.specs.declared.opening.FileRead.{FileRead}
+use Rattle.fs_store.proofs.Tidying.{refused_by, synced_alone}
+use Rattle.fs_store.proofs.opening.open_file.Goals as goal
+
+pub returns-in_err-read-clause-refused : goal.returns-in_err-read-clause-refused
+returns-in_err-read-clause-refused g c =
+    let p = err_from_is_err_and c.from_residual-in_err-read.result c.from_residual-in_err-read.ensures.1 in
+    refused_by {T = FileRead} (g.D.Disk.told c.args.disk.now) (g.D.Disk.told c.reserve.new.self) (g.D.Disk.told c.sync.new.self) c.in_ok-len.len c.in_err-read.field-0.0 c.from_residual-in_err-read.result
+    (c.in_ok-reserve.ensures.same ∙ c.in_ok-len.ensures.same) c.in_ok-sync.ensures.held c.in_ok-len.ensures.value (omega (arith, c.if-len-gt-MAX_LENGTH.false)) (p.1 ∙ ap (λ k. Err k) p.2) c.in_err-read.ensures.damaged
+
+pub returns-then-read-eq0-clause-tidies : goal.returns-then-read-eq0-clause-tidies
+returns-then-read-eq0-clause-tidies g c =
+    synced_alone (g.D.Disk.told c.args.disk.now) (g.D.Disk.told c.reserve.new.self) (g.D.Disk.told c.sync.new.self) (g.D.Disk.told c.read_file.new.disk) c.in_ok-read.read.end c.in_ok-read.read.torn
+    (c.in_ok-reserve.ensures.same ∙ c.in_ok-len.ensures.same) c.in_ok-sync.ensures.held c.in_ok-read.ensures.same c.if-read-eq0.true

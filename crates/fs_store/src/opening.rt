@@ -1,0 +1,149 @@
+ghost use Rattle.std.specs.Prelude.{◌≡◌, ◌≤◌, ℕ, length, IfErr, IfOk, IfSome, IsErr, IsErrOf, OnOk, OnErr};
+ghost use Rattle.zbase.specs.Faults.{Counts};
+ghost use Rattle.zbase.specs.History.{IsHistory};
+ghost use Rattle.zdisk.specs.Disk.{HasPlace, content};
+ghost use Rattle.fs_record.specs.declared.damage.Damage.{Damage as Kind};
+ghost use Rattle.fs_record.specs.Opening.{Damaged};
+ghost use Rattle.fs_scan.specs.Wholes.{history_in};
+ghost use Rattle.fs_store.specs.Opened.{CutOffFailed, CutsOff, IsRefusedFor, LeavesDisk, Tidies};
+ghost use Rattle.fs_store.specs.FileReads.{Reads, ReadsAll, of_scan};
+ghost use Rattle.fs_store.specs.Pasts.{IsSound};
+ghost use Rattle.fs_store.specs.Stores.{most_length};
+ghost use Rattle.fs_store.specs.declared.opening.OpenRefusal.TheVariants as refusals;
+
+use crate::past::Past;
+use fs_record::Damage;
+use fs_scan::{ScanRefusal, Scanned, Walk, Wholes, scan};
+use std::alloc::Global;
+use zbase::{Failed, Memory};
+use zdisk::Disk;
+
+/// The most bytes that a file may have.
+pub const MAX_LENGTH: u64 = 281_474_976_710_655;
+
+/// Why a store isn't opened.
+#[derive(Clone, Copy, Debug, PartialEq, Eq)]
+pub enum OpenRefusal {
+    /// The file has this damage, in the transaction at that place.
+    Damaged(Damage, u64),
+    /// The disk failed.
+    Disk,
+    /// The file has so many bytes, more than a file may have.
+    TooLong(u64),
+    /// Want of memory.
+    Memory,
+}
+
+impl From<ScanRefusal> for OpenRefusal {
+    ghost from_gives = { λ refusal e. e ≡ of_scan refusal };
+
+    fn from(refusal: ScanRefusal) -> OpenRefusal {
+        match refusal {
+            ScanRefusal::Damaged(kind, place) => OpenRefusal::Damaged(kind, place),
+            ScanRefusal::Disk => OpenRefusal::Disk,
+            ScanRefusal::Memory => OpenRefusal::Memory,
+        }
+    }
+}
+
+impl From<Memory> for OpenRefusal {
+    ghost from_gives = { λ _ refusal. refusal ≡ refusals.Memory };
+
+    fn from(_: Memory) -> OpenRefusal {
+        OpenRefusal::Memory
+    }
+}
+
+impl From<Failed> for OpenRefusal {
+    ghost from_gives = { λ _ refusal. refusal ≡ refusals.Disk };
+
+    fn from(_: Failed) -> OpenRefusal {
+        OpenRefusal::Disk
+    }
+}
+
+/// What a file says that opens.
+#[derive(Drop)]
+pub(crate) struct FileRead {
+    /// Its transactions that count.
+    pub(crate) past: Past,
+    /// Where the last whole one ends, in bytes from the file's start.
+    pub(crate) end: u64,
+    /// The number of bytes behind that.
+    pub(crate) torn: u64,
+}
+
+// All transactions that count, with their values, from the oldest.
+fn read_all<D: Disk>(alloc: Global, disk: &mut D) -> Result<Wholes, ScanRefusal>
+    ensures reads { IfOk result (λ wholes. IfSome (D.told disk.old) (λ told. ReadsAll (content told) wholes)) }
+    ensures rise { IfOk result (λ wholes. (floor : ℕ) → IsHistory (history_in floor wholes)) }
+    ensures damaged { (kind : Kind) (place : ℕ) → IsErrOf result (ScanRefusal.Damaged kind place) → IfSome (D.told disk.old) (λ told. Damaged (content told) place kind) }
+    ensures same { D.told disk.new ≡ D.told disk.old }
+    ensures spare { (D.spare_calls disk.new ≡ D.spare_calls disk.old) × (D.spare_bytes disk.new ≡ D.spare_bytes disk.old) }
+    ensures counts { Counts (D.counter disk.old) (D.counter disk.new) (IsErrOf result ScanRefusal.Disk) }
+{
+    let mut walk = Walk::new(alloc);
+    let mut wholes = Wholes::new(alloc);
+    'each: loop {
+        match walk.next(disk)? {
+            Some(whole) => wholes.push(whole)?,
+            None => return Ok(wholes),
+        }
+    }
+}
+
+// What the disk's file says. The scan comes first: it finds where the file ends, and each damage before any value is
+// read.
+fn read_file<D: Disk>(alloc: Global, disk: &mut D) -> Result<FileRead, ScanRefusal>
+    ensures reads { IfOk result (λ read. IfSome (D.told disk.old) (λ told. Reads (content told) read)) }
+    ensures sound { IfOk result (λ read. IsSound read.past) }
+    ensures damaged { (kind : Kind) (place : ℕ) → IsErrOf result (ScanRefusal.Damaged kind place) → IfSome (D.told disk.old) (λ told. Damaged (content told) place kind) }
+    ensures same { D.told disk.new ≡ D.told disk.old }
+    ensures spare { (D.spare_calls disk.new ≡ D.spare_calls disk.old) × (D.spare_bytes disk.new ≡ D.spare_bytes disk.old) }
+    ensures counts { Counts (D.counter disk.old) (D.counter disk.new) (IsErrOf result ScanRefusal.Disk) }
+{
+    let Scanned {
+        end,
+        torn,
+        floor,
+        ..
+    } = scan(alloc, disk)?;
+    let wholes = read_all(alloc, disk)?;
+    let past = Past::new(alloc, floor, wholes)?;
+    Ok(FileRead { past, end, torn })
+}
+
+// Cuts off what stands behind the file's end, and syncs.
+fn cut_off<D: Disk>(disk: &mut D, end: u64) -> Result<(), Failed>
+    requires within { HasPlace (D.told disk.old) end }
+    requires room { 2 ≤ D.spare_calls disk.old }
+    ensures cut { OnOk result (CutsOff (D.told disk.old) (D.told disk.new) end) }
+    ensures failed { OnErr result (CutOffFailed (D.told disk.old) (D.told disk.new) end) }
+    ensures counts { Counts (D.counter disk.old) (D.counter disk.new) (IsErr result) }
+{
+    disk.cut(end)?;
+    disk.sync()
+}
+
+/// Opens the disk's file: syncs it, reads it, and cuts off what stands behind its end.
+pub(crate) fn open_file<D: Disk>(alloc: Global, disk: &mut D) -> Result<FileRead, OpenRefusal>
+    ensures reads { IfOk result (λ read. IfSome (D.told disk.old) (λ told. (length (content told) ≤ most_length) × Reads (content told) read)) }
+    ensures sound { IfOk result (λ read. IsSound read.past) }
+    ensures tidies { IfOk result (λ read. Tidies (D.told disk.old) (D.told disk.new) read.end read.torn) }
+    ensures refused { IfErr result (IsRefusedFor (D.told disk.old)) }
+    ensures left { IfErr result (LeavesDisk (D.told disk.old) (D.told disk.new)) }
+    ensures counts { Counts (D.counter disk.old) (D.counter disk.new) (IsErrOf result OpenRefusal.Disk) }
+{
+    let len = disk.len()?;
+    if len > MAX_LENGTH {
+        return Err(OpenRefusal::TooLong(len));
+    }
+    disk.reserve(3, 0)?;
+    disk.sync()?;
+    let read = read_file(alloc, disk)?;
+    if read.torn == 0 {
+        return Ok(read);
+    }
+    cut_off(disk, read.end)?;
+    Ok(read)
+}
