@@ -1,13 +1,11 @@
 -- What a file is refused for, from what its reading was.
-use Rattle.std.proofs.Common.{◌≡◌, ℕ, ◌<◌, ◌≤◌, List, ◌++◌, length, drop, Option, None, Some, Result, Ok, Err, refl, sym, ap, subst, ◌∙◌, arith}
+use Rattle.std.proofs.Common.{◌≡◌, ℕ, ◌<◌, ◌≤◌, List, length, Option, None, Some, Result, Ok, Err, refl, sym, ap, subst, ◌∙◌, arith}
 use Rattle.std.specs.Prelude.{IfErr, IfOk, IfSome, IsErrOf}
 use Rattle.std.specs.Option.{option_map}
 use Rattle.zdisk.specs.Disk.{Told, content, synced}
 use Rattle.zio.specs.Shelves.{Entry, file_at}
 use Rattle.fs_record.specs.declared.damage.Damage.{Damage}
-use Rattle.fs_record.specs.File.{Front, magic}
 use Rattle.fs_record.specs.Opening.{Damaged}
-use Rattle.fs_scan.specs.Plain.{IsPlainFile}
 use Rattle.zope.specs.declared.refusal.FileRefusal.{FileRefusal}
 use Rattle.zope.specs.declared.refusal.Refusal.{Refusal}
 use Rattle.fs_store.specs.Stores.{most_length}
@@ -41,22 +39,20 @@ unread files name failed FileRefusal.Disk missing long disk there = (disk refl, 
 unread files name failed FileRefusal.Memory missing long disk there = tt
 
 pub unopened : {T : Type 0} (files : Option (List Entry)) (name bytes : List ℕ) (failed : Type 0) (r : Result T Refusal) → Stored files name bytes
-    → ((kind : Damage) (place : ℕ) → IsErrOf r (Refusal.Damaged kind place) → (more : List ℕ) → bytes ≡ magic ++ more → ⊥)
-    → (IsErrOf r Refusal.NotYet → (bytes ≡ magic ++ drop 4 bytes) × ((front : Front) → IsPlainFile bytes front → ⊥))
+    → ((kind : Damage) (place : ℕ) → IsErrOf r (Refusal.Damaged kind place) → Damaged bytes place kind)
     → IfErr r IsOfReading → IfErr r (FileCause files name failed)
-unopened files name bytes failed (Ok x) stored damaged not_yet others = tt
-unopened files name bytes failed (Err (Refusal.Damaged kind place)) stored damaged not_yet others = (bytes, stored, others.0, others.1, damaged kind place refl)
-unopened files name bytes failed (Err Refusal.NotYet) stored damaged not_yet others = (bytes, stored, (not_yet refl).0, (not_yet refl).1)
-unopened files name bytes failed (Err Refusal.Memory) stored damaged not_yet others = tt
-unopened files name bytes failed (Err Refusal.Usage) stored damaged not_yet others = absurd others
-unopened files name bytes failed (Err (Refusal.BadLine n)) stored damaged not_yet others = absurd others
-unopened files name bytes failed (Err Refusal.Disk) stored damaged not_yet others = absurd others
-unopened files name bytes failed (Err Refusal.Input) stored damaged not_yet others = absurd others
-unopened files name bytes failed (Err Refusal.Output) stored damaged not_yet others = absurd others
-unopened files name bytes failed (Err Refusal.Missing) stored damaged not_yet others = absurd others
-unopened files name bytes failed (Err Refusal.InputTooLarge) stored damaged not_yet others = absurd others
-unopened files name bytes failed (Err (Refusal.FileTooLarge n)) stored damaged not_yet others = absurd others
-unopened files name bytes failed (Err (Refusal.TooLong n)) stored damaged not_yet others = absurd others
+unopened files name bytes failed (Ok x) stored damaged others = tt
+unopened files name bytes failed (Err (Refusal.Damaged kind place)) stored damaged others = (bytes, stored, damaged kind place refl)
+unopened files name bytes failed (Err Refusal.Memory) stored damaged others = tt
+unopened files name bytes failed (Err Refusal.Usage) stored damaged others = absurd others
+unopened files name bytes failed (Err (Refusal.BadLine n)) stored damaged others = absurd others
+unopened files name bytes failed (Err Refusal.Disk) stored damaged others = absurd others
+unopened files name bytes failed (Err Refusal.Input) stored damaged others = absurd others
+unopened files name bytes failed (Err Refusal.Output) stored damaged others = absurd others
+unopened files name bytes failed (Err Refusal.Missing) stored damaged others = absurd others
+unopened files name bytes failed (Err Refusal.InputTooLarge) stored damaged others = absurd others
+unopened files name bytes failed (Err (Refusal.FileTooLarge n)) stored damaged others = absurd others
+unopened files name bytes failed (Err (Refusal.TooLong n)) stored damaged others = absurd others
 
 -- what holds of the bytes of a disk holds of the file which it was opened over
 pub kept : (files : Option (List Entry)) (name : List ℕ) (told : Option Told) (P : List ℕ → Type 0) → IfSome files (λ all. told ≡ option_map synced (file_at all name)) → IfSome files (λ all. file_at all name ≡ None → ⊥) → IfSome told (λ t. (length (content t) ≤ most_length) × P (content t)) → IfKept files name P
@@ -84,7 +80,6 @@ unscanned files name failed (Refusal.Damaged kind place) missing damaged long di
 unscanned files name failed (Refusal.TooLong n) missing damaged long disk there others = long n refl
 unscanned files name failed Refusal.Disk missing damaged long disk there others = (disk refl, there refl)
 unscanned files name failed Refusal.Memory missing damaged long disk there others = tt
-unscanned files name failed Refusal.NotYet missing damaged long disk there others = absurd others
 unscanned files name failed Refusal.Usage missing damaged long disk there others = absurd others
 unscanned files name failed (Refusal.BadLine n) missing damaged long disk there others = absurd others
 unscanned files name failed Refusal.Input missing damaged long disk there others = absurd others
@@ -131,7 +126,6 @@ module _ {T : Type 0} (files : Option (List Entry)) (name : List ℕ) (told : Op
   undumped (Err Refusal.Disk) damaged long missing failed rose others = (failed refl, there)
   undumped (Err Refusal.Output) damaged long missing failed rose others = rose refl
   undumped (Err Refusal.Memory) damaged long missing failed rose others = tt
-  undumped (Err Refusal.NotYet) damaged long missing failed rose others = absurd others
   undumped (Err Refusal.Usage) damaged long missing failed rose others = absurd others
   undumped (Err (Refusal.BadLine n)) damaged long missing failed rose others = absurd others
   undumped (Err Refusal.Input) damaged long missing failed rose others = absurd others

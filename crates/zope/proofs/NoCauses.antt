@@ -1,15 +1,13 @@
 -- Where a command meets no cause, it ends well or for want of memory.
-use Rattle.std.proofs.Common.{◌≡◌, ℕ, ◌≤◌, ◌<◌, List, [], ◌∷◌, ◌++◌, length, Option, None, Some, refl, sym, ap, subst, ◌∙◌, ◌⊎◌, Bool, true, false, nat_lt, arith, inl, inr}
+use Rattle.std.proofs.Common.{◌≡◌, ℕ, ◌≤◌, ◌<◌, List, [], ◌∷◌, length, Option, None, Some, refl, sym, ap, subst, ◌∙◌, ◌⊎◌, Bool, true, false, nat_lt, arith, inl, inr}
 use Rattle.std.specs.Prelude.{IfSome}
 use Rattle.std.specs.Option.{option_map}
 use Rattle.std.proofs.lemmas.Bool.Decides.{nat_tests}
 use Rattle.zbase.specs.Faults.{Counter, Rose}
 use Rattle.zio.specs.Shelves.{Entry, file_at}
 use Rattle.fs_record.specs.declared.damage.Damage.{Damage}
-use Rattle.fs_record.specs.File.{Front, bytes_of, magic}
+use Rattle.fs_record.specs.File.{Front}
 use Rattle.fs_record.specs.Opening.{Cut, Damaged}
-use Rattle.fs_record.specs.Spelling.{Block, block_spelling}
-use Rattle.fs_scan.specs.Plain.{IsPlainFile}
 use Rattle.schedule.specs.declared.item.Item2.{Item2}
 use Rattle.schedule.specs.BadLines.{IsBadAt}
 use Rattle.schedule.specs.Items.{ArmNothing, IsSchedule}
@@ -30,6 +28,9 @@ OneSchedule = (text : List ℕ) (a b : List Item2) → IsSchedule text a → IsS
 abbrev pub NotBoth : Type 0
 NotBoth = (text : List ℕ) (items : List Item2) (n : ℕ) → IsSchedule text items → ArmNothing items → IsBadAt text n → ⊥
 
+abbrev pub NotDamaged : Type 0
+NotDamaged = (bytes : List ℕ) (front : Front) (m n : ℕ) (kind : Damage) → Cut bytes front m → Damaged bytes n kind → ⊥
+
 -- words give one limit
 same_limit : (rest : List (List ℕ)) (k l : ℕ) → GivesLimit rest k → GivesLimit rest l → k ≡ l
 same_limit [] k l p q = p ∙ sym q
@@ -49,11 +50,6 @@ same_bytes o a b p q = cc
 not_none : {X : Type 0} (o : Option X) (a : X) → o ≡ Some a → o ≡ None → ⊥
 not_none o a p q = cc
 
--- a file begins with its magic
-begins : (bs : List Block) → (more : List ℕ) × (bytes_of bs ≡ magic ++ more)
-begins [] = ([], refl)
-begins (b ∷ bs) = let r = begins bs in (r.0 ++ block_spelling b, ap (λ (z : List ℕ). z ++ block_spelling b) r.1)
-
 of_input : (input : Option (List ℕ)) (text : List ℕ) (failed : Type 0) (items : List Item2) → input ≡ Some text → length text ≤ most_input → IsSchedule text items → ArmNothing items → NotBoth → (failed → ⊥) → (e : Refusal) → InputCause input failed e → e ≡ Refusal.Memory
 of_input input text failed items given within spells first law calm Refusal.Memory cause = refl
 of_input input text failed items given within spells first law calm Refusal.Input cause = absurd (calm cause)
@@ -63,7 +59,6 @@ of_input input text failed items given within spells first law calm Refusal.Inpu
 of_input input text failed items given within spells first law calm (Refusal.BadLine n) cause =
     let bad : (length text ≤ most_input) × IsBadAt text n = subst (λ i. IfSome i (λ t. (length t ≤ most_input) × IsBadAt t n)) given cause in
     absurd (law text items n spells first bad.1)
-of_input input text failed items given within spells first law calm Refusal.NotYet cause = absurd cause
 of_input input text failed items given within spells first law calm Refusal.Usage cause = absurd cause
 of_input input text failed items given within spells first law calm (Refusal.Damaged kind place) cause = absurd cause
 of_input input text failed items given within spells first law calm Refusal.Disk cause = absurd cause
@@ -75,33 +70,28 @@ of_input input text failed items given within spells first law calm (Refusal.Too
 has_same : (files : Option (List Entry)) (entries : List Entry) (name a b : List ℕ) → files ≡ Some entries → file_at entries name ≡ Some a → HasFile files name b → a ≡ b
 has_same files entries name a b shelf there has = same_bytes (file_at entries name) a b there (subst (λ f. HasFile f name b) shelf has)
 
-of_file : (files : Option (List Entry)) (entries : List Entry) (name bytes : List ℕ) (front : Front) (failed : Type 0) → files ≡ Some entries → file_at entries name ≡ Some bytes → length bytes ≤ most_file → IsPlainFile bytes front → (failed → ⊥) → (e : Refusal) → FileCause files name failed e → e ≡ Refusal.Memory
-of_file files entries name bytes front failed shelf there fits plain calm Refusal.Memory cause = refl
-of_file files entries name bytes front failed shelf there fits plain calm Refusal.Missing cause = absurd (not_none (file_at entries name) bytes there (subst (λ f. IfSome f (λ all. file_at all name ≡ None)) shelf cause))
-of_file files entries name bytes front failed shelf there fits plain calm (Refusal.FileTooLarge n) cause =
+of_file : (files : Option (List Entry)) (entries : List Entry) (name bytes : List ℕ) (front : Front) (end : ℕ) (failed : Type 0) → files ≡ Some entries → file_at entries name ≡ Some bytes → length bytes ≤ most_file → Cut bytes front end → NotDamaged → (failed → ⊥) → (e : Refusal) → FileCause files name failed e → e ≡ Refusal.Memory
+of_file files entries name bytes front end failed shelf there fits opens law calm Refusal.Memory cause = refl
+of_file files entries name bytes front end failed shelf there fits opens law calm Refusal.Missing cause = absurd (not_none (file_at entries name) bytes there (subst (λ f. IfSome f (λ all. file_at all name ≡ None)) shelf cause))
+of_file files entries name bytes front end failed shelf there fits opens law calm (Refusal.FileTooLarge n) cause =
     let long : option_map length (file_at entries name) ≡ Some n = subst (λ f. IsLength f name n) shelf cause.1 in
     let same : length bytes ≡ n = same_bytes (option_map length (file_at entries name)) (length bytes) n (ap (option_map length) there) long in
     absurd (omega (arith, cause.0, same))
-of_file files entries name bytes front failed shelf there fits plain calm Refusal.Disk cause = absurd (calm cause.0)
-of_file files entries name bytes front failed shelf there fits plain calm (Refusal.Damaged kind place) cause =
+of_file files entries name bytes front end failed shelf there fits opens law calm Refusal.Disk cause = absurd (calm cause.0)
+of_file files entries name bytes front end failed shelf there fits opens law calm (Refusal.Damaged kind place) cause =
     let same = has_same files entries name bytes cause.0 shelf there cause.1.has in
-    let r = begins plain.file.blocks in
-    absurd (cause.4 r.0 (sym same ∙ plain.file.spelled ∙ r.1))
-of_file files entries name bytes front failed shelf there fits plain calm Refusal.NotYet cause =
-    let same = has_same files entries name bytes cause.0 shelf there cause.1.has in
-    absurd (cause.3 front (subst (λ (b : List ℕ). IsPlainFile b front) same plain))
-of_file files entries name bytes front failed shelf there fits plain calm Refusal.Usage cause = absurd cause
-of_file files entries name bytes front failed shelf there fits plain calm (Refusal.BadLine n) cause = absurd cause
-of_file files entries name bytes front failed shelf there fits plain calm Refusal.Input cause = absurd cause
-of_file files entries name bytes front failed shelf there fits plain calm Refusal.Output cause = absurd cause
-of_file files entries name bytes front failed shelf there fits plain calm Refusal.InputTooLarge cause = absurd cause
-of_file files entries name bytes front failed shelf there fits plain calm (Refusal.TooLong n) cause = absurd cause
+    absurd (law bytes front end place kind opens (subst (λ (b : List ℕ). Damaged b place kind) (sym same) cause.2))
+of_file files entries name bytes front end failed shelf there fits opens law calm Refusal.Usage cause = absurd cause
+of_file files entries name bytes front end failed shelf there fits opens law calm (Refusal.BadLine n) cause = absurd cause
+of_file files entries name bytes front end failed shelf there fits opens law calm Refusal.Input cause = absurd cause
+of_file files entries name bytes front end failed shelf there fits opens law calm Refusal.Output cause = absurd cause
+of_file files entries name bytes front end failed shelf there fits opens law calm Refusal.InputTooLarge cause = absurd cause
+of_file files entries name bytes front end failed shelf there fits opens law calm (Refusal.TooLong n) cause = absurd cause
 
 of_run : (broken : ℕ → Type 0) (failed : Type 0) → ((n : ℕ) → broken n → ⊥) → (failed → ⊥) → (e : Refusal) → RunCause broken failed e → e ≡ Refusal.Memory
 of_run broken failed runs calm Refusal.Memory cause = refl
 of_run broken failed runs calm Refusal.Output cause = absurd (calm cause)
 of_run broken failed runs calm (Refusal.BadLine n) cause = absurd (runs n cause)
-of_run broken failed runs calm Refusal.NotYet cause = absurd cause
 of_run broken failed runs calm Refusal.Usage cause = absurd cause
 of_run broken failed runs calm (Refusal.Damaged kind place) cause = absurd cause
 of_run broken failed runs calm Refusal.Disk cause = absurd cause
@@ -110,9 +100,6 @@ of_run broken failed runs calm Refusal.Missing cause = absurd cause
 of_run broken failed runs calm Refusal.InputTooLarge cause = absurd cause
 of_run broken failed runs calm (Refusal.FileTooLarge n) cause = absurd cause
 of_run broken failed runs calm (Refusal.TooLong n) cause = absurd cause
-
-abbrev pub NotDamaged : Type 0
-NotDamaged = (bytes : List ℕ) (front : Front) (m n : ℕ) (kind : Damage) → Cut bytes front m → Damaged bytes n kind → ⊥
 
 kept_same : (files : Option (List Entry)) (entries : List Entry) (name bytes : List ℕ) (P : List ℕ → Type 0) → files ≡ Some entries → file_at entries name ≡ Some bytes → IfKept files name P → P bytes
 kept_same files entries name bytes P shelf there kept =
@@ -128,7 +115,6 @@ of_scan files entries name bytes front end failed shelf there fits opens law cal
     absurd (omega (arith, cause.0, same))
 of_scan files entries name bytes front end failed shelf there fits opens law calm Refusal.Disk cause = absurd (calm cause.0)
 of_scan files entries name bytes front end failed shelf there fits opens law calm (Refusal.Damaged kind place) cause = absurd (law bytes front end place kind opens (kept_same files entries name bytes (λ b. Damaged b place kind) shelf there cause))
-of_scan files entries name bytes front end failed shelf there fits opens law calm Refusal.NotYet cause = absurd cause
 of_scan files entries name bytes front end failed shelf there fits opens law calm Refusal.Usage cause = absurd cause
 of_scan files entries name bytes front end failed shelf there fits opens law calm (Refusal.BadLine n) cause = absurd cause
 of_scan files entries name bytes front end failed shelf there fits opens law calm Refusal.Input cause = absurd cause
@@ -139,7 +125,6 @@ of_scan files entries name bytes front end failed shelf there fits opens law cal
 of_print : (failed : Type 0) (text : List ℕ) (old new : Option (List ℕ)) → (failed → ⊥) → (e : Refusal) → PrintCause failed text old new e → e ≡ Refusal.Memory
 of_print failed text old new calm Refusal.Memory cause = refl
 of_print failed text old new calm Refusal.Output cause = absurd (calm cause.0)
-of_print failed text old new calm Refusal.NotYet cause = absurd cause
 of_print failed text old new calm Refusal.Usage cause = absurd cause
 of_print failed text old new calm (Refusal.Damaged kind place) cause = absurd cause
 of_print failed text old new calm (Refusal.BadLine n) cause = absurd cause
@@ -151,10 +136,10 @@ of_print failed text old new calm (Refusal.FileTooLarge n) cause = absurd cause
 of_print failed text old new calm (Refusal.TooLong n) cause = absurd cause
 
 -- the sink of the whole run has failed where that of the command has
-replay_memory : (name : List ℕ) (limit : ℕ) (files : Option (List Entry)) (input : Option (List ℕ)) (source sink more disk : Type 0) (old new : Option (List ℕ)) (e : Refusal) → OneSchedule → NotBoth → (sink → more) → ReplayCause name limit files input source sink disk old new e → NoReplayCause name limit files input source more disk → e ≡ Refusal.Memory
-replay_memory name limit files input source sink more disk old new e one both wider (inl c) meets = of_input input meets.text source meets.items meets.given meets.within meets.spells meets.arms_nothing both meets.source_calm e c.0
-replay_memory name limit files input source sink more disk old new e one both wider (inr (inl c)) meets = of_file files meets.entries name meets.bytes meets.front disk meets.shelf meets.there meets.fits meets.plain meets.disk_calm e c.2
-replay_memory name limit files input source sink more disk old new e one both wider (inr (inr c)) meets =
+replay_memory : (name : List ℕ) (limit : ℕ) (files : Option (List Entry)) (input : Option (List ℕ)) (source sink more disk : Type 0) (old new : Option (List ℕ)) (e : Refusal) → OneSchedule → NotBoth → NotDamaged → (sink → more) → ReplayCause name limit files input source sink disk old new e → NoReplayCause name limit files input source more disk → e ≡ Refusal.Memory
+replay_memory name limit files input source sink more disk old new e one both law wider (inl c) meets = of_input input meets.text source meets.items meets.given meets.within meets.spells meets.arms_nothing both meets.source_calm e c.0
+replay_memory name limit files input source sink more disk old new e one both law wider (inr (inl c)) meets = of_file files meets.entries name meets.bytes meets.front meets.end disk meets.shelf meets.there meets.fits meets.opens law meets.disk_calm e c.2
+replay_memory name limit files input source sink more disk old new e one both law wider (inr (inr c)) meets =
     let spelled : IsSchedule meets.text c.0 = subst (λ i. IfSome i (λ t. IsSchedule t c.0)) meets.given c.1.spells in
     let same : c.0 ≡ meets.items = one meets.text c.0 meets.items spelled meets.spells in
     let bytes = has_same files meets.entries name meets.bytes c.2 meets.shelf meets.there c.4.has in
@@ -176,7 +161,6 @@ dump_memory name files sink more disk old new Refusal.Disk law wider c meets = a
 dump_memory name files sink more disk old new (Refusal.Damaged kind place) law wider c meets =
     absurd (law meets.bytes meets.front meets.end place kind meets.opens (kept_same files meets.entries name meets.bytes (λ b. Damaged b place kind × (new ≡ old)) meets.shelf meets.there c).0)
 dump_memory name files sink more disk old new Refusal.Output law wider c meets = absurd (meets.sink_calm (wider c))
-dump_memory name files sink more disk old new Refusal.NotYet law wider c meets = absurd c
 dump_memory name files sink more disk old new Refusal.Usage law wider c meets = absurd c
 dump_memory name files sink more disk old new (Refusal.BadLine n) law wider c meets = absurd c
 dump_memory name files sink more disk old new Refusal.Input law wider c meets = absurd c
@@ -212,7 +196,7 @@ only_memory words files input source sink more disk old new e one both law wider
 only_memory words files input source sink more disk old new e one both law wider (inr (inr (inr c))) (inl meets) = absurd (not_dump words meets.0 c.0 meets.1 meets.2 c.1)
 only_memory words files input source sink more disk old new e one both law wider (inr (inl c)) (inl meets) =
     let same = same_words words c.0 meets.0 c.1 meets.1 c.2 meets.2 in
-    replay_memory meets.0 meets.1 files input source sink more disk old new e one both wider (subst (λ k. ReplayCause meets.0 k files input source sink disk old new e) same.1 (subst (λ (n : List ℕ). ReplayCause n c.1 files input source sink disk old new e) same.0 c.3)) meets.3
+    replay_memory meets.0 meets.1 files input source sink more disk old new e one both law wider (subst (λ k. ReplayCause meets.0 k files input source sink disk old new e) same.1 (subst (λ (n : List ℕ). ReplayCause n c.1 files input source sink disk old new e) same.0 c.3)) meets.3
 only_memory words files input source sink more disk old new e one both law wider (inr (inr (inl c))) (inr meets) = check_memory meets.0 files sink more disk old new e law wider (subst (λ (n : List ℕ). CheckCause n files sink disk old new e) (check_over words c.0 meets.0 c.1 meets.1) c.2) meets.2
 only_memory words files input source sink more disk old new e one both law wider (inr (inr (inr c))) (inr meets) = dump_memory meets.0 files sink more disk old new e law wider (subst (λ (n : List ℕ). DumpCause n files sink disk old new e) (dump_over words c.0 meets.0 c.1 meets.1) c.2) meets.2
 

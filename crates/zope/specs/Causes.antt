@@ -40,7 +40,6 @@ kind_number Damage.BadMagic = 9
 
 -- the last line, which names the cause
 abbrev pub last_line : List ℕ → Refusal → List ℕ
-last_line name Refusal.NotYet = codes "not yet" ++ 10 ∷ []
 last_line name Refusal.Usage = codes "usage" ++ 10 ∷ []
 last_line name (Refusal.Damaged kind place) = codes "damaged " ++ (decimal (kind_number kind) ++ (codes " at " ++ (decimal place ++ 10 ∷ [])))
 last_line name (Refusal.BadLine n) = codes "bad line " ++ decimal n ++ 10 ∷ []

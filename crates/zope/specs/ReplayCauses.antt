@@ -1,11 +1,10 @@
 -- Why a replay over a file did not end well, and what it wrote before its last line.
 --
--- The order of looking is: the input whole, its size, its grammar; the shelf; the file's size; its reading; the run.
-use Rattle.std.specs.Prelude.{◌≡◌, ◌⊎◌, ℕ, ◌≤◌, ◌<◌, List, ◌++◌, length, drop, IfSome, Option, Some}
+-- The order of looking is: the input whole, its size, its grammar; the shelf; the file's size; its opening; the run.
+use Rattle.std.specs.Prelude.{◌≡◌, ◌⊎◌, ℕ, ◌≤◌, ◌<◌, List, length, IfSome, Option, Some}
 use Rattle.zio.specs.Shelves.{Entry, file_at}
-use Rattle.fs_record.specs.declared.damage.Damage.TheVariants.{BadMagic}
-use Rattle.fs_record.specs.File.{Front, magic}
-use Rattle.fs_scan.specs.Plain.{IsPlainFile}
+use Rattle.fs_record.specs.File.{Front}
+use Rattle.fs_record.specs.Opening.{Cut, Damaged}
 use Rattle.schedule.specs.declared.item.Item2.{Item2}
 use Rattle.schedule.specs.BadLines.{IsBadAt}
 use Rattle.schedule.specs.Items.{ArmNothing, IsSchedule}
@@ -36,15 +35,13 @@ abbrev pub FileCause : Option (List Entry) → List ℕ → Type 0 → Refusal �
 FileCause files name failed Refusal.Missing = IsMissing files name
 FileCause files name failed (Refusal.FileTooLarge n) = (most_file < n) × IsLength files name n
 FileCause files name failed Refusal.Disk = failed × IsPresent files name
-FileCause files name failed (Refusal.Damaged kind place) = (bytes : List ℕ) × Stored files name bytes × (kind ≡ BadMagic) × (place ≡ 0) × ((more : List ℕ) → bytes ≡ magic ++ more → ⊥)
-FileCause files name failed Refusal.NotYet = (bytes : List ℕ) × Stored files name bytes × (bytes ≡ magic ++ drop 4 bytes) × ((front : Front) → IsPlainFile bytes front → ⊥)
+FileCause files name failed (Refusal.Damaged kind place) = (bytes : List ℕ) × Stored files name bytes × Damaged bytes place kind
 FileCause files name failed Refusal.Memory = Unit {0}
 FileCause files name failed _ = ⊥
 
--- what bytes that were read may be refused for
+-- what the opening of bytes that were read may be refused for
 abbrev pub IsOfReading : Refusal → Type 0
-IsOfReading (Refusal.Damaged kind place) = (kind ≡ BadMagic) × (place ≡ 0)
-IsOfReading Refusal.NotYet = Unit {0}
+IsOfReading (Refusal.Damaged kind place) = Unit {0}
 IsOfReading Refusal.Memory = Unit {0}
 IsOfReading _ = ⊥
 
@@ -88,8 +85,8 @@ of_run (RunRefusal.BadLine n) = Refusal.BadLine n
 of_run RunRefusal.Output = Refusal.Output
 of_run RunRefusal.Memory = Refusal.Memory
 
--- Nothing that a replay looks at is a cause: the file is there, is plain and isn't too long; the input spells a
--- schedule that isn't too long, each line of which can be run; and no count rose.
+-- Nothing that a replay looks at is a cause: the file is there, opens and isn't too long; the input spells a schedule
+-- that isn't too long, each line of which can be run; and no count rose.
 pub record NoReplayCause (name : List ℕ) (limit : ℕ) (files : Option (List Entry)) (input : Option (List ℕ)) (source sink disk : Type 0) : Type 0 where
   pub entries : List Entry
   pub shelf : files ≡ Some entries
@@ -97,7 +94,8 @@ pub record NoReplayCause (name : List ℕ) (limit : ℕ) (files : Option (List E
   pub there : file_at entries name ≡ Some bytes
   pub fits : length bytes ≤ most_file
   pub front : Front
-  pub plain : IsPlainFile bytes front
+  pub end : ℕ
+  pub opens : Cut bytes front end
   pub text : List ℕ
   pub given : input ≡ Some text
   pub within : length text ≤ most_input

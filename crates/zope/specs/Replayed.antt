@@ -11,7 +11,7 @@ use Rattle.zope.specs.Given.{Scheduled, Stored}
 use Rattle.zope.specs.Stores.{Opens}
 
 pub record Replayed (name : List ℕ) (limit : ℕ) (files : Option (List Entry)) (input old new : Option (List ℕ)) : Type 0 where
-  -- where the shelf tells, that file has these bytes, not too many, which are a file of this history
+  -- where the shelf tells, that file has these bytes, not too many, which open to this history
   pub bytes : List ℕ
   pub file : Stored files name bytes
   pub opened : StoreView

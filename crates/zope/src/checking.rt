@@ -14,13 +14,11 @@ ghost use Rattle.zope.specs.Numbers.{NumbersPrinted, check_lines};
 use crate::last_lines::put_text;
 use crate::refusal::Refusal;
 use fs_scan::{Checked, check};
+use fs_store::MAX_LENGTH;
 use std::alloc::Global;
 use zbase::{Memory, Text};
 use zdisk::Disk;
 use zio::{OutsideRefusal, Shelf, ShelfRefusal, Sink};
-
-/// The most bytes that a file may have.
-pub const MAX_LENGTH: u64 = 281_474_976_710_655;
 
 // The numbers of the file on a disk. Its length is looked at first.
 fn check_disk<D: Disk>(alloc: Global, disk: &mut D) -> Result<Checked, Refusal>

@@ -7,8 +7,8 @@ ghost use Rattle.fs_store.specs.Stores.{most_length};
 ghost use Rattle.replay.specs.Dumped.{Dumps};
 ghost use Rattle.zope.specs.DumpCauses.{DumpCause, Dumped, IsOfDump};
 
-use crate::checking::MAX_LENGTH;
 use crate::refusal::Refusal;
+use fs_store::MAX_LENGTH;
 use replay::dump;
 use std::alloc::Global;
 use zdisk::Disk;

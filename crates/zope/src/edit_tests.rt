@@ -7,25 +7,25 @@ use std::test::Fail;
 use zbase::Memory;
 
 /// An edit of the document `a`, whose source becomes `hi`.
-const EDIT_A: &str = "58\nPOST /a/manage_edit HTTP/1.0\r\nContent-Length: 7\r\n\r\ndata=hi\n";
+pub const EDIT_A: &str = "58\nPOST /a/manage_edit HTTP/1.0\r\nContent-Length: 7\r\n\r\ndata=hi\n";
 
 /// The history before an edit, and the records of its one transaction.
 const FIRST: &str =
     "transaction 0331620000000000 - - - 2\nrecord 0000000000000000 5a314600000000000000000000000000000000000000010001610000000000000001\nrecord 0000000000000001 5a3144000161000000000000000000000000000000000000000568656c6c6f\n";
 
 /// The transaction of an edit behind its id.
-const EDITED: &str =
+pub const EDITED: &str =
     "- 2f612f6d616e6167655f65646974 - 1\nrecord 0000000000000001 5a314400016100000000000000000000000000000000000000026869\n";
 
 /// The reply to an edit that was committed as this transaction, with its line.
-fn committed(alloc: Global, worker: u32, tid: &str) -> Result<String, Memory> {
+pub fn committed(alloc: Global, worker: u32, tid: &str) -> Result<String, Memory> {
     Ok(format!(in alloc;
         "reply {worker} commit {tid} 143\nHTTP/1.1 200 OK\r\nContent-Type: text/plain; charset=utf-8\r\nContent-Length: 5\r\nX-Transaction: commit {tid}\r\nConnection: close\r\n\r\ndone\n\n"
     )?)
 }
 
 /// What the steps of an edit print up to its vote, from this snapshot on.
-fn computed(alloc: Global, worker: u32, snapshot: &str) -> Result<String, Memory> {
+pub fn computed(alloc: Global, worker: u32, snapshot: &str) -> Result<String, Memory> {
     Ok(format!(in alloc;
         "begin {worker} {snapshot}\nfetch {worker} object 0000000000000000\nfetch {worker} object 0000000000000001\ncomputed {worker}\n"
     )?)
@@ -47,7 +47,7 @@ fn reports(alloc: Global, words: &[&str], lines: &str, report: &str) -> Result<b
 }
 
 /// Six steps of a worker.
-fn six_steps(alloc: Global, worker: u32) -> Result<String, Memory> {
+pub fn six_steps(alloc: Global, worker: u32) -> Result<String, Memory> {
     let step = format!(in alloc; "step {worker}\n")?;
     Ok(format!(in alloc; "{step}{step}{step}{step}{step}{step}")?)
 }

@@ -37,7 +37,6 @@ fn put_last_line<K: Sink>(
     ensures counts { Counts (K.counter out.old) (K.counter out.new) (IsErrOf result OutsideRefusal.Failed) }
 {
     match refusal {
-        Refusal::NotYet => out.write_all(b"not yet\n"),
         Refusal::Usage => out.write_all(b"usage\n"),
         Refusal::Damaged(kind, place) => {
             let number = kind_number(kind);

@@ -15,6 +15,8 @@ mod edit_tests;
 mod inputs;
 mod last_lines;
 #[cfg(test)]
+mod opening_tests;
+#[cfg(test)]
 mod page_tests;
 mod refusal;
 mod replaying;

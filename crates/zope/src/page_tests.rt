@@ -402,44 +402,6 @@ fn the_last_revision_is_the_page(rt: HostRuntime) -> Result<(), Fail> {
 }
 
 #[test]
-fn files_of_other_forms_are_not_yet_read(rt: HostRuntime) -> Result<(), Fail> {
-    let alloc = rt.alloc();
-    for (place, byte) in [
-        // packed, undone, not finished, none of them
-        (20, b'p'),
-        (20, b'u'),
-        (20, b'c'),
-        (20, b'x'),
-        // a wrong previous place and a wrong second length
-        (126, 1),
-        (183, 0),
-    ] {
-        let file = from_hex(alloc, HELLO)?;
-        let mut bytes = file.into_vec();
-        if let Some(at) = bytes.get_mut(place) {
-            *at = byte;
-        }
-        let file = Bytes::from_vec(bytes);
-        assert!(rt;
-            prints(alloc, &file, "end\n", 1, "not yet\n")?,
-            "{place} {byte}"
-        );
-    }
-    let mut torn = from_hex(alloc, HELLO)?;
-    torn.append(&[0; 22])?;
-    assert!(rt; prints(alloc, &torn, "end\n", 1, "not yet\n")?);
-    // a back pointer to the document's record, which stands at 103
-    let mut back = from_hex(alloc, HELLO)?;
-    back.append(from_hex(
-        alloc,
-        "0331620000000001 0000000000000049 20 0000 0000 0000 0000000000000001 0331620000000001 0000000000000067 00000000000000b8 0000 0000000000000000 0000000000000067 0000000000000049",
-    )?
-    .as_slice())?;
-    assert!(rt; prints(alloc, &back, "end\n", 1, "not yet\n")?);
-    Ok(())
-}
-
-#[test]
 fn a_file_with_another_first_byte_is_damaged(rt: HostRuntime) -> Result<(), Fail> {
     let alloc = rt.alloc();
     let mut bytes = from_hex(alloc, HELLO)?.into_vec();

@@ -14,8 +14,6 @@ use std::alloc::{AllocError, AllocFailed};
 /// Why a command did not end well.
 #[derive(Clone, Copy, Debug, PartialEq, Eq)]
 pub enum Refusal {
-    /// The file has a form that isn't read yet.
-    NotYet,
     /// The words are none of the program's.
     Usage,
     /// The file has this damage, in the transaction at that place.

@@ -1,23 +1,20 @@
-ghost use Rattle.std.specs.Prelude.{◌≡◌, ◌++◌, ◌⊎◌, ◌≤◌, ℕ, List, None, IfErr, IfOk, OnOk, IsErrOf, drop};
+ghost use Rattle.std.specs.Prelude.{◌≡◌, ◌⊎◌, ◌≤◌, ℕ, List, None, IfErr, IfOk, OnOk, IsErrOf, length};
 ghost use Rattle.zbase.specs.Faults.{Counts, Rose};
 ghost use Rattle.zbase.specs.History.{History};
-ghost use Rattle.fs_record.specs.declared.damage.Damage.{Damage};
-ghost use Rattle.fs_record.specs.File.{Front, magic};
-ghost use Rattle.fs_scan.specs.Plain.{IsPlainFile};
+ghost use Rattle.fs_record.specs.declared.damage.Damage.{Damage as Kind};
+ghost use Rattle.fs_record.specs.Opening.{Damaged};
 ghost use Rattle.fs_store.specs.Stores.{most_length};
 ghost use Rattle.publisher.specs.Messages.{message_of};
 ghost use Rattle.publisher.specs.Site.{site};
 ghost use Rattle.replay.specs.Printed.{PrintsReport, terms_of};
 ghost use Rattle.zope.specs.ReplayCauses.{Broke, FileCause, InputCause, IsOfReading, ReplayCause, RunCause};
-ghost use Rattle.zope.specs.Given.{Scheduled, Stored};
+ghost use Rattle.zope.specs.Given.{Scheduled, Stored, most_file};
 ghost use Rattle.zope.specs.Replayed.{Replayed};
 ghost use Rattle.zope.specs.Stores.{Opens};
 
 use crate::inputs::{read_file, read_input};
 use crate::refusal::Refusal;
-use fs_record::Damage;
-use fs_scan::{PlainRefusal, read_plain_file};
-use fs_store::Store;
+use fs_store::{OpenRefusal, Store};
 use publisher::Site;
 use replay::replay;
 use schedule::{Item2, Schedule, read_schedule};
@@ -36,31 +33,26 @@ fn schedule_of<S: Source>(alloc: Global, input: &mut S) -> Result<Schedule, Refu
     Ok(read_schedule(alloc, text.as_slice())?)
 }
 
-// The store of a file's history, on a disk in memory. Only a file of whole committed transactions that hold their
-// data is read so far.
+// The store of the history to which the bytes open, on a disk in memory.
 fn open_file(alloc: Global, bytes: Bytes, limit: u64) -> Result<Store<MemoryDisk>, Refusal>
     requires limit { limit ≤ most_length }
+    requires size { length bytes ≤ most_file }
     ensures opens { IfOk result (λ store. Opens bytes limit store) }
-    ensures damaged { (kind : Damage) (place : ℕ) → IsErrOf result (Refusal.Damaged kind place) → (more : List ℕ) → bytes ≡ magic ++ more → ⊥ }
-    ensures not_yet { IsErrOf result Refusal.NotYet → (bytes ≡ magic ++ drop 4 bytes) × ((front : Front) → IsPlainFile bytes front → ⊥) }
+    ensures damaged { (kind : Kind) (place : ℕ) → IsErrOf result (Refusal.Damaged kind place) → Damaged bytes place kind }
     ensures others { IfErr result IsOfReading }
 {
-    match read_plain_file(alloc, bytes.as_slice()) {
-        Ok(wholes) => {
-            let end = bytes.len() as u64;
-            let disk = MemoryDisk::new(alloc, bytes);
-            match Store::new(alloc, disk, wholes, end, limit) {
-                Ok(store) => Ok(store),
-                Err(_) => Err(Refusal::Memory),
-            }
-        }
-        Err(PlainRefusal::BadMagic) => Err(Refusal::Damaged(Damage::BadMagic, 0)),
-        Err(PlainRefusal::NotPlain) => Err(Refusal::NotYet),
-        Err(PlainRefusal::Memory) => Err(Refusal::Memory),
+    match Store::open(alloc, MemoryDisk::new(alloc, bytes), limit) {
+        Ok(store) => Ok(store),
+        Err((OpenRefusal::Damaged(kind, place), _)) => Err(Refusal::Damaged(kind, place)),
+        Err((OpenRefusal::Memory, _)) => Err(Refusal::Memory),
+        // a disk in memory doesn't fail
+        Err((OpenRefusal::Disk, _)) => unreachable!(),
+        // a file of so many bytes wasn't read
+        Err((OpenRefusal::TooLong(_), _)) => unreachable!(),
     }
 }
 
-// The store of the history that the file of that name says.
+// The store of the history to which the file of that name opens.
 fn store_of<F: Shelf>(
     alloc: Global,
     files: &mut F,

@@ -235,7 +235,7 @@ fn other_files_are_refused(rt: HostRuntime) -> Result<(), Fail> {
         ("empty.fs", "", 3, "damaged 9 at 0\n"),
         ("empty.fs", "FS2", 3, "damaged 9 at 0\n"),
         ("empty.fs", "FS30", 3, "damaged 9 at 0\n"),
-        ("empty.fs", "FS21 ", 1, "not yet\n"),
+        ("empty.fs", "FS21 ", 0, REPORT),
     ] {
         let start = Start {
             words: &["replay", word],

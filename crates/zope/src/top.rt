@@ -19,7 +19,6 @@ pub struct Status(pub u8);
 // The status of a refusal.
 fn status_of(refusal: Refusal) -> Status
     ensures ended { result.0 ≡ 0 → ⊥ }
-    ensures not_yet { result.0 ≡ 1 → refusal ≡ Refusal.NotYet }
     ensures usage { result.0 ≡ 2 → refusal ≡ Refusal.Usage }
     ensures used { refusal ≡ Refusal.Usage → result.0 ≡ 2 }
     ensures damaged { result.0 ≡ 3 → (kind : Damage) × (place : ℕ) × (refusal ≡ Refusal.Damaged kind place) }
@@ -31,10 +30,9 @@ fn status_of(refusal: Refusal) -> Status
     ensures too_large { result.0 ≡ 9 → (refusal ≡ Refusal.InputTooLarge) ⊎ ((n : ℕ) × (refusal ≡ Refusal.FileTooLarge n)) }
     ensures too_long { result.0 ≡ 12 → (n : ℕ) × (refusal ≡ Refusal.TooLong n) }
     ensures memory { refusal ≡ Refusal.Memory → result.0 ≡ 7 }
-    ensures known { (result.0 ≤ 9) ⊎ (result.0 ≡ 12) }
+    ensures known { (result.0 ≡ 0) ⊎ ((2 ≤ result.0) × (result.0 ≤ 9)) ⊎ (result.0 ≡ 12) }
 {
     match refusal {
-        Refusal::NotYet => Status(1),
         Refusal::Usage => Status(2),
         Refusal::Damaged(_, _) => Status(3),
         Refusal::BadLine(_) => Status(4),
@@ -52,7 +50,6 @@ fn status_of(refusal: Refusal) -> Status
 // The status of a refusal that was named: where the sink fails in this, that is the status.
 fn refuse<K: Sink>(alloc: Global, refusal: Refusal, words: &[String], out: &mut K) -> Status
     ensures ended { result.0 ≡ 0 → ⊥ }
-    ensures not_yet { result.0 ≡ 1 → (refusal ≡ Refusal.NotYet) × Names (map string_bytes words.now) refusal (K.written out.old) (K.written out.new) }
     ensures usage { result.0 ≡ 2 → (refusal ≡ Refusal.Usage) × Names (map string_bytes words.now) refusal (K.written out.old) (K.written out.new) }
     ensures used { refusal ≡ Refusal.Usage → (result.0 ≡ 2) ⊎ (result.0 ≡ 6) ⊎ (result.0 ≡ 7) }
     ensures damaged { result.0 ≡ 3 → ((kind : Damage) × (place : ℕ) × (refusal ≡ Refusal.Damaged kind place)) × Names (map string_bytes words.now) refusal (K.written out.old) (K.written out.new) }
@@ -63,7 +60,7 @@ fn refuse<K: Sink>(alloc: Global, refusal: Refusal, words: &[String], out: &mut 
     ensures too_large { result.0 ≡ 9 → ((refusal ≡ Refusal.InputTooLarge) ⊎ ((n : ℕ) × (refusal ≡ Refusal.FileTooLarge n))) × Names (map string_bytes words.now) refusal (K.written out.old) (K.written out.new) }
     ensures too_long { result.0 ≡ 12 → ((n : ℕ) × (refusal ≡ Refusal.TooLong n)) × Names (map string_bytes words.now) refusal (K.written out.old) (K.written out.new) }
     ensures memory { refusal ≡ Refusal.Memory → (result.0 ≡ 7) ⊎ Rose (K.counter out.old) (K.counter out.new) }
-    ensures known { (result.0 ≤ 9) ⊎ (result.0 ≡ 12) }
+    ensures known { (result.0 ≡ 0) ⊎ ((2 ≤ result.0) × (result.0 ≤ 9)) ⊎ (result.0 ≡ 12) }
     ensures output { refusal ≡ Refusal.Output → result.0 ≡ 6 }
     ensures sink_failed { (K.counter out.old).count < (K.counter out.new).count → result.0 ≡ 6 }
     ensures count { (K.counter out.old).count ≤ (K.counter out.new).count }
@@ -95,12 +92,10 @@ pub fn run<F: Shelf, S: Source, K: Sink, H: Hub, C: Clock>(
     // The words are `replay FILE`, maybe with a limit, and the report that was written explains the schedule; or they
     // are `check FILE`, and the file's numbers were written; or they are `dump FILE`, and its history was.
     ensures did { result.0 ≡ 0 → Did (map string_bytes words.now) (F.files files.old) (S.left input.old) (K.written out.old) (K.written out.new) }
-    // The file begins as one, and isn't of whole committed transactions that hold their data.
-    ensures not_yet { result.0 ≡ 1 → Comes (map string_bytes words.now) (F.files files.old) (S.left input.old) (Rose (S.counter input.old) (S.counter input.new)) (Rose (K.counter out.old) (K.counter out.new)) (Rose (F.counter files.old) (F.counter files.new) ⊎ (F.sound_disks files.old → ⊥)) (K.written out.old) (K.written out.new) Refusal.NotYet }
     // The words are none of the program's; and there always, but for a fault of the sink and want of memory.
     ensures usage { result.0 ≡ 2 → Comes (map string_bytes words.now) (F.files files.old) (S.left input.old) (Rose (S.counter input.old) (S.counter input.new)) (Rose (K.counter out.old) (K.counter out.new)) (Rose (F.counter files.old) (F.counter files.new) ⊎ (F.sound_disks files.old → ⊥)) (K.written out.old) (K.written out.new) Refusal.Usage }
     ensures used { (IsCommand (map string_bytes words.now) → ⊥) → (result.0 ≡ 2) ⊎ (result.0 ≡ 6) ⊎ (result.0 ≡ 7) }
-    // The file has this damage there; of a replay that is no more than that it doesn't begin with the magic.
+    // The file has this damage there.
     ensures damaged { result.0 ≡ 3 → (kind : Damage) × (place : ℕ) × Comes (map string_bytes words.now) (F.files files.old) (S.left input.old) (Rose (S.counter input.old) (S.counter input.new)) (Rose (K.counter out.old) (K.counter out.new)) (Rose (F.counter files.old) (F.counter files.new) ⊎ (F.sound_disks files.old → ⊥)) (K.written out.old) (K.written out.new) (Refusal.Damaged kind place) }
     ensures bad_line { result.0 ≡ 4 → (n : ℕ) × Comes (map string_bytes words.now) (F.files files.old) (S.left input.old) (Rose (S.counter input.old) (S.counter input.new)) (Rose (K.counter out.old) (K.counter out.new)) (Rose (F.counter files.old) (F.counter files.new) ⊎ (F.sound_disks files.old → ⊥)) (K.written out.old) (K.written out.new) (Refusal.BadLine n) }
     // The shelf's count rose, or that of the disk which it handed out.
@@ -115,7 +110,7 @@ pub fn run<F: Shelf, S: Source, K: Sink, H: Hub, C: Clock>(
     ensures too_large { result.0 ≡ 9 → Comes (map string_bytes words.now) (F.files files.old) (S.left input.old) (Rose (S.counter input.old) (S.counter input.new)) (Rose (K.counter out.old) (K.counter out.new)) (Rose (F.counter files.old) (F.counter files.new) ⊎ (F.sound_disks files.old → ⊥)) (K.written out.old) (K.written out.new) Refusal.InputTooLarge ⊎ ((n : ℕ) × Comes (map string_bytes words.now) (F.files files.old) (S.left input.old) (Rose (S.counter input.old) (S.counter input.new)) (Rose (K.counter out.old) (K.counter out.new)) (Rose (F.counter files.old) (F.counter files.new) ⊎ (F.sound_disks files.old → ⊥)) (K.written out.old) (K.written out.new) (Refusal.FileTooLarge n)) }
     // The file of a check or a dump is longer than any file may be.
     ensures too_long { result.0 ≡ 12 → (n : ℕ) × Comes (map string_bytes words.now) (F.files files.old) (S.left input.old) (Rose (S.counter input.old) (S.counter input.new)) (Rose (K.counter out.old) (K.counter out.new)) (Rose (F.counter files.old) (F.counter files.new) ⊎ (F.sound_disks files.old → ⊥)) (K.written out.old) (K.written out.new) (Refusal.TooLong n) }
-    ensures known { (result.0 ≤ 9) ⊎ (result.0 ≡ 12) }
+    ensures known { (result.0 ≡ 0) ⊎ ((2 ≤ result.0) × (result.0 ≤ 9)) ⊎ (result.0 ≡ 12) }
     // Where there is no cause, the run ends well, or for want of memory.
     ensures complete { NoCause (map string_bytes words.now) (F.files files.old) (S.left input.old) (Rose (S.counter input.old) (S.counter input.new)) (Rose (K.counter out.old) (K.counter out.new)) (Rose (F.counter files.old) (F.counter files.new) ⊎ (F.sound_disks files.old → ⊥)) → (result.0 ≡ 0) ⊎ (result.0 ≡ 7) }
 {

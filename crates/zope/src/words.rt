@@ -1,10 +1,9 @@
 ghost use Rattle.std.specs.Prelude.{◌≡◌, ◌≤◌, ◌∷◌, [], ℕ, List, map, MatchOption, None, string_bytes};
 ghost use Rattle.zope.specs.Words.{GivesLimit, IsCheckOf, IsCommand, IsDumpOf, IsLimit, IsOf, IsReplayOf, IsReplayWith};
 
-/// The most bytes that `--limit` may give a file, and those that it may have without it.
-const MAX_LIMIT: u64 = 281_474_976_710_655;
+use fs_store::MAX_LENGTH;
 
-// The limit that a word spells: a number of 1 to 20 digits.
+// The limit that a word spells: a number of 1 to 20 digits, of no more bytes than a file may have.
 fn limit_of(text: &str) -> Option<u64>
     ensures { MatchOption result ((limit : ℕ) → IsLimit text.now limit → ⊥) (λ limit. IsLimit text.now limit) }
 {
@@ -12,7 +11,7 @@ fn limit_of(text: &str) -> Option<u64>
         return None;
     }
     let limit: u64 = text.parse().ok()?;
-    if limit > MAX_LIMIT {
+    if limit > MAX_LENGTH {
         return None;
     }
     Some(limit)
@@ -23,7 +22,7 @@ fn limit_words(rest: &[String]) -> Option<u64>
     ensures { MatchOption result ((limit : ℕ) → GivesLimit (map string_bytes rest.now) limit → ⊥) (λ limit. GivesLimit (map string_bytes rest.now) limit) }
 {
     let Some((option, rest)) = rest.split_first() else {
-        return Some(MAX_LIMIT);
+        return Some(MAX_LENGTH);
     };
     let Some((limit, rest)) = rest.split_first() else {
         return None;

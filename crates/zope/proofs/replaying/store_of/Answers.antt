@@ -11,4 +11,4 @@ pub returns-clause-cause : goal.returns-clause-cause
 returns-clause-cause g c =
     unopened (g.F.Shelf.files c.args.files.now) c.args.name.now c.from_vec.result _ c.open_file.result
     (rw c.from_vec.ensures (record { has = c.in_ok-bytes.ensures.found; within = c.in_ok-bytes.ensures.within }))
-    c.open_file.ensures.damaged c.open_file.ensures.not_yet c.open_file.ensures.others
+    c.open_file.ensures.damaged c.open_file.ensures.others
