@@ -1,8 +1,8 @@
 #!/usr/bin/env python3
 """Runs `zope check` over files of 10,000 and of 1,000,000 records beside `sha1sum` of them.
 
-Each object has one record; the ids rise, or come in random order. The cost of a record is told with the time that
-starting the program takes, and without it.
+Each object has one record; the ids rise, or come in random order. The cost of a record is the command's time by the
+number of records; it is also told without the time that starting the program takes.
 """
 
 import argparse
@@ -12,7 +12,7 @@ import struct
 import subprocess
 import tempfile
 
-from replay import HOME, PROGRAM, least, timed
+from replay import HOME, PROGRAM, timed
 
 # the program itself, without the script that builds it where that is due
 BUILT = HOME / "crates" / "zope" / "out" / "zope"
@@ -45,36 +45,54 @@ def checked(path, records, end):
     return run
 
 
+def fewest(kept, key, run):
+    """Keeps the least seconds and the least memory of this key."""
+    had = kept.get(key, run)
+    kept[key] = min(had[0], run[0]), min(had[1], run[1])
+
+
+def compare(made, order, given):
+    """The least seconds and memory of checks of the file with few records and of that with many, in turn, and of
+    their digests and an empty file."""
+    files = {}
+    for records in (0, given.few, given.records):
+        oids = list(range(records))
+        if order == "random":
+            random.Random(1).shuffle(oids)
+        path = made / f"{order}-{records}.fs"
+        files[records] = path, write_file(path, oids, given.size)
+    kept = {}
+    for _ in range(given.rounds):
+        for records, (path, end) in files.items():
+            # a short run is measured more often, since more may come between
+            for _ in range(1 if records == given.records else 20):
+                fewest(kept, records, checked(path, records, end))
+            fewest(kept, ("sha1sum", records), timed(["sha1sum", path], out=subprocess.DEVNULL))
+    return files, kept
+
+
 def main():
     words = argparse.ArgumentParser(description=__doc__)
     words.add_argument("--records", type=int, default=1_000_000)
     words.add_argument("--few", type=int, default=10_000)
     words.add_argument("--size", type=int, default=158)
-    words.add_argument("--rounds", type=int, default=5)
+    words.add_argument("--rounds", type=int, default=15)
     given = words.parse_args()
     # builds the program where that is due
     subprocess.run([PROGRAM, "check", HOME / "demo" / "site.fs"], stdout=subprocess.DEVNULL, check=True)
-    with tempfile.TemporaryDirectory() as made:
-        made = pathlib.Path(made)
-        empty = write_file(made / "empty.fs", [], given.size)
-        started, _ = least(lambda: checked(made / "empty.fs", 0, empty), 50)
+    for order in ("rising", "random"):
+        with tempfile.TemporaryDirectory() as made:
+            files, kept = compare(pathlib.Path(made), order, given)
+        started = kept[0][0]
         print(f"starting the program: {started * 1000:.2f} ms")
-        for order in ("rising", "random"):
-            a_record = {}
-            for records, rounds in ((given.few, 20 * given.rounds), (given.records, given.rounds)):
-                oids = list(range(records))
-                if order == "random":
-                    random.Random(1).shuffle(oids)
-                path = made / f"{order}-{records}.fs"
-                end = write_file(path, oids, given.size)
-                seconds, memory = least(lambda: checked(path, records, end), rounds)
-                digest = min(timed(["sha1sum", path], out=subprocess.DEVNULL)[0] for _ in range(given.rounds))
-                a_record[records] = (seconds - started) / records, seconds / records
-                print(f"{order} ids, {records} records, {end} bytes: {seconds:.4f} s, sha1sum {digest:.4f} s, ratio {seconds / digest:.2f}")
-            # a child's greatest memory counts what it had of this process, which for the small file is more
-            print(f"{order} ids: memory {memory / end:.2f} times the file")
-            (few, few_run), (many, many_run) = a_record[given.few], a_record[given.records]
-            print(f"{order} ids: a record of {given.records} costs {many / few:.2f} times one of {given.few}; with the start of the program {many_run / few_run:.2f} times")
+        for records in (given.few, given.records):
+            seconds, digest, end = kept[records][0], kept["sha1sum", records][0], files[records][1]
+            print(f"{order} ids, {records} records, {end} bytes: {seconds:.4f} s, sha1sum {digest:.4f} s, ratio {seconds / digest:.2f}")
+        # a child's greatest memory counts what it had of this process, which for the small file is more
+        print(f"{order} ids: memory {kept[given.records][1] / files[given.records][1]:.2f} times the file")
+        few, many = kept[given.few][0], kept[given.records][0]
+        times = given.few / given.records
+        print(f"{order} ids: a record of {given.records} costs {many / few * times:.2f} times one of {given.few}; without the start of the program {(many - started) / (few - started) * times:.2f} times")
 
 
 if __name__ == "__main__":
