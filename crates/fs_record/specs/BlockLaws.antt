@@ -19,7 +19,7 @@ abbrev pub BlockSays : List ℕ → Option (Block × List ℕ) → Type 0
 BlockSays bytes None = NoBlock bytes
 BlockSays bytes (Some found) = Stands found.0 bytes found.1
 
-regroup : (h t i l x : List ℕ) → (((h ++ t) ++ i) ++ l) ++ x ≡ h ++ (t ++ (i ++ (l ++ x)))
+pub regroup : (h t i l x : List ℕ) → (((h ++ t) ++ i) ++ l) ++ x ≡ h ++ (t ++ (i ++ (l ++ x)))
 regroup h t i l x = simp append_assoc
 
 block_head : (bytes : List ℕ) (b : Block) (more : List ℕ) → IsBytes bytes → FitsBlock b → bytes ≡ block_spelling b ++ more → txn_head_read bytes ≡ txn_head_of b
@@ -29,7 +29,7 @@ block_head bytes b more bs fits e =
     (same_txn_head (txn_head_read bytes) (txn_head_of b) (drop 23 bytes) (texts_spelling b.texts ++ (inside_spelling b.inside ++ (be64 b.tail ++ more))) (txn_head_fits bytes bs) fits.head
     (sym (txn_head_stands bytes bs long) ∙ e ∙ regroup (txn_head (txn_head_of b)) (texts_spelling b.texts) (inside_spelling b.inside) (be64 b.tail) more)).0
 
-both : (a b : Bool) → a ≡ true → b ≡ true → (a && b) ≡ true
+pub both : (a b : Bool) → a ≡ true → b ≡ true → (a && b) ≡ true
 both a b p q = rw (p, q) refl
 
 first_of_both : (a b : Bool) → (a && b) ≡ true → a ≡ true
@@ -49,12 +49,12 @@ no_room bytes bs none b more fits e =
     false≢true (sym none ∙ ap (λ (g : TxnHead). has_room g (length bytes)) h ∙ room)
 
 -- the bytes begin with a transaction with this head, whatever its inside is taken for
-record IsWhole (bytes : List ℕ) (h : TxnHead) : Type 0 where
-  head : FitsTxnHead h
-  size : long_of (block_with h bytes (Skipped (area_read h bytes))) ≡ h.length
-  same : h ≡ txn_head_of (block_with h bytes (Skipped (area_read h bytes)))
-  tail : u64_read h.length bytes < 2 ^ 64
-  spelled : bytes ≡ block_spelling (block_with h bytes (Skipped (area_read h bytes))) ++ drop (h.length + 8) bytes
+pub record IsWhole (bytes : List ℕ) (h : TxnHead) : Type 0 where
+  pub head : FitsTxnHead h
+  pub size : long_of (block_with h bytes (Skipped (area_read h bytes))) ≡ h.length
+  pub same : h ≡ txn_head_of (block_with h bytes (Skipped (area_read h bytes)))
+  pub tail : u64_read h.length bytes < 2 ^ 64
+  pub spelled : bytes ≡ block_spelling (block_with h bytes (Skipped (area_read h bytes))) ++ drop (h.length + 8) bytes
 
 -- a list is its parts
 cut4 : (u d e i : ℕ) (s : List ℕ) → s ≡ ((take u s ++ take d (drop u s)) ++ take e (drop (u + d) s)) ++ (take i (drop (u + d + e) s) ++ drop (u + d + e + i) s)
@@ -74,7 +74,7 @@ the_from u d x = omega arith
 the_end : (u d x long : ℕ) → 23 + u + d + x ≤ long → 23 + (u + d + x + (long - (23 + u + d + x))) ≡ long
 the_end u d x long le = omega arith
 
-whole_is : (bytes : List ℕ) (h : TxnHead) → bytes ≡ txn_head h ++ drop 23 bytes → FitsTxnHead h → 23 + h.user + h.description + h.extension ≤ h.length → h.length + 8 ≤ length bytes
+pub whole_is : (bytes : List ℕ) (h : TxnHead) → bytes ≡ txn_head h ++ drop 23 bytes → FitsTxnHead h → 23 + h.user + h.description + h.extension ≤ h.length → h.length + 8 ≤ length bytes
     → drop h.length bytes ≡ be64 (u64_read h.length bytes) ++ drop (h.length + 8) bytes → u64_read h.length bytes < 2 ^ 64 → IsWhole bytes h
 unfolding block_spelling
 whole_is bytes h e fits within room t lt =
@@ -107,7 +107,7 @@ with_inside : (tid status : ℕ) (texts : TxnTexts) (i j : Inside) (tail : ℕ) 
 unfolding block_spelling
 with_inside tid status texts i j tail e = rw e refl
 
-inside_stands : (bytes : List ℕ) (h : TxnHead) (i : Inside) → IsWhole bytes h → inside_spelling i ≡ area_read h bytes → FitsInside h.status i → Stands (block_with h bytes i) bytes (drop (h.length + 8) bytes)
+pub inside_stands : (bytes : List ℕ) (h : TxnHead) (i : Inside) → IsWhole bytes h → inside_spelling i ≡ area_read h bytes → FitsInside h.status i → Stands (block_with h bytes i) bytes (drop (h.length + 8) bytes)
 inside_stands bytes h i whole e fits =
     let same : h ≡ txn_head_of (block_with h bytes i) = whole.same ∙ ap (λ (s : List ℕ). record { tid = h.tid; length = 23 + length (texts_spelling (texts_read h (drop 23 bytes))) + length s; status = h.status; user = length (take h.user (drop 23 bytes)); description = length (take h.description (drop h.user (drop 23 bytes))); extension = length (take h.extension (drop (h.user + h.description) (drop 23 bytes))) }) (sym e) in
     record {

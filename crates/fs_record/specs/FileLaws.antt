@@ -29,7 +29,7 @@ first_test : (t u : Bool) (d : Damage) (o : Option Damage) → cond (t && u) o (
 first_test true u d o e = refl
 first_test false u d o e = absurd cc
 
-rises : (place t : ℕ) (rs : List Row) (b : Block) (ds : List _) → fault_in place t rs b (Records ds) ≡ None → t < b.tid
+pub rises : (place t : ℕ) (rs : List Row) (b : Block) (ds : List _) → fault_in place t rs b (Records ds) ≡ None → t < b.tid
 unfolding fault_in
 rises place t rs b ds e = ltb-true t b.tid (first_test (ltb t b.tid) (list_all (is_own b.tid place) ds) BadTid _ e)
 

@@ -16,3 +16,6 @@ pub mod BlockLaws
 pub mod ReadingLaws
 pub mod Standing
 pub mod StandingLaws
+pub mod Walks
+pub mod WalkLaws
+pub mod FileReading

@@ -32,7 +32,7 @@ size_is : (n : ℕ) → 0 < n → body_size n ≡ n
 size_is zero lt = absurd (omega arith)
 size_is (suc n) lt = refl
 
-body_takes : (body : Body) → FitsBody body → body_size (body_length body) ≡ length (body_spelling body)
+pub body_takes : (body : Body) → FitsBody body → body_size (body_length body) ≡ length (body_spelling body)
 body_takes (Full bytes) fits = size_is (length bytes) fits
 body_takes (Back place) fits = sym (length-be64 place)
 

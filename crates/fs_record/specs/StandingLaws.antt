@@ -22,7 +22,7 @@ use Rattle.fs_record.specs.Standing.{IsBefore, StandsAt, IsPlace, IsRevision, La
 
 -- ---- tests
 
-both_true : (a b : Bool) → (a && b) ≡ true → (a ≡ true) × (b ≡ true)
+pub both_true : (a b : Bool) → (a && b) ≡ true → (a ≡ true) × (b ≡ true)
 both_true true b e = (refl, e)
 both_true false b e = absurd (false≢true e)
 
@@ -40,7 +40,7 @@ other_of a b p e = rw p at e
 
 -- ---- records whose places rise, from n on and below an end
 
-abbrev RiseWithin : ℕ → ℕ → List Earlier → Type 0
+abbrev pub RiseWithin : ℕ → ℕ → List Earlier → Type 0
 RiseWithin n end [] = n ≤ end
 RiseWithin n end (e ∷ es) = (n ≤ e.at.place) × (e.at.place < end) × RiseWithin (e.at.place + 1) end es
 
@@ -52,7 +52,7 @@ rise_on : (n m k end : ℕ) (xs ys : List Earlier) → RiseWithin n m xs → Ris
 rise_on n m k end [] ys rise other le short = lower n k end end ys (omega (arith, rise)) (omega arith) other
 rise_on n m k end (x ∷ xs) ys rise other le short = (rise.0, omega (arith, rise.1), rise_on (x.at.place + 1) m k end xs ys rise.2 other le short)
 
-rise_end : (n end : ℕ) (es : List Earlier) → RiseWithin n end es → n ≤ end
+pub rise_end : (n end : ℕ) (es : List Earlier) → RiseWithin n end es → n ≤ end
 rise_end n end [] rise = rise
 rise_end n end (e ∷ es) rise = omega (arith, rise.0, rise.1)
 
@@ -100,7 +100,7 @@ value_grows_if x oid place false xs ys is any deeper = deeper (other_of (eqb x.a
     and_false true = refl
     and_false false = refl
 
-value_grows : (oid place : ℕ) (xs ys : List Earlier) → IsPlace xs oid place → value_at place (xs ++ ys) ≡ value_at place xs
+pub value_grows : (oid place : ℕ) (xs ys : List Earlier) → IsPlace xs oid place → value_at place (xs ++ ys) ≡ value_at place xs
 value_grows oid place [] ys any = absurd (false≢true any)
 value_grows oid place (x ∷ xs) ys any = value_grows_if x oid place _ xs ys refl any (value_grows oid place xs ys)
 
@@ -161,7 +161,7 @@ kept_on bytes more xs ys n end (r ∷ rs) (e ∷ es) rise le kept = (
 
 -- ---- the records of one transaction
 
-abbrev revision : ℕ → ℕ × Value → Revision
+abbrev pub revision : ℕ → ℕ × Value → Revision
 revision tid r = record { tid = tid; oid = r.0; value = r.1 }
 
 before_if : (at end place oid : ℕ) (zero : Bool) (all : List Earlier) → eqb at 0 ≡ zero → (zero || list_any (is_row oid at) (rows all)) ≡ true → RiseWithin 4 end all → end ≤ place → at < place
@@ -206,14 +206,14 @@ new_rise all n place end (d ∷ ds) fits le within =
 
 -- ---- one block more
 
-record Kept (bytes : List ℕ) (front : Front) : Type 0 where
-  rise : RiseWithin 4 front.place front.records
+pub record Kept (bytes : List ℕ) (front : Front) : Type 0 where
+  pub rise : RiseWithin 4 front.place front.records
   each : AreKept bytes front.records (revisions front.history) front.records
 
 regroup : (bytes h t i l : List ℕ) → bytes ++ (((h ++ t) ++ i) ++ l) ≡ ((bytes ++ h) ++ t) ++ (i ++ l)
 regroup bytes h t i l = simp append_assoc
 
-records_stand : (bytes : List ℕ) (b : Block) (place : ℕ) → place ≡ length bytes → drop (records_place place b) (bytes ++ block_spelling b) ≡ inside_spelling b.inside ++ be64 b.tail
+pub records_stand : (bytes : List ℕ) (b : Block) (place : ℕ) → place ≡ length bytes → drop (records_place place b) (bytes ++ block_spelling b) ≡ inside_spelling b.inside ++ be64 b.tail
 unfolding block_spelling
 records_stand bytes b place at =
     let head = txn_head (txn_head_of b) in
@@ -221,7 +221,7 @@ records_stand bytes b place at =
     let front : length ((bytes ++ head) ++ texts) ≡ records_place place b = omega (arith, at, length-append bytes head, length-append (bytes ++ head) texts, length-txn_head (txn_head_of b), length-texts b) in
     ap (drop (records_place place b)) (regroup bytes head texts (inside_spelling b.inside) (be64 b.tail)) ∙ drop_at ((bytes ++ head) ++ texts) (inside_spelling b.inside ++ be64 b.tail) (records_place place b) front
 
-passed : (t : Bool) (o : Option Damage) (d : Damage) → cond t o (Some d) ≡ None → (t ≡ true) × (o ≡ None)
+pub passed : (t : Bool) (o : Option Damage) (d : Damage) → cond t o (Some d) ≡ None → (t ≡ true) × (o ≡ None)
 passed true o d e = (refl, e)
 passed false o d e = absurd cc
 
@@ -234,7 +234,7 @@ right_records place t rs b ds e =
     let r = passed _ _ BadBack p.1 in
     ((both_true _ _ a.0).1, r.0)
 
-revisions_longer : (h : History) (status : ℕ) (x : Transaction) → revisions (longer h status x) ≡ revisions h ++ revisions_of x
+pub revisions_longer : (h : History) (status : ℕ) (x : Transaction) → revisions (longer h status x) ≡ revisions h ++ revisions_of x
 revisions_longer h status x = flat_map-append revisions_of h.transactions (x ∷ []) ∙ ap (λ (rs : List Revision). revisions h ++ rs) (append-nil (revisions_of x))
 
 one_block : (bytes : List ℕ) (front : Front) (b : Block) (i : Inside) → b.inside ≡ i → front.place ≡ length bytes → FitsInside b.status i → fault_in front.place (last front.history) (rows front.records) b i ≡ None → Kept bytes front → Kept (bytes ++ block_spelling b) (after_in front b i)
@@ -264,7 +264,7 @@ all_kept [] right = record { rise = omega arith; each = tt }
 all_kept (b ∷ bs) right =
     one_block (bytes_of bs) (front_of bs) b b.inside refl (file_place (bytes_of bs) (front_of bs) (record { blocks = bs; right = right.1; spelled = refl; said = refl })) right.0.fits.inside right.0.right (all_kept bs right.1)
 
-file_kept : (bytes : List ℕ) (front : Front) → IsFile bytes front → Kept bytes front
+pub file_kept : (bytes : List ℕ) (front : Front) → IsFile bytes front → Kept bytes front
 file_kept bytes front file = subst (λ (x : List ℕ). Kept x front) (sym file.spelled) (subst (λ (f : Front). Kept (bytes_of file.blocks) f) (sym file.said) (all_kept file.blocks file.right))
 
 -- also where something stands behind the file

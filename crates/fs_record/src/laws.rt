@@ -1,4 +1,4 @@
-ghost use Rattle.std.specs.Prelude.{◌≡◌, ◌⊎◌, ◌↔◌, ◌++◌, ◌<◌, ℕ, List, length, All, Some, None};
+ghost use Rattle.std.specs.Prelude.{◌≡◌, ◌≢◌, ◌⊎◌, ◌↔◌, ◌++◌, ◌<◌, ℕ, List, length, All, Some, None};
 ghost use Rattle.zbase.specs.History.{IsHistory};
 ghost use Rattle.fs_record.specs.Fits.{FitsBlock};
 ghost use Rattle.fs_record.specs.Spelling.{Block, block_spelling};
@@ -8,8 +8,9 @@ ghost use Rattle.fs_record.specs.declared.body.Item.{Item};
 ghost use Rattle.fs_record.specs.declared.body.TxnTexts.{TxnTexts};
 ghost use Rattle.fs_record.specs.Opening.{NoBlock, Stands, Cut, Damaged};
 ghost use Rattle.fs_record.specs.Reading.{block_read, Opens, Broken, opening_of};
-ghost use Rattle.zbase.specs.Values.{Revision, newest, revisions};
+ghost use Rattle.zbase.specs.Values.{Revision, newest, revisions, serial};
 ghost use Rattle.fs_record.specs.File.{last_place, rows};
+ghost use Rattle.fs_record.specs.Walks.{LeadsBack, Passed, newest_upto};
 ghost use Rattle.fs_record.specs.Standing.{IsPlace, IsRevision, LastStands};
 ghost use Rattle.fs_record.specs.declared.damage.Damage.{Damage as Kind};
 
@@ -56,4 +57,18 @@ pub fn reading_finds()
 pub fn records_are_revisions()
     ensures each { (bytes rest : List ℕ) (front : Front) → IsFile bytes front → (oid place : ℕ) → IsPlace front.records oid place → (r : Revision) × IsRevision (bytes ++ rest) front.records oid place r }
     ensures last { (bytes rest : List ℕ) (front : Front) → IsFile bytes front → (oid : ℕ) → LastStands (bytes ++ rest) front.records oid (last_place oid 0 (rows front.records)) (newest (revisions front.history) oid) }
+{}
+
+/// From an object's last data record its previous places lead back through its revisions, each to what the file's
+/// history said before; also where other bytes stand behind the file. An object whose last record stands where it stood
+/// at an earlier time has its serial from then, and any other a later one.
+pub fn records_lead_back()
+    ensures whole { (file : List ℕ) (front : Front) → IsFile file front → Passed file front front }
+    ensures is_file { (file : List ℕ) (front at : Front) → Passed file front at → IsFile file front }
+    ensures grows { (file : List ℕ) (front at : Front) (b : Block) → Passed file front at → IsRight front b → Passed (file ++ block_spelling b) (after front b) at }
+    ensures none { (file : List ℕ) (front at : Front) (oid : ℕ) → Passed file front at → last_place oid 0 (rows at.records) ≡ 0 → (t : ℕ) → newest_upto at.history t oid ≡ None }
+    ensures none_at_all { (file : List ℕ) (front at : Front) (oid : ℕ) → Passed file front at → last_place oid 0 (rows at.records) ≡ 0 → newest (revisions at.history) oid ≡ None }
+    ensures leads { (file rest : List ℕ) (front at : Front) (oid : ℕ) → Passed file front at → 0 < last_place oid 0 (rows at.records) → LeadsBack (file ++ rest) file front at oid (last_place oid 0 (rows at.records)) }
+    ensures same { (file : List ℕ) (front at : Front) (oid : ℕ) → Passed file front at → last_place oid 0 (rows at.records) ≡ last_place oid 0 (rows front.records) → serial at.history oid ≡ serial front.history oid }
+    ensures other { (file : List ℕ) (front at : Front) (oid : ℕ) → Passed file front at → last_place oid 0 (rows at.records) ≢ last_place oid 0 (rows front.records) → serial at.history oid < serial front.history oid }
 {}

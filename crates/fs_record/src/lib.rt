@@ -2,7 +2,7 @@
 //!
 //! `specs/Spelling` says how a transaction is spelled, whatever its fields say; `specs/File` which spellings make
 //! a file one behind another, and the history that it says; `specs/Standing` where the records of that history
-//! stand; `specs/Opening` where a file ends: at its end, before a torn rest, or before damage; `specs/Reading` the
+//! stand, and `specs/Walks` how an object's previous places lead back through it; `specs/Opening` where a file ends: at its end, before a torn rest, or before damage; `specs/Reading` the
 //! same as a function of the bytes; `specs/Written` which transaction is written, and what makes it right behind a
 //! file.
 #![tactic(auto)]
@@ -21,7 +21,7 @@ pub use damage::Damage;
 pub use heads::{DataHead, RecordRefusal, TxnHead};
 pub use laws::{
     file_is_history, one_more, one_opening, one_spelling, reading_finds, records_are_revisions,
-    written_behind,
+    records_lead_back, written_behind,
 };
 pub use reading::{read_data_head, read_txn_head};
 pub use writing::write_txn;
