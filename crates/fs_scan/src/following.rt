@@ -1,30 +1,53 @@
-ghost use Rattle.std.specs.Prelude.{◌≡◌, ◌++◌, ℕ, List, IfOk, IfSome, IsErrOf, Some, drop, length};
+ghost use Rattle.std.specs.Prelude.{◌≡◌, ◌++◌, ℕ, List, IfOk, IfSome, IsErr, IsErrOf, Some, drop, length};
 ghost use Rattle.std.specs.Option.{ForSome};
 ghost use Rattle.zbase.specs.Faults.{Counts};
 ghost use Rattle.zdisk.specs.Disk.{content};
 ghost use Rattle.fs_record.specs.declared.damage.Damage.{Damage as Kind};
 ghost use Rattle.fs_record.specs.File.{Earlier, value_at};
 ghost use Rattle.fs_record.specs.Fits.{FitsData};
-ghost use Rattle.fs_record.specs.Spelling.{Data, data_spelling};
+ghost use Rattle.fs_record.specs.Spelling.{Data, data_spelling, head_of};
 ghost use Rattle.fs_record.specs.Standing.{IsPlace};
 ghost use Rattle.fs_scan.specs.Present.{AllStand};
 
 use crate::ScanRefusal;
 use crate::window::read_range;
-use fs_record::{Body, read_data_head};
+use fs_record::{Body, DataHead, read_data_head};
 use std::alloc::Global;
-use zbase::{Bytes, Value, u64_at};
+use zbase::{Bytes, Failed, Value, u64_at};
 use zdisk::Disk;
 
-// What the data record at a place has behind its head: data or a back pointer. None only where no record stands there.
-fn body_at<D: Disk>(
+/// The head of the data record at a place, in a disk's file of this length: one device call at most, and no memory.
+/// None only where no record can stand there.
+pub fn read_head<D: Disk>(disk: &mut D, len: u64, at: u64) -> Result<Option<DataHead>, Failed>
+    requires { ForSome (D.told disk.old) (λ told. len ≡ length (content told)) }
+    ensures head { IfOk result (λ head. IfSome (D.told disk.old) (λ told. (d : Data) (more : List ℕ) → FitsData d → drop at (content told) ≡ data_spelling d ++ more → head ≡ Some (head_of d))) }
+    ensures same { D.told disk.new ≡ D.told disk.old }
+    ensures spare { (D.spare_calls disk.new ≡ D.spare_calls disk.old) × (D.spare_bytes disk.new ≡ D.spare_bytes disk.old) }
+    ensures counts { Counts (D.counter disk.old) (D.counter disk.new) (IsErr result) }
+{
+    let left = len.saturating_sub(at);
+    if left < 42 {
+        return Ok(None);
+    }
+    let mut bytes = [0u8; 42];
+    disk.read_at(at, &mut bytes)?;
+    match read_data_head(&bytes) {
+        Ok(head) => Ok(Some(head)),
+        Err(_) => unreachable!(),
+    }
+}
+
+// What the data record with this head has behind it, data or a back pointer: one device call at most. None only where
+// no such record stands at the place.
+fn body_behind<D: Disk>(
     alloc: Global,
     disk: &mut D,
     len: u64,
     at: u64,
+    head: &DataHead,
 ) -> Result<Option<Body>, ScanRefusal>
     requires { ForSome (D.told disk.old) (λ told. len ≡ length (content told)) }
-    ensures body { IfOk result (λ body. IfSome (D.told disk.old) (λ told. (d : Data) (more : List ℕ) → FitsData d → drop at (content told) ≡ data_spelling d ++ more → body ≡ Some d.body)) }
+    ensures body { IfOk result (λ body. IfSome (D.told disk.old) (λ told. (d : Data) (more : List ℕ) → FitsData d → drop at (content told) ≡ data_spelling d ++ more → head.now ≡ head_of d → body ≡ Some d.body)) }
     ensures undamaged { (kind : Kind) (place : ℕ) → IsErrOf result (ScanRefusal.Damaged kind place) → ⊥ }
     ensures same { D.told disk.new ≡ D.told disk.old }
     ensures spare { (D.spare_calls disk.new ≡ D.spare_calls disk.old) × (D.spare_bytes disk.new ≡ D.spare_bytes disk.old) }
@@ -34,10 +57,6 @@ fn body_at<D: Disk>(
     if left < 42 {
         return Ok(None);
     }
-    let head = read_range(alloc, disk, at, 42)?;
-    let Ok(head) = read_data_head(&head) else {
-        return Ok(None);
-    };
     let size = if head.length == 0 { 8 } else { head.length };
     if left - 42 < size {
         return Ok(None);
@@ -49,10 +68,48 @@ fn body_at<D: Disk>(
     Ok(Some(Body::Full(Bytes::from_vec(behind))))
 }
 
-/// The value that the data record at a place means, in a disk's file of this length: its own data, or that of the
-/// record to which it points back.
+/// The value that the data record with this head at a place means, in a disk's file of this length: its own data, or
+/// that of the record to which it points back. One device call for its own body, and two for each back pointer.
 ///
 /// FileStorage format notes: a back pointer names an earlier record of the object, and 0 means no value.
+pub fn follow_from<D: Disk>(
+    alloc: Global,
+    disk: &mut D,
+    len: u64,
+    place: u64,
+    head: &DataHead,
+) -> Result<Value, ScanRefusal>
+    requires len { ForSome (D.told disk.old) (λ told. len ≡ length (content told)) }
+    requires head { IfSome (D.told disk.old) (λ told. (d : Data) (more : List ℕ) → FitsData d → drop place (content told) ≡ data_spelling d ++ more → head.now ≡ head_of d) }
+    ensures value { IfOk result (λ value. IfSome (D.told disk.old) (λ told. (records : List Earlier) (oid : ℕ) → AllStand (content told) records → IsPlace records oid place → value ≡ value_at place records)) }
+    ensures undamaged { (kind : Kind) (place : ℕ) → IsErrOf result (ScanRefusal.Damaged kind place) → ⊥ }
+    ensures same { D.told disk.new ≡ D.told disk.old }
+    ensures spare { (D.spare_calls disk.new ≡ D.spare_calls disk.old) × (D.spare_bytes disk.new ≡ D.spare_bytes disk.old) }
+    ensures counts { Counts (D.counter disk.old) (D.counter disk.new) (IsErrOf result ScanRefusal.Disk) }
+{
+    let mut at = place;
+    let mut head = *head;
+    'back: loop {
+        match body_behind(alloc, disk, len, at, &head)? {
+            Some(Body::Full(bytes)) => return Ok(Some(bytes)),
+            Some(Body::Back(back)) => {
+                // an earlier place, since the file was judged: a disk that tells nothing may say what it likes
+                if back == 0 || back >= at {
+                    return Ok(None);
+                }
+                let Some(earlier) = read_head(disk, len, back)? else {
+                    return Ok(None);
+                };
+                head = earlier;
+                at = back;
+            }
+            None => return Ok(None),
+        }
+    }
+}
+
+/// The value that the data record at a place means, as `follow_from`: two device calls for it, and two for each back
+/// pointer.
 pub fn follow<D: Disk>(
     alloc: Global,
     disk: &mut D,
@@ -66,18 +123,8 @@ pub fn follow<D: Disk>(
     ensures spare { (D.spare_calls disk.new ≡ D.spare_calls disk.old) × (D.spare_bytes disk.new ≡ D.spare_bytes disk.old) }
     ensures counts { Counts (D.counter disk.old) (D.counter disk.new) (IsErrOf result ScanRefusal.Disk) }
 {
-    let mut at = place;
-    'back: loop {
-        match body_at(alloc, disk, len, at)? {
-            Some(Body::Full(bytes)) => return Ok(Some(bytes)),
-            Some(Body::Back(back)) => {
-                // an earlier place, since the file was judged: a disk that tells nothing may say what it likes
-                if back == 0 || back >= at {
-                    return Ok(None);
-                }
-                at = back;
-            }
-            None => return Ok(None),
-        }
+    match read_head(disk, len, place)? {
+        Some(head) => follow_from(alloc, disk, len, place, &head),
+        None => Ok(None),
     }
 }

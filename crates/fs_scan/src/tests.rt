@@ -1,7 +1,7 @@
 use crate::pages::Pages;
 use crate::places::Places;
 use crate::step::{Step, take_one};
-use crate::{Checked, ScanRefusal, Walk, Wholes, check, scan, scan_bytes};
+use crate::{Checked, ScanRefusal, Walk, Wholes, check, follow_from, read_head, scan, scan_bytes};
 use fs_record::Damage;
 use std::alloc::Global;
 use std::test::*;
@@ -360,6 +360,29 @@ fn a_fault_of_the_disk_ends_a_check(rt: HostRuntime) -> Result<(), Fail> {
     let plan = FaultPlan::new(Vec::from_slice(rt.alloc(), &[2])?);
     let mut disk = MemoryDisk::with_faults(bytes, plan);
     assert_eq!(rt; check(rt.alloc(), &mut disk).err(), Some(ScanRefusal::Disk));
+    Ok(())
+}
+
+#[test]
+fn a_value_is_read_in_one_call_and_each_back_pointer_in_two(rt: HostRuntime) -> Result<(), Fail> {
+    let mut records = Bytes::new(rt.alloc());
+    put_record(&mut records, 1, 103, b"", 103)?;
+    let mut disk = MemoryDisk::new(rt.alloc(), longer(rt.alloc(), &records)?);
+    let Ok(len) = disk.len() else {
+        return Err("has a length".into());
+    };
+    assert_eq!(rt; read_head(&mut disk, len, len.saturating_sub(41)), Ok(None));
+    assert_eq!(rt; disk.calls(), 1);
+    let Ok(Some(head)) = read_head(&mut disk, len, 212) else {
+        return Err("has a head".into());
+    };
+    assert_eq!(rt; (head.oid, head.prev, head.length), (Oid(1), 103, 0));
+    assert_eq!(rt; disk.calls(), 2);
+    let Ok(Some(value)) = follow_from(rt.alloc(), &mut disk, len, 212, &head) else {
+        return Err("has a value".into());
+    };
+    assert_eq!(rt; value.as_slice(), &TWO_OBJECTS[145..176]);
+    assert_eq!(rt; disk.calls(), 5);
     Ok(())
 }
 
