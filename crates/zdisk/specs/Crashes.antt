@@ -8,17 +8,19 @@ abbrev pub IsSynced : Told → Type 0
 IsSynced told = told.now.before ≡ []
 
 -- Each image that a stop at any moment since a call began might have left has P of what the file held before the
--- call, where the disk tells.
+-- call, where the disk tells; a disk doesn't begin to tell, or stop.
 abbrev pub LeavesFrom : Option Told → Option Told → (List ℕ → List ℕ → Type 0) → Type 0
-LeavesFrom None new P = Unit {0}
+LeavesFrom None None P = Unit {0}
 LeavesFrom (Some old) (Some new) P = LeavesSince new (moment old) (P (content old))
 LeavesFrom (Some old) None P = ⊥
+LeavesFrom None (Some new) P = ⊥
 
 -- the file became this of what it held before the call, and is synced, where the disk tells
 abbrev pub Becomes : Option Told → Option Told → (List ℕ → List ℕ) → Type 0
-Becomes None new f = Unit {0}
+Becomes None None f = Unit {0}
 Becomes (Some old) (Some new) f = IsSynced new × (content new ≡ f (content old))
 Becomes (Some old) None f = ⊥
+Becomes None (Some new) f = ⊥
 
 -- a file with nothing behind it, or with as many bytes as a piece has, each of which is the piece's or 0
 pub record IsTorn (file piece image : List ℕ) : Type 0 where

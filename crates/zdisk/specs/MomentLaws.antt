@@ -23,12 +23,14 @@ leaves_more old new t P e before now held (inr past) image is = before held (sub
 
 -- in other words
 pub leaves_as : (old new : Option Told) (P Q : List ℕ → List ℕ → Type 0) → ForSome old (λ told. (image : List ℕ) → P (content told) image → Q (content told) image) → LeavesFrom old new P → LeavesFrom old new Q
-leaves_as None new P Q to all = tt
+leaves_as None None P Q to all = tt
+leaves_as None (Some new) P Q to all = absurd all
 leaves_as (Some old) None P Q to all = absurd all
 leaves_as (Some old) (Some new) P Q to all = λ held since image is. to old refl image (all held since image is)
 
 pub becomes_as : {T E : Type 0} (result : Result T E) (old new : Option Told) (f g : List ℕ → List ℕ) → ForSome old (λ told. f (content told) ≡ g (content told)) → OnOk result (Becomes old new f) → OnOk result (Becomes old new g)
 becomes_as (Err e) old new f g same became = tt
-becomes_as (Ok x) None new f g same became = tt
+becomes_as (Ok x) None None f g same became = tt
+becomes_as (Ok x) None (Some new) f g same became = absurd became
 becomes_as (Ok x) (Some old) None f g same became = absurd became
 becomes_as (Ok x) (Some old) (Some new) f g same became = (became.0, became.1 ∙ same old refl)

@@ -45,7 +45,8 @@ images old new held all image is = mixture old new image (shape_of_image _ _ hel
 
 -- once the change was called
 pub after_change : {T E : Type 0} (f : List ℕ → List ℕ) (o u : Option Told) (r : Result T E) → ForSome o IsSynced → Follows o u (Changes f r) → LeavesFrom o u (λ file image. IsMixture file (f file) image)
-after_change f None u r synced c = tt
+after_change f None None r synced c = tt
+after_change f None (Some u) r synced c = absurd c
 after_change f (Some s) None r synced c = absurd c
 after_change f (Some s) (Some u) r synced c =
     let old = s.now.now in
@@ -55,7 +56,9 @@ after_change f (Some s) (Some u) r synced c =
 
 -- once the sync was called too
 pub after_sync : {T E V F : Type 0} (f : List ℕ → List ℕ) (o u w : Option Told) (r : Result T E) (q : Result V F) → ForSome o IsSynced → Follows o u (Changes f r) → Follows u w (Syncs q) → LeavesFrom o w (λ file image. IsMixture file (f file) image)
-after_sync f None u w r q synced c d = tt
+after_sync f None None None r q synced c d = tt
+after_sync f None None (Some w) r q synced c d = absurd d
+after_sync f None (Some u) w r q synced c d = absurd c
 after_sync f (Some s) None w r q synced c d = absurd c
 after_sync f (Some s) (Some u) None r q synced c d = absurd d
 after_sync f (Some s) (Some u) (Some w) r q synced c d =
