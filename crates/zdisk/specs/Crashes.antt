@@ -1,5 +1,5 @@
 -- What a stop may leave of a synced file while one change of it is on its way.
-use Rattle.std.specs.Prelude.{◌≡◌, ◌⊎◌, ℕ, ◌++◌, List, [], length, get_or, Option, Some, None}
+use Rattle.std.specs.Prelude.{◌≡◌, ◌⊎◌, ℕ, ◌≤◌, ◌++◌, List, [], length, get_or, Option, Some, None}
 use Rattle.zdisk.specs.Disk.{Told, content}
 use Rattle.zdisk.specs.Images.{moment, LeavesSince}
 
@@ -11,7 +11,7 @@ IsSynced told = told.now.before ≡ []
 -- call, where the disk tells; a disk doesn't begin to tell, or stop.
 abbrev pub LeavesFrom : Option Told → Option Told → (List ℕ → List ℕ → Type 0) → Type 0
 LeavesFrom None None P = Unit {0}
-LeavesFrom (Some old) (Some new) P = LeavesSince new (moment old) (P (content old))
+LeavesFrom (Some old) (Some new) P = (moment old ≤ moment new) × LeavesSince new (moment old) (P (content old))
 LeavesFrom (Some old) None P = ⊥
 LeavesFrom None (Some new) P = ⊥
 

@@ -16,6 +16,10 @@ pub leaves_now : (told : Told) (P : List ℕ → Type 0) → ((image : List ℕ)
 leaves_now told P now held (inl e) image is = now image (subst (λ (h : Held). IsImage h image) e.1 is)
 leaves_now told P now held (inr old) image is = absurd (none_older told.earlier (length told.earlier) held old (omega arith))
 
+-- what is held now was held since
+pub held_now : (told : Told) (t : ℕ) → t ≤ moment told → HeldSince (told.now ∷ told.earlier) t told.now
+held_now told t le = inl (le, refl)
+
 -- one moment more
 pub leaves_more : (old new : Told) (t : ℕ) (P : List ℕ → Type 0) → new.earlier ≡ old.now ∷ old.earlier → LeavesSince old t P → ((image : List ℕ) → IsImage new.now image → P image) → LeavesSince new t P
 leaves_more old new t P e before now held (inl f) image is = now image (subst (λ (h : Held). IsImage h image) f.1 is)
@@ -26,7 +30,7 @@ pub leaves_as : (old new : Option Told) (P Q : List ℕ → List ℕ → Type 0)
 leaves_as None None P Q to all = tt
 leaves_as None (Some new) P Q to all = absurd all
 leaves_as (Some old) None P Q to all = absurd all
-leaves_as (Some old) (Some new) P Q to all = λ held since image is. to old refl image (all held since image is)
+leaves_as (Some old) (Some new) P Q to all = (all.0, λ held since image is. to old refl image (all.1 held since image is))
 
 pub becomes_as : {T E : Type 0} (result : Result T E) (old new : Option Told) (f g : List ℕ → List ℕ) → ForSome old (λ told. f (content told) ≡ g (content told)) → OnOk result (Becomes old new f) → OnOk result (Becomes old new g)
 becomes_as (Err e) old new f g same became = tt

@@ -49,10 +49,12 @@ after_change f None None r synced c = tt
 after_change f None (Some u) r synced c = absurd c
 after_change f (Some s) None r synced c = absurd c
 after_change f (Some s) (Some u) r synced c =
-    let old = s.now.now in
-    leaves_more s u (moment s) (IsMixture old (f old)) c.1
-    (leaves_now s (IsMixture old (f old)) (images old (f old) s.now (all_before s.now (f old) (synced s refl))))
-    (images old (f old) u.now (all_changed f s.now u.now r (synced s refl) c.0))
+    let old = s.now.now in (
+      omega (arith, ap length c.1),
+      leaves_more s u (moment s) (IsMixture old (f old)) c.1
+          (leaves_now s (IsMixture old (f old)) (images old (f old) s.now (all_before s.now (f old) (synced s refl))))
+          (images old (f old) u.now (all_changed f s.now u.now r (synced s refl) c.0)),
+    )
 
 -- once the sync was called too
 pub after_sync : {T E V F : Type 0} (f : List ℕ → List ℕ) (o u w : Option Told) (r : Result T E) (q : Result V F) → ForSome o IsSynced → Follows o u (Changes f r) → Follows u w (Syncs q) → LeavesFrom o w (λ file image. IsMixture file (f file) image)
@@ -63,9 +65,11 @@ after_sync f (Some s) None w r q synced c d = absurd c
 after_sync f (Some s) (Some u) None r q synced c d = absurd d
 after_sync f (Some s) (Some u) (Some w) r q synced c d =
     let old = s.now.now in
-    leaves_more u w (moment s) (IsMixture old (f old)) d.1
-    (after_change f (Some s) (Some u) r synced c)
-    (images old (f old) w.now (all_synced old (f old) u.now w.now q (all_changed f s.now u.now r (synced s refl) c.0) d.0))
+    let before = after_change f (Some s) (Some u) r synced c in (
+      omega (arith, before.0, ap length d.1),
+      leaves_more u w (moment s) (IsMixture old (f old)) d.1 before.1
+          (images old (f old) w.now (all_synced old (f old) u.now w.now q (all_changed f s.now u.now r (synced s refl) c.0) d.0)),
+    )
 
 -- ---- a piece behind the file
 
