@@ -10,7 +10,8 @@ use Rattle.evaluator.specs.Exec.{Eval}
 use Rattle.evaluator.specs.Facts.{fact, look}
 use Rattle.schedule.specs.Moments.{Attempt}
 use Rattle.connection.specs.declared.turned.Turned.{Turned}
-use Rattle.connection.specs.States.{ActiveView}
+use Rattle.fs_store.specs.Stores.{StoreView}
+use Rattle.connection.specs.States.{ActiveView, AreSeen}
 
 -- the attempt with one fact more, as the history up to its snapshot gives it
 abbrev pub learned : {R : Type 0} → History → Attempt R → Ask → Attempt R
@@ -21,7 +22,13 @@ abbrev pub comes_to : {R : Type 0} → Eval R → Attempt R → Outcome
 comes_to eval a = eval (look a.facts) a.request
 
 -- one evaluation of an attempt over a history: a fact was fetched, the answer was given, or the change is ready
-abbrev pub IsTurn : {E R S : Type 0} → Eval R → History → Attempt R → Turned E R S → Type 0
-IsTurn eval h a (Turned.Fetched new ask) = (comes_to eval a ≡ Outcome.Need ask) × (new ≡ record { attempt = learned h a ask; ready = None })
-IsTurn eval h a (Turned.Answered x t) = (comes_to eval a ≡ Outcome.Answer x) × (t ≡ a.snapshot)
-IsTurn eval h a (Turned.Ready new) = (x : Reply) × (d : Draft) × (comes_to eval a ≡ Outcome.Change x d) × (new ≡ record { attempt = a; ready = Some (x, d) })
+abbrev pub IsTurn : {E R S : Type 0} → Eval R → History → ActiveView R → Turned E R S → Type 0
+IsTurn eval h a (Turned.Fetched new ask) = (comes_to eval a.attempt ≡ Outcome.Need ask) × (new.attempt ≡ learned h a.attempt ask) × (new.ready ≡ None)
+IsTurn eval h a (Turned.Answered x t) = (comes_to eval a.attempt ≡ Outcome.Answer x) × (t ≡ a.attempt.snapshot)
+IsTurn eval h a (Turned.Ready new) = (x : Reply) × (d : Draft) × (comes_to eval a.attempt ≡ Outcome.Change x d) × (new ≡ record { attempt = a.attempt; reads = a.reads; ready = Some (x, d) })
+
+-- what the attempt has read is right of the store
+abbrev pub ReadsStand : {E R S : Type 0} → StoreView → Turned E R S → Type 0
+ReadsStand s (Turned.Fetched new ask) = AreSeen s new.reads
+ReadsStand s (Turned.Answered x t) = Unit {0}
+ReadsStand s (Turned.Ready new) = AreSeen s new.reads

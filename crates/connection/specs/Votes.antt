@@ -19,20 +19,16 @@ ruling_of None s c d = validation s d c
 abbrev pub ruling : {R : Type 0} → StoreView → Attempt R → Draft → Option VoteRefusal
 ruling s a d = ruling_of s.out s (first_clash s.history a.facts) d
 
--- an attempt whose reply and change are ready
-abbrev pub readied : {R : Type 0} → Attempt R → Reply → Draft → ActiveView R
-readied a x d = record { attempt = a; ready = Some (x, d) }
-
 -- Each refusal has its cause, and hands the state back: the attempt as it was, or the request with its conflict
 -- kept. At the fourth conflict it is given up.
-abbrev pub IsRefused : {E R S : Type 0} → StoreView → Attempt R → Reply → Draft → CommitRefusal E R S → Type 0
-IsRefused s a x d (CommitRefusal.Busy holder back) = (back ≡ readied a x d) × (ruling s a d ≡ Some (VoteRefusal.Busy holder))
-IsRefused s a x d (CommitRefusal.Conflict c back) = (ruling s a d ≡ Some (VoteRefusal.Conflict c)) × (length a.clashes < 3) × (back.request ≡ a.request) × (clashes_of back.conflicts ≡ a.clashes ++ c ∷ [])
-IsRefused s a x d (CommitRefusal.GivenUp cs) = (c : Clash) × (ruling s a d ≡ Some (VoteRefusal.Conflict c)) × (length a.clashes ≡ 3) × (cs ≡ a.clashes ++ c ∷ [])
-IsRefused s a x d (CommitRefusal.TidsSpent back) = (back ≡ readied a x d) × (ruling s a d ≡ Some VoteRefusal.TidsSpent)
-IsRefused s a x d (CommitRefusal.OidsSpent o n back) = (back ≡ readied a x d) × (ruling s a d ≡ Some (VoteRefusal.OidsSpent o n))
-IsRefused s a x d (CommitRefusal.Full n l back) = (back ≡ readied a x d) × (ruling s a d ≡ Some (VoteRefusal.Full n l))
-IsRefused s a x d (CommitRefusal.Memory back) = (back ≡ readied a x d) × (s.out ≡ None)
+abbrev pub IsRefused : {E R S : Type 0} → StoreView → ActiveView R → Draft → CommitRefusal E R S → Type 0
+IsRefused s a d (CommitRefusal.Busy holder back) = (back ≡ a) × (ruling s a.attempt d ≡ Some (VoteRefusal.Busy holder))
+IsRefused s a d (CommitRefusal.Conflict c back) = (ruling s a.attempt d ≡ Some (VoteRefusal.Conflict c)) × (length a.attempt.clashes < 3) × (back.request ≡ a.attempt.request) × (clashes_of back.conflicts ≡ a.attempt.clashes ++ c ∷ [])
+IsRefused s a d (CommitRefusal.GivenUp cs) = (c : Clash) × (ruling s a.attempt d ≡ Some (VoteRefusal.Conflict c)) × (length a.attempt.clashes ≡ 3) × (cs ≡ a.attempt.clashes ++ c ∷ [])
+IsRefused s a d (CommitRefusal.TidsSpent back) = (back ≡ a) × (ruling s a.attempt d ≡ Some VoteRefusal.TidsSpent)
+IsRefused s a d (CommitRefusal.OidsSpent o n back) = (back ≡ a) × (ruling s a.attempt d ≡ Some (VoteRefusal.OidsSpent o n))
+IsRefused s a d (CommitRefusal.Full n l back) = (back ≡ a) × (ruling s a.attempt d ≡ Some (VoteRefusal.Full n l))
+IsRefused s a d (CommitRefusal.Memory back) = (back ≡ a) × (s.out ≡ None)
 
 -- the vote is out: its transaction is the one that settling gives, and stands once it is finished
 pub record IsVoted {R : Type 0} (old new : StoreView) (holder now : ℕ) (a : Attempt R) (x : Reply) (d : Draft) (p : PendingView R) : Type 0 where
@@ -40,4 +36,4 @@ pub record IsVoted {R : Type 0} (old new : StoreView) (holder now : ℕ) (a : At
   pub attempt : p.attempt ≡ a
   pub reply : p.reply ≡ x
   pub tid : p.tid ≡ tid_at old.history now
-  pub out : new ≡ voting old (Some (voted_out old holder d p.tid))
+  pub out : new ≡ voting old (Some (voted_out old holder d p.tid)) new.disk

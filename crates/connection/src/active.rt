@@ -24,13 +24,13 @@ impl<E: Evaluator> Model for Active<E> {
     ghost use Rattle.std.specs.Prelude.{◌≡◌};
     ghost use Rattle.evaluator.specs.Exec.{IsTrail};
     ghost use Rattle.evaluator.specs.Facts.{look};
-    ghost use Rattle.connection.specs.States.{ActiveView, clashes_of, reads_of};
+    ghost use Rattle.connection.specs.States.{ActiveView, AreReads, clashes_of};
 
     ghost Value = { ActiveView E.Request };
 
-    ghost view = { λ a. record { attempt = record { request = a.request; clashes = clashes_of a.conflicts; snapshot = a.snapshot; facts = a.facts }; ready = a.ready } };
+    ghost view = { λ a. record { attempt = record { request = a.request; clashes = clashes_of a.conflicts; snapshot = a.snapshot; facts = a.facts }; reads = a.reads.items; ready = a.ready } };
 
-    ghost invariant = { λ a. (E.fits a.state a.facts a.request) × (a.reads.items ≡ reads_of a.facts) × IsTrail (λ known. E.meaning (look known) a.request) a.facts };
+    ghost invariant = { λ a. (E.fits a.state a.facts a.request) × AreReads a.reads.items a.facts × IsTrail (λ known. E.meaning (look known) a.request) a.facts };
 }
 
 impl<E: Evaluator> Drop for Active<E> {
@@ -60,7 +60,7 @@ impl<E: Evaluator> Active<E> {
         snapshot: Tid,
         evaluator: &E,
     ) -> Active<E>
-        ensures { result ≡ record { attempt = record { request = request; clashes = clashes_of conflicts; snapshot = snapshot; facts = [] }; ready = None } }
+        ensures { result ≡ record { attempt = record { request = request; clashes = clashes_of conflicts; snapshot = snapshot; facts = [] }; reads = []; ready = None } }
     {
         Active {
             alloc,
@@ -79,8 +79,9 @@ impl<E: Evaluator> Active<E> {
     ghost use Rattle.std.specs.Prelude.{◌≡◌, ◌≤◌, None, IfOk, IfErr, length};
     ghost use Rattle.evaluator.specs.Exec.{IsTrail, most_asks};
     ghost use Rattle.evaluator.specs.Facts.{look};
-    ghost use Rattle.zbase.specs.Values.{last};
-    ghost use Rattle.connection.specs.Turns.{IsTurn};
+    ghost use Rattle.fs_store.specs.Stores.{IsSteady, Stays};
+    ghost use Rattle.connection.specs.States.{AreSeen};
+    ghost use Rattle.connection.specs.Turns.{IsTurn, ReadsStand};
 
     /// The last transaction when the attempt began.
     pub fn snapshot(&self) -> Tid
@@ -98,16 +99,20 @@ impl<E: Evaluator> Active<E> {
     }
 
     /// Evaluates once: where a fact is wanted it is fetched, as the history up to the snapshot gives it, whatever
-    /// was committed since. For want of memory the attempt comes back.
+    /// was committed since. For want of memory the attempt comes back. The store's disk tells what it holds and
+    /// can't fail.
     pub fn turn<D: Disk + Drop>(
         self,
         store: &mut Store<D>,
         evaluator: &mut E,
     ) -> Result<Turned<E>, (Memory, Active<E>)>
         requires unready { self.ready ≡ None }
-        requires snapshot { self.attempt.snapshot ≤ last store.old.history }
-        ensures same { store.new ≡ store.old }
-        ensures turned { IfOk result (λ turned. IsTurn E.meaning store.old.history self.attempt turned) }
+        requires steady { IsSteady store.old }
+        requires reads { AreSeen store.old self.reads }
+        ensures same { Stays store.old store.new }
+        ensures steady { IsSteady store.new }
+        ensures turned { IfOk result (λ turned. IsTurn E.meaning store.old.history self turned) }
+        ensures reads { IfOk result (ReadsStand store.new) }
         ensures back { IfErr result (λ (_, back). back ≡ self) }
     {
         let Active {
@@ -172,17 +177,20 @@ impl<E: Evaluator> Active<E> {
 }
 
 impl<E: Evaluator> Active<E> {
-    ghost use Rattle.std.specs.Prelude.{◌≡◌, ◌⊎◌, IfOk, IfErr, OnErr, IsSome, None, Some};
+    ghost use Rattle.std.specs.Prelude.{◌≡◌, ◌⊎◌, IfOk, IfErr, OnErr, None, Some};
     ghost use Rattle.evaluator.specs.declared.draft.Draft.{Draft};
     ghost use Rattle.evaluator.specs.declared.reply.Reply.{Reply};
     ghost use Rattle.schedule.specs.Moments.{Attempt};
-    ghost use Rattle.fs_store.specs.Stores.{IsDraft, StoreView};
+    ghost use Rattle.fs_store.specs.Seeing.{IsSeen};
+    ghost use Rattle.fs_store.specs.Stores.{IsDraft, IsSteady, StoreView, on_disk};
+    ghost use Rattle.fs_store.specs.declared.reads.Seen.{Seen};
+    ghost use Rattle.connection.specs.States.{AreSeen};
     ghost use Rattle.fs_store.specs.declared.refusal.VoteRefusal.{VoteRefusal};
     ghost use Rattle.connection.specs.Votes.{IsRefused, IsVoted, ruling};
 
     // The request begins anew, or is given up at its fourth conflict.
     fn again(self, clash: Clash) -> CommitRefusal<E>
-        ensures { (s : StoreView) (x : Reply) (d : Draft) → ruling s self.attempt d ≡ Some (VoteRefusal.Conflict clash) → IsRefused s self.attempt x d result }
+        ensures { (s : StoreView) (d : Draft) → ruling s self.attempt d ≡ Some (VoteRefusal.Conflict clash) → IsRefused s self d result }
     {
         let Active {
             alloc,
@@ -205,7 +213,8 @@ impl<E: Evaluator> Active<E> {
 
     // The state that comes back with a refusal of the store.
     fn refused(self, refusal: VoteRefusal) -> CommitRefusal<E>
-        ensures { (s : StoreView) (x : Reply) (d : Draft) → self.ready ≡ Some (x, d) → (refusal ≡ VoteRefusal.Memory) ⊎ (ruling s self.attempt d ≡ Some refusal) → (refusal ≡ VoteRefusal.Memory → s.out ≡ None) → IsRefused s self.attempt x d result }
+        requires { refusal ≡ VoteRefusal.Disk → ⊥ }
+        ensures { (s : StoreView) (d : Draft) → (refusal ≡ VoteRefusal.Memory) ⊎ (ruling s self.attempt d ≡ Some refusal) → (refusal ≡ VoteRefusal.Memory → s.out ≡ None) → IsRefused s self d result }
     {
         match refusal {
             VoteRefusal::Busy(holder) => CommitRefusal::Busy(holder, self),
@@ -214,11 +223,14 @@ impl<E: Evaluator> Active<E> {
             VoteRefusal::OidsSpent(greatest, new) => CommitRefusal::OidsSpent(greatest, new, self),
             VoteRefusal::Full(need, limit) => CommitRefusal::Full(need, limit, self),
             VoteRefusal::Memory => CommitRefusal::Memory(self),
+            // the disk can't fail
+            VoteRefusal::Disk => unreachable!(),
         }
     }
 
     /// Votes for the change, for a worker: it is refused where another vote is out, where an object that was
-    /// fetched has a later serial, or where ids or the file's room are spent, in this order.
+    /// fetched has a later serial, or where ids or the file's room are spent, in this order. The store's disk
+    /// tells what it holds and can't fail.
     pub fn vote<D: Disk + Drop>(
         self,
         store: &mut Store<D>,
@@ -226,9 +238,13 @@ impl<E: Evaluator> Active<E> {
         now: Tid,
     ) -> Result<Pending<E>, CommitRefusal<E>>
         requires ready { (x : Reply) × (d : Draft) × (self.ready ≡ Some (x, d)) × IsDraft d }
+        requires steady { IsSteady store.old }
+        requires reads { AreSeen store.old self.reads }
         ensures voted { IfOk result (λ pending. (x : Reply) × (d : Draft) × (self.ready ≡ Some (x, d)) × IsVoted store.old store.new holder now self.attempt x d pending) }
-        ensures refused { IfErr result (λ refusal. (x : Reply) × (d : Draft) × (self.ready ≡ Some (x, d)) × IsRefused store.old self.attempt x d refusal) }
-        ensures same { OnErr result (store.new ≡ store.old) }
+        ensures refused { IfErr result (λ refusal. (x : Reply) × (d : Draft) × (self.ready ≡ Some (x, d)) × IsRefused store.old self d refusal) }
+        ensures same { OnErr result (store.new ≡ on_disk store.old store.new.disk) }
+        ensures steady { IsSteady store.new }
+        ensures seen { (seen : Seen) → IsSeen store.old seen → IsSeen store.new seen }
     {
         let Active {
             alloc,

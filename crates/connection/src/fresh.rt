@@ -34,6 +34,7 @@ impl<E: Evaluator> Fresh<E> {
     ghost use Rattle.std.specs.Prelude.{◌≡◌, [], None};
     ghost use Rattle.zbase.specs.Values.{last};
     ghost use Rattle.connection.specs.declared.conflicts.Conflicts.{Conflicts};
+    ghost use Rattle.fs_store.specs.Stores.{IsSteady};
     ghost use Rattle.connection.specs.States.{clashes_of};
 
     /// A request that was just given, without conflicts. Takes no memory.
@@ -56,7 +57,8 @@ impl<E: Evaluator> Fresh<E> {
 
     /// Begins an attempt: its snapshot is the last transaction, and it knows nothing yet. Takes no memory.
     pub fn begin<D: Disk + Drop>(self, store: &Store<D>, evaluator: &E) -> Active<E>
-        ensures { result ≡ record { attempt = record { request = self.request; clashes = clashes_of self.conflicts; snapshot = last store.now.history; facts = [] }; ready = None } }
+        requires { IsSteady store.now }
+        ensures { result ≡ record { attempt = record { request = self.request; clashes = clashes_of self.conflicts; snapshot = last store.now.history; facts = [] }; reads = []; ready = None } }
     {
         let Fresh {
             alloc,

@@ -1,47 +1,57 @@
-ghost use Rattle.std.specs.Prelude.{◌≡◌, ◌≤◌, ◌++◌, ◌∷◌, [], IfOk, OnOk, OnErr};
-ghost use Rattle.zbase.specs.Values.{last, upto};
+ghost use Rattle.std.specs.Prelude.{◌≡◌, ◌++◌, ◌∷◌, [], IfOk, OnOk, OnErr, Some};
+ghost use Rattle.zbase.specs.Values.{upto};
 ghost use Rattle.evaluator.specs.Facts.{fact};
-ghost use Rattle.connection.specs.States.{listed, reads_of};
+ghost use Rattle.evaluator.specs.declared.fact.Fact.{Fact};
+ghost use Rattle.fs_store.specs.Stores.{IsSteady, Stays};
+ghost use Rattle.connection.specs.States.{AreReads, AreSeen, listed};
 
 use evaluator::{Ask, Fact, Facts};
-use fs_store::{Seen, Store};
-use zbase::{Memory, Tid};
+use fs_store::{LoadRefusal, Loaded, Seen, Store};
+use zbase::{Memory, Oid, Tid};
 use zdisk::Disk;
 
-// The object of a fact, with its serial.
-fn seen_of(fact: &Fact) -> Option<Seen>
-    ensures { reads_of (fact.now ∷ []) ≡ listed result }
+// What was loaded of an object: the fact, and the object as it was read.
+fn found_of(oid: Oid, loaded: Loaded) -> (Fact, Option<Seen>)
+    ensures { result ≡ (Fact.Object oid loaded.value loaded.serial, Some (record { oid = oid; serial = loaded.serial; place = loaded.place })) }
 {
-    match fact {
-        Fact::Object { oid, serial, .. } => Some(Seen {
-            oid: *oid,
-            serial: *serial,
-        }),
-        Fact::Transaction { .. } => None,
-        Fact::Log(_) => None,
-    }
+    let Loaded {
+        value,
+        serial,
+        place,
+    } = loaded;
+    let seen = Seen { oid, serial, place };
+    (Fact::Object { oid, value, serial }, Some(seen))
 }
 
-// What the store's history up to the snapshot says to an ask.
-fn fact_of<D: Disk + Drop>(store: &mut Store<D>, ask: &Ask, at: Tid) -> Result<Fact, Memory>
-    requires { at ≤ last store.old.history }
-    ensures same { store.new ≡ store.old }
-    ensures fact { IfOk result (λ found. found ≡ fact (upto store.old.history at) ask.now) }
+// What the store's history up to the snapshot says to an ask, and the object that was read for it.
+fn fact_of<D: Disk + Drop>(
+    store: &mut Store<D>,
+    ask: &Ask,
+    at: Tid,
+) -> Result<(Fact, Option<Seen>), Memory>
+    requires { IsSteady store.old }
+    ensures same { Stays store.old store.new }
+    ensures steady { IsSteady store.new }
+    ensures fact { IfOk result (λ (found, _). found ≡ fact (upto store.old.history at) ask.now) }
+    ensures read { IfOk result (λ (found, seen). AreReads (listed seen) (found ∷ []) × AreSeen store.new (listed seen)) }
 {
     match ask {
-        Ask::Object(oid) => {
-            let loaded = store.load(*oid, at)?;
-            Ok(Fact::Object {
-                oid: *oid,
-                value: loaded.value,
-                serial: loaded.serial,
-            })
-        }
-        Ask::Transaction(tid) => {
-            let parts = store.transaction(*tid, at)?;
-            Ok(Fact::Transaction { tid: *tid, parts })
-        }
-        Ask::Log => Ok(Fact::Log(store.log(at)?)),
+        Ask::Object(oid) => match store.load(*oid, at) {
+            Ok(loaded) => Ok(found_of(*oid, loaded)),
+            Err(LoadRefusal::Memory) => Err(Memory),
+            // the disk can't fail
+            Err(LoadRefusal::Disk) => unreachable!(),
+        },
+        Ask::Transaction(tid) => match store.transaction(*tid, at) {
+            Ok(parts) => Ok((Fact::Transaction { tid: *tid, parts }, None)),
+            Err(LoadRefusal::Memory) => Err(Memory),
+            Err(LoadRefusal::Disk) => unreachable!(),
+        },
+        Ask::Log => match store.log(at) {
+            Ok(rows) => Ok((Fact::Log(rows), None)),
+            Err(LoadRefusal::Memory) => Err(Memory),
+            Err(LoadRefusal::Disk) => unreachable!(),
+        },
     }
 }
 
@@ -55,15 +65,19 @@ pub(crate) fn learn<D: Disk + Drop>(
     facts: &mut Facts,
     reads: &mut Vec<Seen>,
 ) -> Result<(), Memory>
-    requires at { at ≤ last store.old.history }
-    requires reads { reads.old.items ≡ reads_of facts.old }
-    ensures same { store.new ≡ store.old }
+    requires steady { IsSteady store.old }
+    requires reads { AreReads reads.old.items facts.old }
+    requires seen { AreSeen store.old reads.old.items }
+    ensures same { Stays store.old store.new }
+    ensures steady { IsSteady store.new }
     ensures ok { OnOk result (facts.new ≡ facts.old ++ fact (upto store.old.history at) ask.now ∷ []) }
     ensures err { OnErr result (facts.new ≡ facts.old) }
-    ensures reads { reads.new.items ≡ reads_of facts.new }
+    ensures reads { AreReads reads.new.items facts.new }
+    ensures seen { AreSeen store.new reads.new.items }
+    ensures kept { OnErr result (reads.new.items ≡ reads.old.items) }
 {
-    let found = fact_of(store, ask, at)?;
-    match seen_of(&found) {
+    let (found, seen) = fact_of(store, ask, at)?;
+    match seen {
         None => facts.push(found)?,
         Some(seen) => {
             reads.reserve(1)?;

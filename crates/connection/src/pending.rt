@@ -26,7 +26,9 @@ impl<E: Evaluator> Model for Pending<E> {
 
 impl<E: Evaluator> Pending<E> {
     ghost use Rattle.std.specs.Prelude.{◌≡◌, None};
-    ghost use Rattle.fs_store.specs.Stores.{IsVoteOf, finished, voting};
+    ghost use Rattle.fs_store.specs.Seeing.{IsSeen};
+    ghost use Rattle.fs_store.specs.Stores.{IsSteady, IsVoteOf, finished, voting};
+    ghost use Rattle.fs_store.specs.declared.reads.Seen.{Seen};
 
     /// The id that the transaction has once it is finished.
     pub fn tid(&self) -> Tid
@@ -35,12 +37,16 @@ impl<E: Evaluator> Pending<E> {
         self.voted.tid()
     }
 
-    /// The transaction stands from now on: its reply, and its id. Takes no memory.
+    /// The transaction stands from now on: its reply, and its id. Takes no memory. The store's disk
+    /// tells what it holds and can't fail.
     pub fn finish<D: Disk + Drop>(self, store: &mut Store<D>) -> (Reply, Tid)
-        requires { IsVoteOf store.old self.tid }
+        requires vote { IsVoteOf store.old self.tid }
+        requires steady { IsSteady store.old }
         ensures reply { result.0 ≡ self.reply }
         ensures tid { result.1 ≡ self.tid }
-        ensures stands { store.new ≡ finished store.old store.old.out }
+        ensures stands { store.new ≡ finished store.old store.old.out store.new.disk }
+        ensures steady { IsSteady store.new }
+        ensures seen { (seen : Seen) → IsSeen store.old seen → IsSeen store.new seen }
     {
         let Pending {
             request: _,
@@ -50,14 +56,20 @@ impl<E: Evaluator> Pending<E> {
             reply,
             voted,
         } = self;
-        let tid = store.finish(voted);
-        (reply, tid)
+        match store.finish(voted) {
+            Ok(tid) => (reply, tid),
+            // the disk can't fail
+            Err(_) => unreachable!(),
+        }
     }
 
-    /// The transaction never stands. Takes no memory.
+    /// The transaction never stands. Takes no memory. The store's disk tells what it holds and can't fail.
     pub fn abort<D: Disk + Drop>(self, store: &mut Store<D>)
-        requires { IsVoteOf store.old self.tid }
-        ensures { store.new ≡ voting store.old None }
+        requires vote { IsVoteOf store.old self.tid }
+        requires steady { IsSteady store.old }
+        ensures gone { store.new ≡ voting store.old None store.new.disk }
+        ensures steady { IsSteady store.new }
+        ensures seen { (seen : Seen) → IsSeen store.old seen → IsSeen store.new seen }
     {
         let Pending {
             request: _,
@@ -67,6 +79,10 @@ impl<E: Evaluator> Pending<E> {
             reply: _,
             voted,
         } = self;
-        store.abort(voted);
+        match store.abort(voted) {
+            Ok(()) => {}
+            // the disk can't fail
+            Err(_) => unreachable!(),
+        }
     }
 }

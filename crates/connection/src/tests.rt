@@ -1,27 +1,30 @@
 ghost use Rattle.std.specs.Prelude.{◌≡◌, None, Some, IfOk, IfSome, IsSome};
-ghost use Rattle.zbase.specs.Values.{last};
 ghost use Rattle.evaluator.specs.declared.draft.Draft.{Draft};
 ghost use Rattle.evaluator.specs.declared.reply.Reply.{Reply};
-ghost use Rattle.fs_store.specs.Stores.{IsDraft, IsVoteOf};
+ghost use Rattle.fs_store.specs.Seeing.{IsSeen};
+ghost use Rattle.fs_store.specs.Stores.{IsDraft, IsSteady, IsVoteOf, on_disk};
+ghost use Rattle.fs_store.specs.declared.reads.Seen.{Seen};
+ghost use Rattle.connection.specs.States.{AreSeen};
 
 use crate::{Active, CommitRefusal, Fresh, Pending, Turned};
 use evaluator::{Ask, CellRequest, Cells, Reply};
 use fs_store::Store;
 use std::alloc::Global;
 use std::test::Fail;
-use zbase::{Bytes, Clash, Items, Memory, Oid, Tid};
+use zbase::{Bytes, Clash, Oid, Tid};
 use zdisk::MemoryDisk;
 
 const COPY: CellRequest = CellRequest::Copy(Oid(1), Oid(1));
 
 /// A store without transactions, in a file that ends at 4.
-fn store_of(alloc: Global, limit: u64) -> Result<Store<MemoryDisk>, Memory>
-    ensures { IfOk result (λ store. store.out ≡ None) }
+fn store_of(alloc: Global, limit: u64) -> Result<Store<MemoryDisk>, Fail>
+    ensures steady { IfOk result IsSteady }
+    ensures idle { IfOk result (λ store. store.out ≡ None) }
 {
-    let disk = MemoryDisk::new(alloc, Bytes::new(alloc));
-    match Store::new(alloc, disk, Items::new(alloc), 4, limit.min(1_000_000)) {
+    let disk = MemoryDisk::new(alloc, Bytes::from_slice(alloc, b"FS21")?);
+    match Store::open(alloc, disk, limit.min(1_000_000)) {
         Ok(store) => Ok(store),
-        Err((memory, _disk)) => Err(memory),
+        Err((_refusal, _disk)) => Err(Fail::from("no store")),
     }
 }
 
@@ -31,9 +34,11 @@ fn asked(
     cells: &mut Cells,
     fresh: Fresh<Cells>,
 ) -> Option<Active<Cells>>
-    ensures same { store.new ≡ store.old }
+    requires steady { IsSteady store.old }
+    ensures steady { IsSteady store.new }
+    ensures seen { (seen : Seen) → IsSeen store.old seen → IsSeen store.new seen }
     ensures unready { IfSome result (λ active. active.ready ≡ None) }
-    ensures snapshot { IfSome result (λ active. active.attempt.snapshot ≡ last store.old.history) }
+    ensures reads { IfSome result (λ active. AreSeen store.new active.reads) }
 {
     let active = fresh.begin(store, cells);
     match active.turn(store, cells) {
@@ -50,8 +55,11 @@ fn computed(
     cells: &mut Cells,
     fresh: Fresh<Cells>,
 ) -> Option<Active<Cells>>
-    ensures same { store.new ≡ store.old }
+    requires steady { IsSteady store.old }
+    ensures steady { IsSteady store.new }
+    ensures seen { (seen : Seen) → IsSeen store.old seen → IsSeen store.new seen }
     ensures ready { IfSome result (λ active. (x : Reply) × (d : Draft) × (active.ready ≡ Some (x, d)) × IsDraft d) }
+    ensures reads { IfSome result (λ active. AreSeen store.new active.reads) }
 {
     let active = asked(store, cells, fresh)?;
     match active.turn(store, cells) {
@@ -88,6 +96,10 @@ fn vote(
     now: Tid,
 ) -> Result<Pending<Cells>, CommitRefusal<Cells>>
     requires ready { (x : Reply) × (d : Draft) × (active.ready ≡ Some (x, d)) × IsDraft d }
+    requires steady { IsSteady store.old }
+    requires reads { AreSeen store.old active.reads }
+    ensures steady { IsSteady store.new }
+    ensures seen { (seen : Seen) → IsSeen store.old seen → IsSeen store.new seen }
     ensures vote { IfOk result (λ pending. IsVoteOf store.new pending.tid) }
     ensures out { IfOk result (λ pending. IsSome store.new.out) }
 {
@@ -100,6 +112,10 @@ fn vote(
 /// Votes and finishes: the id of the transaction, where the reply is the copy's.
 fn committed(store: &mut Store<MemoryDisk>, active: Active<Cells>, now: Tid) -> Option<Tid>
     requires ready { (x : Reply) × (d : Draft) × (active.ready ≡ Some (x, d)) × IsDraft d }
+    requires steady { IsSteady store.old }
+    requires reads { AreSeen store.old active.reads }
+    ensures steady { IsSteady store.new }
+    ensures seen { (seen : Seen) → IsSeen store.old seen → IsSeen store.new seen }
 {
     match vote(store, active, 0, now) {
         Ok(pending) => {
@@ -115,12 +131,11 @@ fn committed(store: &mut Store<MemoryDisk>, active: Active<Cells>, now: Tid) -> 
 }
 
 /// Commits a request at once: the id of its transaction.
-fn done(
-    alloc: Global,
-    store: &mut Store<MemoryDisk>,
-    request: CellRequest,
-    now: Tid,
-) -> Option<Tid> {
+fn done(alloc: Global, store: &mut Store<MemoryDisk>, request: CellRequest, now: Tid) -> Option<Tid>
+    requires steady { IsSteady store.old }
+    ensures steady { IsSteady store.new }
+    ensures seen { (seen : Seen) → IsSeen store.old seen → IsSeen store.new seen }
+{
     let mut cells = Cells::new(alloc);
     let active = computed(store, &mut cells, Fresh::new(alloc, request))?;
     committed(store, active, now)
@@ -146,12 +161,12 @@ fn answer(
     cells: &mut Cells,
     active: Active<Cells>,
 ) -> Option<(Ask, Reply)>
-    requires { active.ready ≡ None }
+    requires unready { active.ready ≡ None }
+    requires steady { IsSteady store.old }
+    requires reads { AreSeen store.old active.reads }
+    ensures steady { IsSteady store.new }
 {
     let snapshot = active.snapshot();
-    if store.last().0 < snapshot.0 {
-        return None;
-    }
     let (active, ask) = match active.turn(store, cells) {
         Ok(Turned::Fetched(active, ask)) => (active, ask),
         Ok(Turned::Answered(_reply, _tid)) => return None,
@@ -175,7 +190,10 @@ fn answers(
     other: Option<CellRequest>,
     wanted: Ask,
     body: &str,
-) -> bool {
+) -> bool
+    requires steady { IsSteady store.old }
+    ensures steady { IsSteady store.new }
+{
     let mut cells = Cells::new(alloc);
     let active = Fresh::new(alloc, request).begin(store, &cells);
     if let Some(other) = other {
@@ -216,7 +234,10 @@ fn a_reader_is_told_what_stood_at_its_beginning(rt: HostRuntime) -> Result<(), F
 }
 
 /// Votes and lets go: the id that the transaction would have had.
-fn aborted(alloc: Global, store: &mut Store<MemoryDisk>, now: Tid) -> Option<Tid> {
+fn aborted(alloc: Global, store: &mut Store<MemoryDisk>, now: Tid) -> Option<Tid>
+    requires steady { IsSteady store.old }
+    ensures steady { IsSteady store.new }
+{
     let mut cells = Cells::new(alloc);
     let active = computed(store, &mut cells, Fresh::new(alloc, COPY))?;
     match vote(store, active, 0, now) {
@@ -252,8 +273,13 @@ fn busy(
 ) -> Option<(u32, Active<Cells>)>
     requires ready { (x : Reply) × (d : Draft) × (active.ready ≡ Some (x, d)) × IsDraft d }
     requires out { IsSome store.old.out }
-    ensures same { store.new ≡ store.old }
+    requires steady { IsSteady store.old }
+    requires reads { AreSeen store.old active.reads }
+    ensures same { store.new ≡ on_disk store.old store.new.disk }
+    ensures steady { IsSteady store.new }
+    ensures seen { (seen : Seen) → IsSeen store.old seen → IsSeen store.new seen }
     ensures ready { IfSome result (λ (_, back). (x : Reply) × (d : Draft) × (back.ready ≡ Some (x, d)) × IsDraft d) }
+    ensures reads { IfSome result (λ (_, back). AreSeen store.new back.reads) }
 {
     match active.vote(store, worker, Tid(0)) {
         Err(CommitRefusal::Busy(holder, back)) => Some((holder, back)),
@@ -274,6 +300,10 @@ fn both(
 ) -> Option<(u32, Tid, Tid)>
     requires first { (x : Reply) × (d : Draft) × (first.ready ≡ Some (x, d)) × IsDraft d }
     requires second { (x : Reply) × (d : Draft) × (second.ready ≡ Some (x, d)) × IsDraft d }
+    requires steady { IsSteady store.old }
+    requires first_reads { AreSeen store.old first.reads }
+    requires second_reads { AreSeen store.old second.reads }
+    ensures steady { IsSteady store.new }
 {
     match vote(store, first, 11, Tid(0)) {
         Ok(pending) => {
@@ -290,7 +320,10 @@ fn both(
 }
 
 /// Two attempts that are ready at once, at different objects.
-fn side_by_side(alloc: Global, store: &mut Store<MemoryDisk>) -> Option<(u32, Tid, Tid)> {
+fn side_by_side(alloc: Global, store: &mut Store<MemoryDisk>) -> Option<(u32, Tid, Tid)>
+    requires steady { IsSteady store.old }
+    ensures steady { IsSteady store.new }
+{
     let mut cells = Cells::new(alloc);
     let first = computed(store, &mut cells, Fresh::new(alloc, COPY))?;
     let other = CellRequest::Copy(Oid(2), Oid(2));
@@ -322,7 +355,10 @@ fn overtaken(
     alloc: Global,
     store: &mut Store<MemoryDisk>,
     fresh: Fresh<Cells>,
-) -> Option<CommitRefusal<Cells>> {
+) -> Option<CommitRefusal<Cells>>
+    requires steady { IsSteady store.old }
+    ensures steady { IsSteady store.new }
+{
     let mut cells = Cells::new(alloc);
     let active = computed(store, &mut cells, fresh)?;
     let _tid = done(alloc, store, COPY, Tid(0));
@@ -341,7 +377,10 @@ fn again(
     store: &mut Store<MemoryDisk>,
     fresh: Fresh<Cells>,
     conflict: Clash,
-) -> Option<Fresh<Cells>> {
+) -> Option<Fresh<Cells>>
+    requires steady { IsSteady store.old }
+    ensures steady { IsSteady store.new }
+{
     match overtaken(alloc, store, fresh)? {
         CommitRefusal::Conflict(clash, fresh) if clash == conflict => Some(fresh),
         refusal => {
@@ -352,7 +391,10 @@ fn again(
 }
 
 /// The conflicts of a request that is overtaken four times.
-fn given_up(alloc: Global, store: &mut Store<MemoryDisk>) -> Option<[Clash; 4]> {
+fn given_up(alloc: Global, store: &mut Store<MemoryDisk>) -> Option<[Clash; 4]>
+    requires steady { IsSteady store.old }
+    ensures steady { IsSteady store.new }
+{
     let first = again(alloc, store, Fresh::new(alloc, COPY), clash(0))?;
     let second = again(alloc, store, first, clash(1))?;
     let third = again(alloc, store, second, clash(2))?;
@@ -378,7 +420,10 @@ fn a_request_keeps_its_conflicts_and_is_given_up_at_the_fourth(
 }
 
 /// The numbers of the refusal of a request's vote.
-fn spent(alloc: Global, store: &mut Store<MemoryDisk>, request: CellRequest) -> Option<[u64; 2]> {
+fn spent(alloc: Global, store: &mut Store<MemoryDisk>, request: CellRequest) -> Option<[u64; 2]>
+    requires steady { IsSteady store.old }
+    ensures steady { IsSteady store.new }
+{
     let mut cells = Cells::new(alloc);
     let active = computed(store, &mut cells, Fresh::new(alloc, request))?;
     match vote(store, active, 0, Tid(0)) {

@@ -1,4 +1,4 @@
-ghost use Rattle.std.specs.Prelude.{◌≡◌, ◌==◌, ◌<◌, if◌then◌else◌, ℕ, All, None, OnOk, Some};
+ghost use Rattle.std.specs.Prelude.{◌≡◌, ◌==◌, if◌then◌else◌, ℕ, All, None, OnOk};
 ghost use Rattle.fs_index.specs.Places.{known};
 
 use std::alloc::Global;
@@ -62,12 +62,11 @@ impl Index {
         }
     }
 
-    /// Puts an object at a place, in the stead of its earlier one. It takes no memory and can't fail, since the object is
-    /// there, or room is kept for it.
+    /// Puts an object at a place, in the stead of its earlier one; at 0 it has none. It takes no memory and can't fail,
+    /// since the object is there, or room is kept for it.
     pub fn put(&mut self, oid: Oid, place: u64)
-        requires room { HasRoom self.old oid }
-        requires place { 0 < place }
-        ensures places { (o : ℕ) → place_of self.new o ≡ (if oid == o then Some place else place_of self.old o) }
+        requires { HasRoom self.old oid }
+        ensures places { (o : ℕ) → place_of self.new o ≡ (if oid == o then known place else place_of self.old o) }
         ensures keeps { (o : ℕ) → HasRoom self.old o → HasRoom self.new o }
     {
         match self.places.insert(oid.0, place) {

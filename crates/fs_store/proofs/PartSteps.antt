@@ -1,5 +1,5 @@
 -- The parts of a transaction, one more record from the end, and what a part up to a transaction knows.
-use Rattle.std.proofs.Common.{◌≡◌, ℕ, arith, ◌+◌, ◌<◌, ◌≤◌, ◌==◌, ◌||◌, Bool, true, false, cond, eqb, ltb, List, [], ◌∷◌, ◌++◌, Some, None, refl, sym, ap, subst, ◌∙◌, map, filter, find, length, get_or, drop, reverse, ne_eqb, eqb-true, leb-false}
+use Rattle.std.proofs.Common.{◌≡◌, ℕ, arith, ◌+◌, ◌<◌, ◌≤◌, ◌==◌, ◌||◌, Bool, true, false, cond, eqb, ltb, List, [], ◌∷◌, ◌++◌, Option, Some, None, refl, sym, ap, ap₂, subst, ◌∙◌, map, filter, find, length, get_or, drop, reverse, ne_eqb, eqb-true, leb-false}
 use Rattle.std.specs.Prelude.{nat_lt, nat_le, not, ◌-◌}
 use Rattle.std.specs.List.{list_any}
 use Rattle.std.specs.Ordering.{nat_cmp, is_eq}
@@ -8,13 +8,15 @@ use Rattle.std.specs.declared.cmp.Ordering.TheVariants.{Less, Equal, Greater}
 use Rattle.std.proofs.lemmas.Bool.{ltb-true, false≢true}
 use Rattle.std.proofs.lemmas.Bool.Decides.{nat_tests}
 use Rattle.std.proofs.lemmas.List.{reverse-append, drop_more}
-use Rattle.zbase.specs.History.{Transaction, History, RisesFrom, IsHistory}
-use Rattle.zbase.specs.Values.{before, transaction, upto}
+use Rattle.zbase.specs.History.{Transaction, Value, History, RisesFrom, IsHistory}
+use Rattle.std.specs.Option.{option_map}
+use Rattle.zbase.specs.Values.{before, serial, transaction, upto, value}
 use Rattle.zbase.specs.HistoryLaws.{found_within}
 use Rattle.evaluator.specs.declared.fact.Part.{Part}
 use Rattle.evaluator.specs.Facts.{last_records, part_of, parts_of}
 use Rattle.fs_scan.specs.declared.wholes.OidValue.{OidValue}
-use Rattle.fs_scan.specs.Wholes.{records_in}
+use Rattle.fs_scan.specs.declared.wholes.Whole.{Whole}
+use Rattle.fs_scan.specs.Wholes.{records_in, transaction_in}
 
 one_of : (p q : Bool) → (p ≡ true → q ≡ false) → is_eq (cond p Less (cond q Equal Greater)) ≡ q
 one_of true true h = absurd (false≢true (sym (h refl)))
@@ -132,3 +134,30 @@ before_is_upto h tid positive = ap (λ ts. let past : History = record { floor =
     go : (xs : List Transaction) → filter (λ x. nat_le x.tid (tid - 1)) xs ≡ filter (λ x. nat_lt x.tid tid) xs
     go [] = refl
     go (x ∷ xs) = rw (same x.tid, go xs) refl
+
+pub part_is : (h : History) (tid oid : ℕ) (after v : Value) (s : ℕ) → 0 < tid → v ≡ value (upto h (tid - 1)) oid → s ≡ serial (upto h (tid - 1)) oid → (let p : Part = record { oid = oid; after = after; before = v; before_serial = s } in p) ≡ part_of (before h tid) (oid, after)
+part_is h tid oid after v s positive value_is serial_is =
+    let same = before_is_upto h tid positive in
+    ap₂ (λ (v : Value) (s : ℕ). let p : Part = record { oid = oid; after = after; before = v; before_serial = s } in p) (value_is ∙ ap (λ (past : History). value past oid) same) (serial_is ∙ ap (λ (past : History). serial past oid) same)
+
+zero_by : (h : History) (found : Option Transaction) → IsHistory h → transaction h 0 ≡ found → found ≡ None
+zero_by h None good is = refl
+zero_by h (Some x) good is = absurd (omega (arith, found_tid h x 0 good is, found_positive h x 0 good is))
+
+-- no transaction has the id 0
+pub transaction_zero : (h : History) → IsHistory h → transaction h 0 ≡ None
+transaction_zero h good = zero_by h (transaction h 0) good refl
+
+pub parts_none : (h : History) (tid at : ℕ) → transaction (upto h at) tid ≡ None → None ≡ option_map (parts_of (upto h at)) (transaction (upto h at) tid)
+parts_none h tid at none = sym (ap (option_map (parts_of (upto h at))) none)
+
+pub parts_are : (h : History) (tid at : ℕ) (whole : Whole) (values : List OidValue) (parts : List Part) → IsHistory h → tid ≤ at → Some (transaction_in whole) ≡ transaction h tid → values ≡ whole.values
+    → parts ≡ map (part_of (before h tid)) (last_records (records_in values)) → Some parts ≡ option_map (parts_of (upto h at)) (transaction (upto h at) tid)
+parts_are h tid at whole values parts good le found same are =
+    let x = transaction_in whole in
+    let own = found_tid h x tid good (sym found) in
+    ap (λ (ps : List Part). Some ps) (are
+    ∙ ap (λ (vs : List OidValue). map (part_of (before h tid)) (last_records (records_in vs))) same
+    ∙ ap (λ (t : ℕ). map (part_of (before h t)) (last_records x.records)) (sym own)
+    ∙ sym (parts_within h x at (omega (arith, own, le))))
+    ∙ sym (ap (option_map (parts_of (upto h at))) (transaction_within h tid at le ∙ sym found))

@@ -1,32 +1,56 @@
--- What a store keeps between its calls.
-use Rattle.std.specs.Prelude.{ℕ, ◌≡◌, ◌+◌, ◌<◌, ◌≤◌, ◌&&◌, ◌==◌, false, nat_lt, Option, None, IfSome}
-use Rattle.zbase.specs.Values.{last, next}
+-- What a store that isn't stale keeps between its calls.
+use Rattle.std.specs.Prelude.{ℕ, ◌≡◌, ◌+◌, ◌++◌, ◌<◌, ◌≤◌, ◌^◌, All, List, length, Option, None, IfSome}
+use Rattle.zbase.specs.History.{History}
+use Rattle.zdisk.specs.Disk.{Told, content}
 use Rattle.evaluator.specs.declared.draft.Draft.{Draft}
-use Rattle.evaluator.specs.Change.{made}
-use Rattle.fs_scan.specs.Wholes.{transaction_in}
-use Rattle.fs_store.specs.declared.past.Past.{Past}
+use Rattle.evaluator.specs.Settle.{settle, size}
+use Rattle.fs_index.specs.Places.{HasRoom}
+use Rattle.fs_record.specs.Sizes.{records_size}
+use Rattle.fs_record.specs.Spelling.{block_spelling}
+use Rattle.fs_record.specs.Written.{GoesBehind, IsWritable, said_by, transaction}
+use Rattle.fs_store.specs.declared.known.Known.{Known}
+use Rattle.fs_store.specs.declared.reads.Seen.{Seen}
 use Rattle.fs_store.specs.declared.waiting.Waiting.{Waiting}
-use Rattle.fs_store.specs.Pasts.{history_of, HasRoomToAdd, IsSound}
-use Rattle.fs_store.specs.Stores.{Out, StoreView, most_length}
-use Rattle.fs_store.specs.Verdicts.{greatest_number, need_of}
+use Rattle.fs_store.specs.Fronts.{file_at, front_at, records_where}
+use Rattle.fs_store.specs.Knowing.{Knows}
+use Rattle.fs_store.specs.Placed.{first_at}
+use Rattle.fs_store.specs.Stores.{Out}
+use Rattle.fs_store.specs.Verdicts.{clash_among, tid_at, validation_at}
 
-abbrev pub out_of : Waiting → Out
-out_of w = record { holder = w.holder; transaction = transaction_in w.transaction; size = w.size }
+abbrev pub out_of : Option Told → ℕ → Waiting → Out
+out_of disk end w = record { holder = w.holder; transaction = said_by (records_where disk end) w.tid w.texts w.items; size = w.size }
 
--- the waiting transaction can be added without memory, and its record fits into the file
-pub record Waits (past : Past) (end limit : ℕ) (w : Waiting) : Type 0 where
-  pub later : last (history_of past) < w.transaction.tid
-  pub room : HasRoomToAdd past w.transaction.values
-  pub fits : end + w.size ≤ limit
+-- the transaction that waits stands behind the file with status c, and would be right there with status space
+pub record StandsBehind (told : Told) (known : Known) (w : Waiting) : Type 0 where
+  pub goes : GoesBehind (front_at told known.end) w.tid 32 w.items
+  pub behind : content told ≡ file_at told known.end ++ block_spelling (transaction known.end w.tid 99 w.texts w.items)
 
-pub record IsKept (past : Past) (end limit : ℕ) (out : Option Waiting) : Type 0 where
-  pub sound : IsSound past
-  pub most : limit ≤ most_length
-  pub waits : IfSome out (λ w. Waits past end limit w)
+-- the transaction that waits can be finished and aborted without memory, and its record fits into the file
+pub record Waits (disk : Option Told) (known : Known) (limit calls bytes : ℕ) (w : Waiting) : Type 0 where
+  pub later : known.last < w.tid
+  pub writable : IsWritable known.end w.tid 99 w.texts w.items
+  pub size_is : w.size ≡ length (block_spelling (transaction known.end w.tid 99 w.texts w.items))
+  pub within : known.end + w.size ≤ limit
+  pub room : All (λ item. HasRoom known.index item.oid) w.items
+  pub calls_left : 2 ≤ calls
+  pub bytes_left : 1 ≤ bytes
+  pub stands : IfSome disk (λ told. StandsBehind told known w)
 
--- no vote is out, and nothing is spent
-pub record IsFree (s : StoreView) (d : Draft) : Type 0 where
-  pub out : s.out ≡ None
-  pub tids : (last s.history == greatest_number) ≡ false
-  pub oids : (nat_lt 0 (made d) && nat_lt greatest_number (next s.history + made d)) ≡ false
-  pub room : nat_lt s.limit (need_of s d) ≡ false
+pub record IsKept (disk : Option Told) (known : Known) (limit : ℕ) (out : Option Waiting) (calls bytes : ℕ) : Type 0 where
+  pub bound : known.next ≤ 2 ^ 64
+  pub knows : IfSome disk (λ told. Knows told known)
+  pub alone : out ≡ None → IfSome disk (λ told. known.end ≡ length (content told))
+  pub waits : IfSome out (λ w. Waits disk known limit calls bytes w)
+
+-- a store can know the transaction that waits
+pub record Knowable (known : Known) (w : Waiting) : Type 0 where
+  pub bound : known.next ≤ 2 ^ 64
+  pub fits : first_at known.end w.texts + records_size w.items < 2 ^ 64
+  pub within : known.end + w.size < 2 ^ 64
+  pub room : All (λ item. HasRoom known.index item.oid) w.items
+
+-- the draft was voted for over these reads: nothing speaks against it, and what waits is what it settles to
+pub record IsVoted (disk : Option Told) (h : History) (known : Known) (limit holder : ℕ) (d : Draft) (reads : List Seen) (now : ℕ) (w : Waiting) : Type 0 where
+  pub free : validation_at h known.end limit d (clash_among h reads) ≡ None
+  pub tid_is : w.tid ≡ tid_at h now
+  pub out_is : out_of disk known.end w ≡ record { holder = holder; transaction = settle h d w.tid; size = size d }

@@ -1,9 +1,14 @@
 pub mod Drafts
 pub mod FileReads
+pub mod Finding
+pub mod Fronts
 pub mod Kept
-pub mod NewestRows
+pub mod Knowing
+pub mod Moments
 pub mod Opened
-pub mod Pasts
-pub mod Rows
+pub mod Parts
+pub mod Placed
+pub mod Seeing
+pub mod Settled
 pub mod Stores
 pub mod Verdicts

@@ -1,5 +1,5 @@
 -- What opening a store makes of its disk, and why it may be refused.
-use Rattle.std.specs.Prelude.{◌≡◌, ◌⊎◌, ℕ, ◌+◌, ◌<◌, ◌≤◌, List, [], length, take, Option, Some, None, IfSome}
+use Rattle.std.specs.Prelude.{◌≡◌, ◌⊎◌, ℕ, ◌+◌, ◌<◌, ◌≤◌, false, List, [], length, take, Option, Some, None, IfSome}
 use Rattle.fs_record.specs.File.{Front, IsFile}
 use Rattle.fs_record.specs.Opening.{Cut, Damaged}
 use Rattle.zdisk.specs.Calls.{AnyImage, Follows, Mixed, changed}
@@ -55,6 +55,7 @@ pub record Opens (old : Option Told) (limit : ℕ) (s : StoreView) : Type 0 wher
   pub told : WhereTold old s.disk.told (λ before after. OpensAs (content before) (content after) s torn)
   pub limit_is : s.limit ≡ limit
   pub idle : s.out ≡ None
+  pub fresh : s.stale ≡ false
 
 -- ---- a store that isn't opened
 

@@ -1,6 +1,6 @@
 -- What a store is seen as: its history, where its file ends, the vote that is out, and its disk.
-use Rattle.std.specs.Prelude.{ℕ, ◌≡◌, ◌+◌, Option, Some, None}
-use Rattle.zbase.specs.Faults.{Counter}
+use Rattle.std.specs.Prelude.{ℕ, ◌≡◌, ◌+◌, Bool, true, false, Option, Some, None, IsSome}
+use Rattle.zbase.specs.Faults.{Counter, IsFaultless}
 use Rattle.zbase.specs.History.{Transaction, History, added}
 use Rattle.zdisk.specs.Disk.{Told}
 use Rattle.evaluator.specs.declared.ask.Ask.{Ask}
@@ -22,25 +22,46 @@ pub record DiskView : Type 0 where
   pub spare_calls : ℕ
   pub spare_bytes : ℕ
 
+-- The history is the one that the disk's file says, where the disk tells. A store is stale once its disk failed in a
+-- vote, a finish or an abort.
 pub record StoreView : Type 0 where
   pub history : History
   pub end : ℕ
   pub limit : ℕ
   pub out : Option Out
+  pub stale : Bool
   pub disk : DiskView
 
 -- the greatest length of a file
 abbrev pub most_length : ℕ
 most_length = 281474976710655
 
--- the same store with this vote out
-abbrev pub voting : StoreView → Option Out → StoreView
-voting s o = record { history = s.history; end = s.end; limit = s.limit; out = o; disk = s.disk }
+-- the disk tells what it holds
+abbrev pub IsTold : StoreView → Type 0
+IsTold s = IsSome s.disk.told
+
+-- the disk tells and can't fail, and it never failed
+pub record IsSteady (s : StoreView) : Type 0 where
+  pub told : IsTold s
+  pub faultless : IsFaultless s.disk.counter
+  pub fresh : s.stale ≡ false
+
+-- the same store over this disk
+abbrev pub on_disk : StoreView → DiskView → StoreView
+on_disk s disk = record { history = s.history; end = s.end; limit = s.limit; out = s.out; stale = s.stale; disk = disk }
+
+-- the same store with this vote out, over this disk
+abbrev pub voting : StoreView → Option Out → DiskView → StoreView
+voting s o disk = record { history = s.history; end = s.end; limit = s.limit; out = o; stale = s.stale; disk = disk }
+
+-- the same store with no vote out, stale
+abbrev pub staled : StoreView → DiskView → StoreView
+staled s disk = record { history = s.history; end = s.end; limit = s.limit; out = None; stale = true; disk = disk }
 
 -- the vote that is out stands
-abbrev pub finished : StoreView → Option Out → StoreView
-finished s None = s
-finished s (Some o) = record { history = added s.history o.transaction; end = s.end + o.size; limit = s.limit; out = None; disk = s.disk }
+abbrev pub finished : StoreView → Option Out → DiskView → StoreView
+finished s None disk = on_disk s disk
+finished s (Some o) disk = record { history = added s.history o.transaction; end = s.end + o.size; limit = s.limit; out = None; stale = s.stale; disk = disk }
 
 -- the vote that is out is this one
 abbrev pub IsVoteOf : StoreView → ℕ → Type 0
@@ -49,3 +70,9 @@ IsVoteOf s tid = (o : Out) × (s.out ≡ Some o) × (o.transaction.tid ≡ tid)
 -- the draft keeps the rules of a change, over something that is known
 abbrev pub IsDraft : Draft → Type 0
 IsDraft d = (known : Ask → Option Fact) × IsChange known d
+
+-- a call that only reads: nothing is changed but the counts of the disk
+pub record Stays (old new : StoreView) : Type 0 where
+  pub same : new ≡ on_disk old new.disk
+  pub told : new.disk.told ≡ old.disk.told
+  pub spare : (new.disk.spare_calls ≡ old.disk.spare_calls) × (new.disk.spare_bytes ≡ old.disk.spare_bytes)

@@ -8,13 +8,14 @@
 //! are kept in memory from then on, and new ones aren't written to the disk.
 #![tactic(auto)]
 
-mod newest;
+mod committing;
+mod finding;
+mod known;
+mod loading;
 mod opening;
 mod parts;
-mod past;
 mod reads;
 mod refusal;
-mod rows;
 mod settling;
 mod store;
 mod voted;
@@ -23,11 +24,6 @@ mod waiting;
 
 pub use opening::{MAX_LENGTH, OpenRefusal};
 pub use reads::{Loaded, Seen};
-pub use refusal::VoteRefusal;
+pub use refusal::{AbortRefusal, FinishRefusal, LoadRefusal, VoteRefusal};
 pub use store::Store;
 pub use voted::Voted;
-
-#[cfg(test)]
-mod opening_tests;
-#[cfg(test)]
-mod tests;

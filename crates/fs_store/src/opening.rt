@@ -1,21 +1,22 @@
-ghost use Rattle.std.specs.Prelude.{◌≡◌, ◌≤◌, ℕ, length, IfErr, IfOk, IfSome, IsErr, IsErrOf, OnOk, OnErr};
+ghost use Rattle.std.specs.Prelude.{◌≡◌, ◌≤◌, ◌^◌, ℕ, length, IfErr, IfOk, IfSome, IsErr, IsErrOf, OnOk, OnErr};
 ghost use Rattle.zbase.specs.Faults.{Counts};
-ghost use Rattle.zbase.specs.History.{IsHistory};
 ghost use Rattle.zdisk.specs.Disk.{HasPlace, content};
 ghost use Rattle.fs_record.specs.declared.damage.Damage.{Damage as Kind};
 ghost use Rattle.fs_record.specs.Opening.{Damaged};
-ghost use Rattle.fs_scan.specs.Wholes.{history_in};
+ghost use Rattle.fs_record.specs.File.{last_place};
+ghost use Rattle.fs_scan.specs.Newest.{place_in};
+ghost use Rattle.fs_index.specs.Places.{place_of};
 ghost use Rattle.fs_store.specs.Opened.{CutOffFailed, CutsOff, IsRefusedFor, LeavesDisk, Tidies};
-ghost use Rattle.fs_store.specs.FileReads.{Reads, ReadsAll, of_scan};
-ghost use Rattle.fs_store.specs.Pasts.{IsSound};
+ghost use Rattle.fs_store.specs.FileReads.{Reads, above, of_scan};
 ghost use Rattle.fs_store.specs.Stores.{most_length};
 ghost use Rattle.fs_store.specs.declared.opening.OpenRefusal.TheVariants as refusals;
 
-use crate::past::Past;
+use crate::known::Known;
+use fs_index::Index;
 use fs_record::Damage;
-use fs_scan::{ScanRefusal, Scanned, Walk, Wholes, scan};
+use fs_scan::{ScanRefusal, Scanned, scan};
 use std::alloc::Global;
-use zbase::{Failed, Memory};
+use zbase::{Failed, Memory, Oid, Row};
 use zdisk::Disk;
 
 /// The most bytes that a file may have.
@@ -65,38 +66,39 @@ impl From<Failed> for OpenRefusal {
 /// What a file says that opens.
 #[derive(Drop)]
 pub(crate) struct FileRead {
-    /// Its transactions that count.
-    pub(crate) past: Past,
-    /// Where the last whole one ends, in bytes from the file's start.
-    pub(crate) end: u64,
-    /// The number of bytes behind that.
+    /// What the store keeps of it.
+    pub(crate) known: Known,
+    /// The number of bytes behind its end.
     pub(crate) torn: u64,
 }
 
-// All transactions that count, with their values, from the oldest.
-fn read_all<D: Disk>(alloc: Global, disk: &mut D) -> Result<Wholes, ScanRefusal>
-    ensures reads { IfOk result (λ wholes. IfSome (D.told disk.old) (λ told. ReadsAll (content told) wholes)) }
-    ensures rise { IfOk result (λ wholes. (floor : ℕ) → IsHistory (history_in floor wholes)) }
-    ensures damaged { (kind : Kind) (place : ℕ) → IsErrOf result (ScanRefusal.Damaged kind place) → IfSome (D.told disk.old) (λ told. Damaged (content told) place kind) }
-    ensures same { D.told disk.new ≡ D.told disk.old }
-    ensures spare { (D.spare_calls disk.new ≡ D.spare_calls disk.old) × (D.spare_bytes disk.new ≡ D.spare_bytes disk.old) }
-    ensures counts { Counts (D.counter disk.old) (D.counter disk.new) (IsErrOf result ScanRefusal.Disk) }
+// Each row's place.
+fn index_of(alloc: Global, rows: &[Row]) -> Result<Index, Memory>
+    ensures { IfOk result (λ index. (o : ℕ) → place_in (place_of index o) ≡ last_place o 0 rows.now) }
 {
-    let mut walk = Walk::new(alloc);
-    let mut wholes = Wholes::new(alloc);
-    'each: loop {
-        match walk.next(disk)? {
-            Some(whole) => wholes.push(whole)?,
-            None => return Ok(wholes),
-        }
+    let mut index = Index::new(alloc);
+    for row in rows {
+        index.reserve(&[row.oid])?;
+        index.put(row.oid, row.place);
+    }
+    Ok(index)
+}
+
+// One more than the greatest object id, 0 where there is none.
+fn above(greatest: Option<Oid>) -> u128
+    ensures next { result ≡ above greatest }
+    ensures bound { result ≤ 2 ^ 64 }
+{
+    match greatest {
+        Some(oid) => u128::from(oid.0) + 1,
+        None => 0,
     }
 }
 
-// What the disk's file says. The scan comes first: it finds where the file ends, and each damage before any value is
-// read.
+// What the disk's file says, by a scan.
 fn read_file<D: Disk>(alloc: Global, disk: &mut D) -> Result<FileRead, ScanRefusal>
     ensures reads { IfOk result (λ read. IfSome (D.told disk.old) (λ told. Reads (content told) read)) }
-    ensures sound { IfOk result (λ read. IsSound read.past) }
+    ensures bound { IfOk result (λ read. read.known.next ≤ 2 ^ 64) }
     ensures damaged { (kind : Kind) (place : ℕ) → IsErrOf result (ScanRefusal.Damaged kind place) → IfSome (D.told disk.old) (λ told. Damaged (content told) place kind) }
     ensures same { D.told disk.new ≡ D.told disk.old }
     ensures spare { (D.spare_calls disk.new ≡ D.spare_calls disk.old) × (D.spare_bytes disk.new ≡ D.spare_bytes disk.old) }
@@ -105,12 +107,24 @@ fn read_file<D: Disk>(alloc: Global, disk: &mut D) -> Result<FileRead, ScanRefus
     let Scanned {
         end,
         torn,
-        floor,
+        greatest,
+        last,
+        count,
+        rows,
         ..
     } = scan(alloc, disk)?;
-    let wholes = read_all(alloc, disk)?;
-    let past = Past::new(alloc, floor, wholes)?;
-    Ok(FileRead { past, end, torn })
+    let index = index_of(alloc, rows.as_slice())?;
+    let next = above(greatest);
+    Ok(FileRead {
+        known: Known {
+            index,
+            end,
+            last,
+            next,
+            count,
+        },
+        torn,
+    })
 }
 
 // Cuts off what stands behind the file's end, and syncs.
@@ -128,8 +142,8 @@ fn cut_off<D: Disk>(disk: &mut D, end: u64) -> Result<(), Failed>
 /// Opens the disk's file: syncs it, reads it, and cuts off what stands behind its end.
 pub(crate) fn open_file<D: Disk>(alloc: Global, disk: &mut D) -> Result<FileRead, OpenRefusal>
     ensures reads { IfOk result (λ read. IfSome (D.told disk.old) (λ told. (length (content told) ≤ most_length) × Reads (content told) read)) }
-    ensures sound { IfOk result (λ read. IsSound read.past) }
-    ensures tidies { IfOk result (λ read. Tidies (D.told disk.old) (D.told disk.new) read.end read.torn) }
+    ensures bound { IfOk result (λ read. read.known.next ≤ 2 ^ 64) }
+    ensures tidies { IfOk result (λ read. Tidies (D.told disk.old) (D.told disk.new) read.known.end read.torn) }
     ensures refused { IfErr result (IsRefusedFor (D.told disk.old)) }
     ensures left { IfErr result (LeavesDisk (D.told disk.old) (D.told disk.new)) }
     ensures counts { Counts (D.counter disk.old) (D.counter disk.new) (IsErrOf result OpenRefusal.Disk) }
@@ -144,6 +158,6 @@ pub(crate) fn open_file<D: Disk>(alloc: Global, disk: &mut D) -> Result<FileRead
     if read.torn == 0 {
         return Ok(read);
     }
-    cut_off(disk, read.end)?;
+    cut_off(disk, read.known.end)?;
     Ok(read)
 }

@@ -1,20 +1,35 @@
-ghost use Rattle.std.specs.Prelude.{◌≡◌, ◌+◌, ◌++◌, ◌^◌, ◌<◌, ◌≤◌, drop, length, map, take, IfOk};
+ghost use Rattle.std.specs.Prelude.{◌≡◌, ◌+◌, ◌++◌, ◌^◌, ◌<◌, ◌≤◌, [], true, All, drop, length, take, IfOk, IfSome, IsErr, IsErrOf};
 ghost use Rattle.std.specs.Int.{to_be_bytes, w64};
 ghost use Rattle.std.specs.List.{AllByRecursion};
+ghost use Rattle.zbase.specs.Faults.{Counts};
 ghost use Rattle.zbase.specs.History.{History};
-ghost use Rattle.zbase.specs.Values.{next};
-ghost use Rattle.evaluator.specs.Settle.{by_oid, filled, oid_of, record_of, settle};
-ghost use Rattle.fs_scan.specs.Wholes.{records_in, transaction_in};
-ghost use Rattle.fs_store.specs.Drafts.{FitsEntries, FitsEntry, FitsHole, FitsName};
-ghost use Rattle.fs_store.specs.Pasts.{history_of, IsSound};
+ghost use Rattle.zbase.specs.Values.{next, upto, value};
+ghost use Rattle.evaluator.specs.Settle.{filled, oid_of, record_of, size_of_entry};
+ghost use Rattle.fs_record.specs.declared.body.Body.{Body};
+ghost use Rattle.fs_record.specs.File.{is_right_body, rows, value_of};
+ghost use Rattle.fs_record.specs.Sizes.{record_size, records_size};
+ghost use Rattle.fs_record.specs.Written.{HasBody, IsBody};
+ghost use Rattle.fs_store.specs.Drafts.{FitsEntries, FitsEntry, FitsHole, FitsName, HasNoRestore, IsWrite, sizes_of};
+ghost use Rattle.fs_store.specs.Fronts.{history_at, records_at};
+ghost use Rattle.fs_store.specs.Knowing.{IsKnown};
+ghost use Rattle.fs_store.specs.Settled.{AreOf, IsRight, IsSettled, SettlesAs, in_order, says};
 
-use crate::past::Past;
+use crate::LoadRefusal;
+use crate::finding::find;
+use crate::known::Known;
 use byteorder::{BigEndian, ByteOrder};
 use evaluator::{Draft, Entry, Hole, Name};
-use fs_record::TxnTexts;
-use fs_scan::{OidValue, OidValues, Whole};
+use fs_record::{Body, Item, TxnTexts};
 use std::alloc::Global;
-use zbase::{Bytes, Memory, Oid, Tid};
+use zbase::{Bytes, Failed, Items, Memory, Oid, Tid};
+use zdisk::Disk;
+
+/// What is written of a draft: its texts, and its data records by rising object ids.
+#[derive(Drop)]
+pub(crate) struct Settled {
+    pub(crate) texts: TxnTexts,
+    pub(crate) items: Items<Item>,
+}
 
 // Puts an id into the eight bytes at a place.
 fn put_id(bytes: &mut [u8], at: usize, id: u64)
@@ -27,7 +42,8 @@ fn put_id(bytes: &mut [u8], at: usize, id: u64)
 // A copy of the bytes with the ids of the new objects in the holes; the first new object has the id `first`.
 fn filled(alloc: Global, bytes: &Bytes, holes: &[Hole], first: u128) -> Result<Bytes, Memory>
     requires { AllByRecursion (FitsHole first (length bytes.now)) holes.now }
-    ensures { IfOk result (λ copy. copy ≡ filled first bytes.now holes.now) }
+    ensures filled { IfOk result (λ copy. copy ≡ filled first bytes.now holes.now) }
+    ensures long { IfOk result (λ copy. length copy ≡ length bytes.now) }
 {
     let mut copy = Vec::from_slice(alloc, bytes.as_slice())?;
     for hole in holes {
@@ -48,85 +64,126 @@ fn oid_of(name: Name, first: u128) -> u64
     }
 }
 
-// The record of an entry.
-fn record_of(alloc: Global, past: &Past, entry: &Entry, first: u128) -> Result<OidValue, Memory>
-    requires sound { IsSound past.now }
-    requires first { first ≡ next (history_of past.now) }
-    requires fits { FitsEntry first entry.now }
-    ensures { IfOk result (λ written. (written.oid, written.value) ≡ record_of (history_of past.now) entry.now) }
+// Where the record stands whose value is put back, 0 where the object had none.
+fn place_of<D: Disk>(disk: &mut D, known: &Known, oid: Oid, to: Tid) -> Result<u64, Failed>
+    requires { IsKnown (D.told disk.old) known.now known.now.end }
+    ensures value { IfOk result (λ place. IfSome (D.told disk.old) (λ told. value_of (records_at told known.now.end) (Body.Back place) ≡ value (upto (history_at told known.now.end) to) oid)) }
+    ensures right { IfOk result (λ place. IfSome (D.told disk.old) (λ told. is_right_body (rows (records_at told known.now.end)) oid (Body.Back place) ≡ true)) }
+    ensures same { D.told disk.new ≡ D.told disk.old }
+    ensures spare { (D.spare_calls disk.new ≡ D.spare_calls disk.old) × (D.spare_bytes disk.new ≡ D.spare_bytes disk.old) }
+    ensures counts { Counts (D.counter disk.old) (D.counter disk.new) (IsErr result) }
+{
+    match find(disk, known, known.end, oid, to)? {
+        None => Ok(0),
+        Some(found) => Ok(found.place),
+    }
+}
+
+// The data record of an entry. What is put back isn't written again: a back pointer leads to it.
+fn item_of<D: Disk>(
+    alloc: Global,
+    disk: &mut D,
+    known: &Known,
+    entry: &Entry,
+) -> Result<Item, LoadRefusal>
+    requires known { IsKnown (D.told disk.old) known.now known.now.end }
+    requires fits { FitsEntry known.now.next entry.now }
+    ensures said { IfOk result (λ item. IfSome (D.told disk.old) (λ told. says (records_at told known.now.end) item ≡ record_of (history_at told known.now.end) entry.now)) }
+    ensures right { IfOk result (λ item. IfSome (D.told disk.old) (λ told. IsRight (records_at told known.now.end) item)) }
+    ensures body { IfOk result HasBody }
+    ensures size { IfOk result (λ item. record_size item ≡ size_of_entry entry.now) }
+    ensures calls { IsWrite entry.now → D.device_calls disk.new ≡ D.device_calls disk.old }
+    ensures same { D.told disk.new ≡ D.told disk.old }
+    ensures spare { (D.spare_calls disk.new ≡ D.spare_calls disk.old) × (D.spare_bytes disk.new ≡ D.spare_bytes disk.old) }
+    ensures counts { Counts (D.counter disk.old) (D.counter disk.new) (IsErrOf result LoadRefusal.Disk) }
 {
     match entry {
         Entry::Write { name, bytes, holes } => {
-            let oid = Oid(oid_of(*name, first));
-            let value = filled(alloc, bytes, holes.as_slice(), first)?;
-            Ok(OidValue {
+            let oid = Oid(oid_of(*name, known.next));
+            let value = filled(alloc, bytes, holes.as_slice(), known.next)?;
+            Ok(Item {
                 oid,
-                value: Some(value),
+                prev: known.place(oid),
+                body: Body::Full(value),
             })
         }
         Entry::Restore { oid, to } => {
-            let loaded = past.load(*oid, to.0)?;
-            Ok(OidValue {
+            let place = place_of(disk, known, *oid, *to)?;
+            Ok(Item {
                 oid: *oid,
-                value: loaded.value,
+                prev: known.place(*oid),
+                body: Body::Back(place),
             })
         }
     }
 }
 
-// The records of the entries, in the entries' order.
-fn records_of(
+// The data records of the entries, in the entries' order.
+fn items_of<D: Disk>(
     alloc: Global,
-    past: &Past,
+    disk: &mut D,
+    known: &Known,
     entries: &[Entry],
-    first: u128,
-) -> Result<Vec<OidValue>, Memory>
-    requires sound { IsSound past.now }
-    requires first { first ≡ next (history_of past.now) }
-    requires fits { FitsEntries first entries.now }
-    ensures { IfOk result (λ records. records_in records.items ≡ map (record_of (history_of past.now)) entries.now) }
+) -> Result<Vec<Item>, LoadRefusal>
+    requires known { IsKnown (D.told disk.old) known.now known.now.end }
+    requires fits { FitsEntries known.now.next entries.now }
+    ensures are { IfOk result (λ items. IfSome (D.told disk.old) (λ told. AreOf told known.now.end entries.now items.items)) }
+    ensures bodies { IfOk result (λ items. All HasBody items.items) }
+    ensures size { IfOk result (λ items. records_size items.items ≡ sizes_of entries.now) }
+    ensures calls { AllByRecursion IsWrite entries.now → D.device_calls disk.new ≡ D.device_calls disk.old }
+    ensures same { D.told disk.new ≡ D.told disk.old }
+    ensures spare { (D.spare_calls disk.new ≡ D.spare_calls disk.old) × (D.spare_bytes disk.new ≡ D.spare_bytes disk.old) }
+    ensures counts { Counts (D.counter disk.old) (D.counter disk.new) (IsErrOf result LoadRefusal.Disk) }
 {
-    let mut records = Vec::new(alloc);
+    let mut items = Vec::new(alloc);
     for entry in entries {
-        records.push(record_of(alloc, past, entry, first)?)?;
+        items.push(item_of(alloc, disk, known, entry)?)?;
     }
-    Ok(records)
+    Ok(items)
 }
 
-// The records by rising ids. Of two records of an object the one of the later entry comes first.
-fn by_oid(records: Vec<OidValue>) -> Result<Vec<OidValue>, Memory>
-    ensures { IfOk result (λ sorted. records_in sorted.items ≡ by_oid (records_in records.items)) }
+// The items by rising ids. Of two of an object the one of the later entry comes first.
+fn by_oid(items: Vec<Item>) -> Result<Vec<Item>, Memory>
+    ensures { IfOk result (λ sorted. sorted.items ≡ in_order items.items) }
 {
-    let mut records = records;
-    records.reverse();
-    records.sort_by_key(|record| record.oid.0)?;
-    Ok(records)
+    let mut items = items;
+    items.reverse();
+    items.sort_by_key(|item| item.oid.0)?;
+    Ok(items)
 }
 
-/// The transaction that a draft becomes behind the past, at a place in the file.
-pub(crate) fn settle(
-    alloc: Global,
-    past: &Past,
-    draft: &Draft,
-    tid: Tid,
-    place: u64,
-) -> Result<Whole, Memory>
-    requires sound { IsSound past.now }
-    requires fits { FitsEntries (next (history_of past.now)) draft.now.entries }
-    ensures { IfOk result (λ whole. transaction_in whole ≡ settle (history_of past.now) draft.now tid) }
+// The draft's texts.
+fn texts_of(alloc: Global, draft: &Draft) -> Result<TxnTexts, Memory>
+    ensures { IfOk result (λ texts. texts ≡ record { user = draft.now.user; description = draft.now.description; extension = [] }) }
 {
-    let first = past.next();
-    let records = by_oid(records_of(alloc, past, draft.entries.as_slice(), first)?)?;
-    let texts = TxnTexts {
+    Ok(TxnTexts {
         user: Bytes::from_slice(alloc, draft.user.as_bytes())?,
         description: Bytes::from_slice(alloc, draft.description.as_bytes())?,
         extension: Bytes::new(alloc),
-    };
-    Ok(Whole {
-        place,
-        status: b' ',
-        tid,
+    })
+}
+
+/// What is written of a draft behind the file. Only what is put back is looked for on the disk.
+pub(crate) fn settle<D: Disk>(
+    alloc: Global,
+    disk: &mut D,
+    known: &Known,
+    draft: &Draft,
+) -> Result<Settled, LoadRefusal>
+    requires known { IsKnown (D.told disk.old) known.now known.now.end }
+    requires fits { FitsEntries known.now.next draft.now.entries }
+    ensures settles { IfOk result (λ settled. IfSome (D.told disk.old) (λ told. SettlesAs told known.now.end draft.now settled)) }
+    ensures settled { IfOk result (λ settled. IsSettled draft.now settled) }
+    ensures calls { HasNoRestore draft.now → D.device_calls disk.new ≡ D.device_calls disk.old }
+    ensures same { D.told disk.new ≡ D.told disk.old }
+    ensures spare { (D.spare_calls disk.new ≡ D.spare_calls disk.old) × (D.spare_bytes disk.new ≡ D.spare_bytes disk.old) }
+    ensures counts { Counts (D.counter disk.old) (D.counter disk.new) (IsErrOf result LoadRefusal.Disk) }
+{
+    let items = items_of(alloc, disk, known, draft.entries.as_slice())?;
+    let items = by_oid(items)?;
+    let texts = texts_of(alloc, draft)?;
+    Ok(Settled {
         texts,
-        values: OidValues::from_vec(records),
+        items: Items::from_vec(items),
     })
 }

@@ -1,51 +1,61 @@
-ghost use Rattle.std.specs.Prelude.{◌≡◌, ◌==◌, ◌≤◌, ◌<◌, ◌⊎◌, ℕ, false, IfOk, IfErr, None, OnOk, OnErr, Some, length, map};
+ghost use Rattle.std.specs.Prelude.{◌≡◌, ◌⊎◌, ◌<◌, ◌≤◌, All, List, ℕ, false, IfErr, IfOk, IfSome, IsErr, IsErrOf, None, OnErr, OnOk, Some, length, map};
 ghost use Rattle.std.specs.Option.{option_map};
 ghost use Rattle.zbase.specs.Faults.{Counts};
-ghost use Rattle.zbase.specs.History.{IsHistory};
+ghost use Rattle.zbase.specs.History.{IsHistory, added};
 ghost use Rattle.zbase.specs.Values.{last, serial, transaction, upto, value};
+ghost use Rattle.zdisk.specs.Crashes.{IsSynced};
+ghost use Rattle.zdisk.specs.Disk.{content, counted};
+ghost use Rattle.zdisk.specs.Images.{IsImage};
 ghost use Rattle.evaluator.specs.Facts.{log_row, parts_of};
-ghost use Rattle.fs_scan.specs.Wholes.{history_in, transaction_in};
-ghost use Rattle.fs_store.specs.Kept.{IsFree};
+ghost use Rattle.fs_store.specs.Drafts.{HasNoRestore};
+ghost use Rattle.fs_store.specs.Moments.{IsWhole, KeepsOpening, OpensTo, OpensToEither};
 ghost use Rattle.fs_store.specs.Opened.{IsRefusedFor, LeavesDisk, Opens};
-ghost use Rattle.fs_store.specs.Stores.{Out, IsDraft, IsVoteOf, finished, most_length, voting};
-ghost use Rattle.fs_store.specs.Verdicts.{greatest_number, spent, tid_at, verdict, voted_out};
+ghost use Rattle.fs_store.specs.Seeing.{IsSeen};
+ghost use Rattle.fs_store.specs.Stores.{IsDraft, IsTold, IsVoteOf, Out, Stays, finished, most_length, on_disk, staled, voting};
+ghost use Rattle.fs_store.specs.Verdicts.{tid_at, verdict, voted_out};
 ghost use Rattle.fs_store.specs.declared.opening.OpenRefusal.{OpenRefusal};
+ghost use Rattle.fs_store.specs.declared.refusal.FinishRefusal.{FinishRefusal};
+ghost use Rattle.fs_store.specs.declared.refusal.LoadRefusal.{LoadRefusal};
+ghost use Rattle.fs_store.specs.declared.reads.Seen.{Seen};
 ghost use Rattle.fs_store.specs.declared.refusal.VoteRefusal.{VoteRefusal};
 
+use crate::committing::{abort_on, finish_on, vote_on};
+use crate::known::Known;
 use crate::opening::{FileRead, open_file};
-use crate::past::Past;
-use crate::settling::settle;
-use crate::voting::{clash_among, made_by, size_of};
 use crate::waiting::Waiting;
-use crate::{Loaded, OpenRefusal, Seen, VoteRefusal, Voted, parts};
+use crate::{
+    AbortRefusal, FinishRefusal, LoadRefusal, Loaded, OpenRefusal, Seen, VoteRefusal, Voted,
+    loading, parts,
+};
 use evaluator::{Draft, LogRows, Parts};
-use fs_scan::{Whole, Wholes};
 use std::alloc::Global;
 use std::marker::Model;
-use zbase::{Memory, Oid, Tid};
+use zbase::{Oid, Tid};
 use zdisk::Disk;
 
-/// A history that grows by voted transactions.
+/// The history of a disk's file, which grows by voted transactions. It is read where it stands.
 #[derive(Drop)]
 pub struct Store<D: Disk + Drop> {
+    alloc: Global,
     disk: D,
-    past: Past,
-    end: u64,
+    known: Known,
     limit: u64,
     out: Option<Waiting>,
+    stale: bool,
 }
 
 impl<D: Disk + Drop> Model for Store<D> {
+    ghost use Rattle.std.specs.Prelude.{◌≡◌, ◌≤◌, false};
     ghost use Rattle.std.specs.Option.{option_map};
+    ghost use Rattle.fs_store.specs.Fronts.{history_where};
     ghost use Rattle.fs_store.specs.Kept.{IsKept, out_of};
-    ghost use Rattle.fs_store.specs.Pasts.{history_of};
-    ghost use Rattle.fs_store.specs.Stores.{StoreView};
+    ghost use Rattle.fs_store.specs.Stores.{StoreView, most_length};
 
     ghost Value = { StoreView };
 
-    ghost view = { λ store. record { history = history_of store.past; end = store.end; limit = store.limit; out = option_map out_of store.out; disk = record { told = D.told store.disk; counter = D.counter store.disk; calls = D.device_calls store.disk; spare_calls = D.spare_calls store.disk; spare_bytes = D.spare_bytes store.disk } } };
+    ghost view = { λ store. record { history = history_where (D.told store.disk) store.known.end; end = store.known.end; limit = store.limit; out = option_map (out_of (D.told store.disk) store.known.end) store.out; stale = store.stale; disk = record { told = D.told store.disk; counter = D.counter store.disk; calls = D.device_calls store.disk; spare_calls = D.spare_calls store.disk; spare_bytes = D.spare_bytes store.disk } } };
 
-    ghost invariant = { λ store. IsKept store.past store.end store.limit store.out };
+    ghost invariant = { λ store. (store.limit ≤ most_length) × (store.stale ≡ false → IsKept (D.told store.disk) store.known store.limit store.out (D.spare_calls store.disk) (D.spare_bytes store.disk)) };
 }
 
 impl<D: Disk + Drop> Store<D> {
@@ -65,104 +75,100 @@ impl<D: Disk + Drop> Store<D> {
         let mut disk = disk;
         match open_file(alloc, &mut disk) {
             Ok(opened) => {
-                let FileRead { past, end, torn: _ } = opened;
+                let FileRead { known, torn: _ } = opened;
                 Ok(Store {
+                    alloc,
                     disk,
-                    past,
-                    end,
+                    known,
                     limit,
                     out: None,
+                    stale: false,
                 })
             }
             Err(refusal) => Err((refusal, disk)),
         }
     }
 
-    /// A store of these transactions, from the oldest, of which none is packed, in a file that ends at `end` and may
-    /// have `limit` bytes: nothing is read of the disk. For want of memory it comes back.
-    pub fn new(
-        alloc: Global,
-        disk: D,
-        transactions: Wholes,
-        end: u64,
-        limit: u64,
-    ) -> Result<Store<D>, (Memory, D)>
-        requires history { IsHistory (history_in 0 transactions) }
-        requires limit { limit ≤ most_length }
-        ensures ok { IfOk result (λ store. (store.history ≡ history_in 0 transactions) × (store.end ≡ end) × (store.limit ≡ limit) × (store.out ≡ None)) }
-        ensures back { IfErr result (λ (_, back). back ≡ disk) }
-    {
-        match Past::new(alloc, Tid(0), transactions) {
-            Ok(past) => Ok(Store {
-                disk,
-                past,
-                end,
-                limit,
-                out: None,
-            }),
-            Err(memory) => Err((memory, disk)),
-        }
-    }
-
-    /// Ids of transactions rise from above 0, and that of a vote that is out is above the last.
+    /// Where the disk tells, ids of transactions rise from above 0, that of a vote that is out is above the last, and the
+    /// one image of the disk opens to the history; where no vote is out, it is a file of it.
     pub fn is_sound(&self)
-        ensures history { IsHistory self.now.history }
-        ensures later { (o : Out) → self.now.out ≡ Some o → last self.now.history < o.transaction.tid }
+        requires fresh { self.now.stale ≡ false }
+        ensures history { IsTold self.now → IsHistory self.now.history }
+        ensures later { IsTold self.now → (o : Out) → self.now.out ≡ Some o → last self.now.history < o.transaction.tid }
+        ensures image { IfSome self.now.disk.told (λ told. IsSynced told × OpensTo (content told) self.now.history) }
+        ensures whole { self.now.out ≡ None → IfSome self.now.disk.told (λ told. IsWhole self.now (content told)) }
     {
-        let _ = &self.past;
-    }
-
-    /// The transactions, from the oldest. A vote that is out isn't among them.
-    pub fn transactions(&self) -> &[Whole]
-        ensures { map transaction_in result.now ≡ self.now.history.transactions }
-    {
-        self.past.transactions()
+        let _ = &self.known;
     }
 
     /// The number of transactions.
-    pub fn len(&self) -> usize
-        ensures { result ≡ length self.now.history.transactions }
+    pub fn len(&self) -> u64
+        requires fresh { self.now.stale ≡ false }
+        ensures { IsTold self.now → result ≡ length self.now.history.transactions }
     {
-        self.past.transactions().len()
+        self.known.count
     }
 
     /// The id of the last transaction, 0 where there is none. Takes no memory.
     pub fn last(&self) -> Tid
-        ensures { result ≡ last self.now.history }
+        requires fresh { self.now.stale ≡ false }
+        ensures { IsTold self.now → result ≡ last self.now.history }
     {
-        self.past.last()
+        self.known.last
+    }
+
+    // How many bytes the disk's file has, with a vote that is out.
+    fn long(&self) -> u64
+        requires fresh { self.now.stale ≡ false }
+        ensures { IfSome self.now.disk.told (λ told. result ≡ length (content told)) }
+    {
+        match &self.out {
+            Some(waiting) => self.known.end + waiting.size,
+            None => self.known.end,
+        }
     }
 
     /// What the object was up to the transaction `at`.
-    pub fn load(&mut self, oid: Oid, at: Tid) -> Result<Loaded, Memory>
-        requires at { at ≤ last self.old.history }
-        ensures value { IfOk result (λ loaded. (loaded.value ≡ value (upto self.old.history at) oid) × (loaded.serial ≡ serial (upto self.old.history at) oid)) }
-        ensures same { self.new ≡ self.old }
+    pub fn load(&mut self, oid: Oid, at: Tid) -> Result<Loaded, LoadRefusal>
+        requires fresh { self.old.stale ≡ false }
+        ensures value { IfOk result (λ loaded. IsTold self.old → (loaded.value ≡ value (upto self.old.history at) oid) × (loaded.serial ≡ serial (upto self.old.history at) oid)) }
+        ensures seen { IfOk result (λ loaded. IsSeen self.new (record { oid = oid; serial = loaded.serial; place = loaded.place })) }
+        ensures same { Stays self.old self.new }
+        ensures any_moment { KeepsOpening self.old self.new }
+        ensures counts { Counts self.old.disk.counter self.new.disk.counter (IsErrOf result LoadRefusal.Disk) }
     {
-        self.past.load(oid, at.0)
+        let len = self.long();
+        loading::load(self.alloc, &mut self.disk, &self.known, len, oid, at)
     }
 
     /// What the transaction did, where there is one with this id up to the transaction `at`.
-    pub fn transaction(&mut self, tid: Tid, at: Tid) -> Result<Option<Parts>, Memory>
-        requires at { at ≤ last self.old.history }
-        ensures parts { IfOk result (λ parts. parts ≡ option_map (parts_of (upto self.old.history at)) (transaction (upto self.old.history at) tid)) }
-        ensures same { self.new ≡ self.old }
+    pub fn transaction(&mut self, tid: Tid, at: Tid) -> Result<Option<Parts>, LoadRefusal>
+        requires fresh { self.old.stale ≡ false }
+        ensures parts { IfOk result (λ parts. IsTold self.old → parts ≡ option_map (parts_of (upto self.old.history at)) (transaction (upto self.old.history at) tid)) }
+        ensures same { Stays self.old self.new }
+        ensures any_moment { KeepsOpening self.old self.new }
+        ensures counts { Counts self.old.disk.counter self.new.disk.counter (IsErrOf result LoadRefusal.Disk) }
     {
-        parts::transaction(self.past.alloc(), &self.past, tid.0, at.0)
+        let len = self.long();
+        parts::transaction(self.alloc, &mut self.disk, &self.known, len, tid.0, at.0)
     }
 
     /// Who did what, up to the transaction `at`.
-    pub fn log(&mut self, at: Tid) -> Result<LogRows, Memory>
-        requires at { at ≤ last self.old.history }
-        ensures rows { IfOk result (λ rows. rows ≡ map log_row (upto self.old.history at).transactions) }
-        ensures same { self.new ≡ self.old }
+    pub fn log(&mut self, at: Tid) -> Result<LogRows, LoadRefusal>
+        requires fresh { self.old.stale ≡ false }
+        ensures rows { IfOk result (λ rows. IsTold self.old → rows ≡ map log_row (upto self.old.history at).transactions) }
+        ensures same { Stays self.old self.new }
+        ensures any_moment { KeepsOpening self.old self.new }
+        ensures counts { Counts self.old.disk.counter self.new.disk.counter (IsErrOf result LoadRefusal.Disk) }
     {
-        parts::log(self.past.alloc(), &self.past, at.0)
+        let len = self.long();
+        parts::log(self.alloc, &mut self.disk, &self.known, len, at.0)
     }
 
-    /// Votes for a draft that rests on these reads, for a worker. With `Ok` the vote is out: its transaction stands
-    /// once it is finished, and never if it is aborted. All memory that these two need is taken here. With `Err` the
-    /// draft comes back.
+    /// Votes for a draft that rests on these reads, for a worker. With `Ok` the vote is out: its transaction stands behind
+    /// the file, doesn't count yet, and counts once it is finished, and never if it is aborted. All memory that these two
+    /// need is taken here. With `Err` the draft comes back. The record is written and synced by exactly two device calls,
+    /// behind those that find what is put back.
     pub fn vote(
         &mut self,
         holder: u32,
@@ -170,135 +176,124 @@ impl<D: Disk + Drop> Store<D> {
         reads: &[Seen],
         now: Tid,
     ) -> Result<Voted, (VoteRefusal, Draft)>
+        requires fresh { self.old.stale ≡ false }
         requires rules { IsDraft draft }
-        ensures free { IfOk result (λ _. verdict self.old reads.now draft ≡ None) }
-        ensures tid { IfOk result (λ voted. voted ≡ tid_at self.old.history now) }
-        ensures out { IfOk result (λ voted. self.new ≡ voting self.old (Some (voted_out self.old holder draft voted))) }
-        ensures refused { IfErr result (λ (refusal, _). (refusal ≡ VoteRefusal.Memory) ⊎ (verdict self.old reads.now draft ≡ Some refusal)) }
-        // A vote that is refused since another is out takes no memory.
-        ensures busy { IfErr result (λ (refusal, _). refusal ≡ VoteRefusal.Memory → self.old.out ≡ None) }
+        requires seen { All (IsSeen self.old) reads.now }
+        ensures free { IfOk result (λ _. IsTold self.old → verdict self.old reads.now draft ≡ None) }
+        ensures tid { IfOk result (λ voted. IsTold self.old → voted ≡ tid_at self.old.history now) }
+        ensures out { IfOk result (λ voted. IsTold self.old → self.new ≡ voting self.old (Some (voted_out self.old holder draft voted)) self.new.disk) }
+        ensures held { IfOk result (λ voted. IsVoteOf self.new voted × (self.new.stale ≡ false)) }
+        ensures refused { IfErr result (λ (refusal, _). IsTold self.old → (refusal ≡ VoteRefusal.Memory) ⊎ ((refusal ≡ VoteRefusal.Disk) ⊎ (verdict self.old reads.now draft ≡ Some refusal))) }
+        // A vote that is refused since another is out takes no memory and no device call.
+        ensures busy { IfErr result (λ (refusal, _). (refusal ≡ VoteRefusal.Memory) ⊎ (refusal ≡ VoteRefusal.Disk) → self.old.out ≡ None) }
         ensures back { IfErr result (λ (_, back). back ≡ draft) }
-        ensures same { IfErr result (λ _. self.new ≡ self.old) }
-    {
-        if let Some(refusal) = self.refusal(&draft, reads) {
-            return Err((refusal, draft));
-        }
-        let tid = self.tid_at(now);
-        match self.wait(holder, &draft, tid) {
-            Ok(()) => Ok(Voted::new(tid)),
-            Err(_) => Err((VoteRefusal::Memory, draft)),
-        }
-    }
-
-    // The first refusal of a vote that applies.
-    fn refusal(&self, draft: &Draft, reads: &[Seen]) -> Option<VoteRefusal>
-        requires { IsDraft draft.now }
-        ensures { result ≡ verdict self.now reads.now draft.now }
+        ensures stays { IfErr result (λ (refusal, _). (refusal ≡ VoteRefusal.Disk → ⊥) → (self.new ≡ on_disk self.old self.new.disk) × (self.new.disk.told ≡ self.old.disk.told)) }
+        ensures stale { IfErr result (λ (refusal, _). refusal ≡ VoteRefusal.Disk → self.new ≡ staled self.old self.new.disk) }
+        ensures seen { (seen : Seen) → IsSeen self.old seen → IsSeen self.new seen }
+        ensures any_moment { KeepsOpening self.old self.new }
+        ensures calls { IfOk result (λ _. HasNoRestore draft → self.new.disk.calls ≡ counted (counted self.old.disk.calls)) }
+        ensures counts { IfOk result (λ _. Counts self.old.disk.counter self.new.disk.counter ⊥) }
+        ensures fault { IfErr result (λ (refusal, _). Counts self.old.disk.counter self.new.disk.counter (refusal ≡ VoteRefusal.Disk)) }
     {
         if let Some(waiting) = &self.out {
-            return Some(VoteRefusal::Busy(waiting.holder));
+            return Err((VoteRefusal::Busy(waiting.holder), draft));
         }
-        match clash_among(&self.past, reads) {
-            Some(clash) => Some(VoteRefusal::Conflict(clash)),
-            None => self.spent(draft),
-        }
-    }
-
-    // The first thing that is spent.
-    fn spent(&self, draft: &Draft) -> Option<VoteRefusal>
-        requires { IsDraft draft.now }
-        ensures { result ≡ spent self.now draft.now }
-    {
-        let last = self.past.last();
-        if last.0 == u64::MAX {
-            return Some(VoteRefusal::TidsSpent);
-        }
-        let made = made_by(draft);
-        let next = self.past.next();
-        if made > 0 && next + u128::from(made) > u128::from(u64::MAX) {
-            return Some(VoteRefusal::OidsSpent((next - 1) as u64, made));
-        }
-        let need = self.end.saturating_add(size_of(draft));
-        if self.limit < need {
-            return Some(VoteRefusal::Full(need, self.limit));
-        }
-        None
-    }
-
-    // The transaction id that a vote takes: the clock's stamp, or the next one where the clock stands still.
-    fn tid_at(&self, now: Tid) -> Tid
-        requires { (last self.now.history == greatest_number) ≡ false }
-        ensures tid { result ≡ tid_at self.now.history now }
-        ensures later { last self.now.history < result }
-    {
-        let last = self.past.last();
-        if last.0 < now.0 { now } else { Tid(last.0 + 1) }
-    }
-
-    // Lets the draft wait as a transaction with this id, with all the room that it needs to stand.
-    fn wait(&mut self, holder: u32, draft: &Draft, tid: Tid) -> Result<(), Memory>
-        requires rules { IsDraft draft.now }
-        requires free { IsFree self.old draft.now }
-        requires later { last self.old.history < tid }
-        ensures out { OnOk result (self.new ≡ voting self.old (Some (voted_out self.old holder draft.now tid))) }
-        ensures same { OnErr result (self.new ≡ self.old) }
-    {
-        let transaction = settle(self.past.alloc(), &self.past, draft, tid, self.end)?;
-        self.past.reserve(transaction.values.as_slice())?;
-        let size = size_of(draft);
-        self.out = Some(Waiting {
+        let voted = vote_on(
+            self.alloc,
+            &mut self.disk,
+            &mut self.known,
+            self.limit,
             holder,
-            transaction,
-            size,
-        });
-        Ok(())
+            &draft,
+            reads,
+            now,
+        );
+        match voted {
+            Ok(waiting) => {
+                let tid = waiting.tid;
+                self.out = Some(waiting);
+                Ok(Voted::new(tid))
+            }
+            Err(refusal) => {
+                self.stale = refusal == VoteRefusal::Disk;
+                Err((refusal, draft))
+            }
+        }
     }
 
-    /// The voted transaction stands from now on. Takes no memory.
-    pub fn finish(&mut self, voted: Voted) -> Tid
-        requires { IsVoteOf self.old voted }
-        ensures tid { result ≡ voted }
-        ensures stands { self.new ≡ finished self.old self.old.out }
+    /// The voted transaction counts from now on. Takes no memory, and makes exactly two device calls. Where one of them
+    /// failed the store is stale, and whether the transaction counts is known once the disk is opened again.
+    pub fn finish(&mut self, voted: Voted) -> Result<Tid, FinishRefusal>
+        requires fresh { self.old.stale ≡ false }
+        requires vote { IsVoteOf self.old voted }
+        ensures tid { IfOk result (λ tid. tid ≡ voted) }
+        ensures stands { OnOk result (IsTold self.old → self.new ≡ finished self.old self.old.out self.new.disk) }
+        ensures done { OnOk result ((self.new.out ≡ None) × (self.new.stale ≡ false)) }
+        ensures every_image { OnOk result (IfSome self.new.disk.told (λ told. (image : List ℕ) → IsImage told.now image → OpensTo image self.new.history)) }
+        ensures unknown { IfErr result (λ refusal. refusal ≡ FinishRefusal.Unknown voted) }
+        ensures stale { OnErr result (self.new ≡ staled self.old self.new.disk) }
+        ensures seen { OnOk result ((seen : Seen) → IsSeen self.old seen → IsSeen self.new seen) }
+        ensures any_moment { (o : Out) → self.old.out ≡ Some o → OpensToEither self.old self.new (added self.old.history o.transaction) }
+        ensures calls { OnOk result (self.new.disk.calls ≡ counted (counted self.old.disk.calls)) }
+        ensures counts { Counts self.old.disk.counter self.new.disk.counter (IsErr result) }
     {
         let tid = voted.spend();
         match self.out.take() {
             Some(waiting) => {
-                let Waiting {
-                    transaction,
-                    size,
-                    ..
-                } = waiting;
-                self.past.add(transaction);
-                self.end += size;
-                tid
+                match finish_on(&mut self.disk, &mut self.known, self.limit, waiting) {
+                    Ok(()) => Ok(tid),
+                    Err(_) => {
+                        self.stale = true;
+                        Err(FinishRefusal::Unknown(tid))
+                    }
+                }
             }
             None => unreachable!(),
         }
     }
 
-    /// The voted transaction never stands. Takes no memory.
-    pub fn abort(&mut self, voted: Voted)
-        requires { IsVoteOf self.old voted }
-        ensures { self.new ≡ voting self.old None }
+    /// The voted transaction never counts: its record is cut off. Takes no memory, and makes exactly two device calls.
+    /// Where one of them failed the store is stale.
+    pub fn abort(&mut self, voted: Voted) -> Result<(), AbortRefusal>
+        requires fresh { self.old.stale ≡ false }
+        requires vote { IsVoteOf self.old voted }
+        ensures gone { OnOk result (self.new ≡ voting self.old None self.new.disk) }
+        ensures stale { OnErr result (self.new ≡ staled self.old self.new.disk) }
+        ensures seen { OnOk result ((seen : Seen) → IsSeen self.old seen → IsSeen self.new seen) }
+        ensures any_moment { KeepsOpening self.old self.new }
+        ensures calls { OnOk result (self.new.disk.calls ≡ counted (counted self.old.disk.calls)) }
+        ensures counts { Counts self.old.disk.counter self.new.disk.counter (IsErr result) }
     {
         let _ = voted.spend();
-        self.out = None;
+        match self.out.take() {
+            Some(waiting) => match abort_on(&mut self.disk, &self.known, self.limit, waiting) {
+                Ok(()) => Ok(()),
+                Err(_) => {
+                    self.stale = true;
+                    Err(AbortRefusal::Disk)
+                }
+            },
+            None => unreachable!(),
+        }
     }
 
-    /// The disk under the store.
+    /// The disk under the store. Where the store isn't stale, the disk's one image is what reads give, a file of the
+    /// store's history.
     pub fn into_disk(self) -> D
         requires { self.out ≡ None }
         ensures told { D.told result ≡ self.disk.told }
+        ensures whole { self.stale ≡ false → IfSome (D.told result) (λ told. IsSynced told × IsWhole self (content told)) }
         ensures counter { D.counter result ≡ self.disk.counter }
         ensures calls { D.device_calls result ≡ self.disk.calls }
         ensures spare { (D.spare_calls result ≡ self.disk.spare_calls) × (D.spare_bytes result ≡ self.disk.spare_bytes) }
     {
         let Store {
+            alloc: _,
             disk,
-            past: _,
-            end: _,
+            known: _,
             limit: _,
             out: _,
+            stale: _,
         } = self;
         disk
     }

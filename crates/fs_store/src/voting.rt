@@ -1,33 +1,76 @@
-ghost use Rattle.std.specs.Prelude.{◌≡◌, min};
+ghost use Rattle.std.specs.Prelude.{◌≡◌, ◌<◌, ◌≤◌, ◌^◌, ◌==◌, All, false, min, IfOk, IfSome, IsErr, None, Some};
+ghost use Rattle.zbase.specs.Faults.{Counts};
 ghost use Rattle.evaluator.specs.Change.{is_new, made, named};
 ghost use Rattle.evaluator.specs.Settle.{size, size_of_entry};
-ghost use Rattle.fs_store.specs.Pasts.{history_of, IsSound};
+ghost use Rattle.fs_store.specs.Fronts.{history_at};
+ghost use Rattle.fs_store.specs.Knowing.{IsKnown};
+ghost use Rattle.fs_store.specs.Seeing.{SeenOn};
 ghost use Rattle.fs_store.specs.Stores.{IsDraft};
-ghost use Rattle.fs_store.specs.Verdicts.{clash_among, greatest_number};
+ghost use Rattle.fs_store.specs.declared.refusal.VoteRefusal.{VoteRefusal};
+ghost use Rattle.fs_store.specs.Verdicts.{IsFree, clash_among, clash_at, greatest_number, spent_at, tid_after, validation_at};
 
-use crate::past::Past;
+use crate::VoteRefusal;
+use crate::known::Known;
 use crate::reads::Seen;
 use evaluator::{Draft, Entry, Name};
-use zbase::Clash;
+use fs_scan::read_head;
+use zbase::{Clash, Failed, Tid};
+use zdisk::Disk;
 
-/// The clash of the first object that has a later serial than the one seen. Takes no memory.
-pub(crate) fn clash_among(past: &Past, reads: &[Seen]) -> Option<Clash>
-    requires { IsSound past.now }
-    ensures { result ≡ clash_among (history_of past.now) reads.now }
+// The clash of an object that was read with this later serial.
+fn clash_with(seen: &Seen, found: Tid) -> Clash
+    ensures { result ≡ record { oid = seen.now.oid; seen = seen.now.serial; found = found } }
+{
+    Clash {
+        oid: seen.oid.0,
+        seen: seen.serial.0,
+        found: found.0,
+    }
+}
+
+// The clash of an object that was read. Where its newest record stands where it stood then there is none; else the
+// record's head has its serial.
+fn clash_at<D: Disk>(disk: &mut D, known: &Known, seen: &Seen) -> Result<Option<Clash>, Failed>
+    requires known { IsKnown (D.told disk.old) known.now known.now.end }
+    requires seen { SeenOn (D.told disk.old) known.now.end seen.now }
+    ensures calls { IfOk result (λ clash. clash ≡ None → D.device_calls disk.new ≡ D.device_calls disk.old) }
+    ensures clash { IfOk result (λ clash. IfSome (D.told disk.old) (λ told. clash ≡ clash_at (history_at told known.now.end) seen.now)) }
+    ensures same { D.told disk.new ≡ D.told disk.old }
+    ensures spare { (D.spare_calls disk.new ≡ D.spare_calls disk.old) × (D.spare_bytes disk.new ≡ D.spare_bytes disk.old) }
+    ensures counts { Counts (D.counter disk.old) (D.counter disk.new) (IsErr result) }
+{
+    let place = known.place(seen.oid);
+    if place == seen.place {
+        return Ok(None);
+    }
+    match read_head(disk, known.end, place)? {
+        Some(head) => Ok(Some(clash_with(seen, head.tid))),
+        // only where the disk tells nothing
+        None => Ok(Some(clash_with(seen, known.last))),
+    }
+}
+
+// The clash of the first object that has a later serial than the one seen: no device call where there is none, and one
+// where there is.
+fn clash_among<D: Disk>(
+    disk: &mut D,
+    known: &Known,
+    reads: &[Seen],
+) -> Result<Option<Clash>, Failed>
+    requires known { IsKnown (D.told disk.old) known.now known.now.end }
+    requires seen { All (SeenOn (D.told disk.old) known.now.end) reads.now }
+    ensures calls { IfOk result (λ clash. clash ≡ None → D.device_calls disk.new ≡ D.device_calls disk.old) }
+    ensures clash { IfOk result (λ clash. IfSome (D.told disk.old) (λ told. clash ≡ clash_among (history_at told known.now.end) reads.now)) }
+    ensures same { D.told disk.new ≡ D.told disk.old }
+    ensures spare { (D.spare_calls disk.new ≡ D.spare_calls disk.old) × (D.spare_bytes disk.new ≡ D.spare_bytes disk.old) }
+    ensures counts { Counts (D.counter disk.old) (D.counter disk.new) (IsErr result) }
 {
     for seen in reads {
-        let oid = seen.oid.0;
-        let serial = seen.serial.0;
-        let found = past.serial(oid);
-        if serial < found {
-            return Some(Clash {
-                oid,
-                seen: serial,
-                found,
-            });
+        if let Some(clash) = clash_at(disk, known, seen)? {
+            return Ok(Some(clash));
         }
     }
-    None
+    Ok(None)
 }
 
 // Whether the entry makes a new object.
@@ -43,8 +86,8 @@ fn is_new(entry: &Entry) -> bool
     }
 }
 
-/// How many new objects the draft makes.
-pub(crate) fn made_by(draft: &Draft) -> u32
+// How many new objects the draft makes.
+fn made_by(draft: &Draft) -> u32
     requires { IsDraft draft.now }
     ensures { result ≡ made draft.now }
 {
@@ -78,4 +121,60 @@ pub(crate) fn size_of(draft: &Draft) -> u64
         size = size.saturating_add(size_of_entry(entry));
     }
     size
+}
+
+// The first thing that is spent: transaction ids, object ids or the file's room.
+fn spent(known: &Known, limit: u64, draft: &Draft) -> Option<VoteRefusal>
+    requires rules { IsDraft draft.now }
+    requires bound { known.now.next ≤ 2 ^ 64 }
+    ensures { result ≡ spent_at known.now.last known.now.next known.now.end limit draft.now }
+{
+    if known.last.0 == u64::MAX {
+        return Some(VoteRefusal::TidsSpent);
+    }
+    let made = made_by(draft);
+    if made > 0 && known.next + u128::from(made) > u128::from(u64::MAX) {
+        return Some(VoteRefusal::OidsSpent((known.next - 1) as u64, made));
+    }
+    let need = known.end.saturating_add(size_of(draft));
+    if limit < need {
+        return Some(VoteRefusal::Full(need, limit));
+    }
+    None
+}
+
+/// The transaction id that a vote takes: the clock's stamp, or the next one where the clock stands still.
+pub(crate) fn tid_after(last: Tid, now: Tid) -> Tid
+    requires { (last == greatest_number) ≡ false }
+    ensures tid { result ≡ tid_after last now }
+    ensures later { last < result }
+{
+    if last.0 < now.0 { now } else { Tid(last.0 + 1) }
+}
+
+/// The first refusal of a vote that applies where no vote is out, none where the vote stands open. No device call is made
+/// but where an object that was read has a later serial.
+pub(crate) fn refusal<D: Disk>(
+    disk: &mut D,
+    known: &Known,
+    limit: u64,
+    draft: &Draft,
+    reads: &[Seen],
+) -> Result<Option<VoteRefusal>, Failed>
+    requires known { IsKnown (D.told disk.old) known.now known.now.end }
+    requires bound { known.now.next ≤ 2 ^ 64 }
+    requires rules { IsDraft draft.now }
+    requires seen { All (SeenOn (D.told disk.old) known.now.end) reads.now }
+    ensures refusal { IfOk result (λ refusal. IfSome (D.told disk.old) (λ told. refusal ≡ validation_at (history_at told known.now.end) known.now.end limit draft.now (clash_among (history_at told known.now.end) reads.now))) }
+    ensures free { IfOk result (λ refusal. refusal ≡ None → IsFree known.now.last known.now.next known.now.end limit draft.now) }
+    ensures calls { IfOk result (λ refusal. refusal ≡ None → D.device_calls disk.new ≡ D.device_calls disk.old) }
+    ensures own { IfOk result (λ refusal. (refusal ≡ Some VoteRefusal.Memory → ⊥) × (refusal ≡ Some VoteRefusal.Disk → ⊥)) }
+    ensures same { D.told disk.new ≡ D.told disk.old }
+    ensures spare { (D.spare_calls disk.new ≡ D.spare_calls disk.old) × (D.spare_bytes disk.new ≡ D.spare_bytes disk.old) }
+    ensures counts { Counts (D.counter disk.old) (D.counter disk.new) (IsErr result) }
+{
+    match clash_among(disk, known, reads)? {
+        Some(clash) => Ok(Some(VoteRefusal::Conflict(clash))),
+        None => Ok(spent(known, limit, draft)),
+    }
 }

@@ -15,6 +15,7 @@ use Rattle.txn_core.specs.StepLines.{step_lines}
 use Rattle.txn_core.specs.Slots.{doing_of, moment_of, CoreStands, Advances}
 use Rattle.txn_core.proofs.Lists.{get_map, get_set_same}
 use Rattle.txn_core.proofs.QuietArms.{holds_none, moment_quiet, stands_quiet}
+use Rattle.txn_core.proofs.Steadiness.{rests_here}
 
 pub step_follows : {E R S : Type 0} (eval : Eval R) (w now : ℕ) (old new : StoreView) (slot next : Slot E R S) (line : StepLine) (sl : List (Slot E R S)) → Advances eval w now old new slot next line → slice_get sl w ≡ Some slot → CoreStands eval old sl
     → (terms : Terms R) → terms.eval ≡ eval → terms.limit ≡ old.limit
@@ -23,7 +24,7 @@ step_follows eval w now old new slot next line sl moves here all terms same limi
     (moment_of eval old sl, refl, subst (λ k. Steps terms (clocked (moment_of eval old sl) now) w (step_lines terms.answer w line) (clocked k now)) (sym is) ((moves.moves sl here all).1 terms same limit))
 
 pub given_stands : {E R S : Type 0} (eval : Eval R) (w : ℕ) (st : StoreView) (sl : List (Slot E R S)) (q : R) → slice_get sl w ≡ Some Slot.Idle → CoreStands eval st sl → CoreStands eval st (slice_set sl w (Slot.Fresh (record { request = q; conflicts = Conflicts.None })))
-given_stands eval w st sl q here all = stands_quiet eval st sl w _ all (holds_none eval st sl w Slot.Idle all here (λ c. c)) tt
+given_stands eval w st sl q here all = stands_quiet eval st st sl w _ (rests_here st all.steady) all (holds_none eval st sl w Slot.Idle all here (λ c. c)) tt
 
 pub given_follows : {E R S : Type 0} (eval : Eval R) (w : ℕ) (st : StoreView) (sl : List (Slot E R S)) (q : R) → slice_get sl w ≡ Some Slot.Idle → CoreStands eval st sl → (terms : Terms R) (now : ℕ) (bytes : List ℕ) → terms.takes bytes ≡ Some q
     → Follows terms (λ m. m ≡ moment_of eval st sl) now (λ m. m ≡ moment_of eval st (slice_set sl w (Slot.Fresh (record { request = q; conflicts = Conflicts.None })))) now (Item2.Request w bytes) []

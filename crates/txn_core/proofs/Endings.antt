@@ -3,7 +3,7 @@ use Rattle.std.proofs.Common.{◌≡◌, ℕ, zero, suc, ◌<◌, ◌⊎◌, Lis
 use Rattle.std.proofs.lemmas.Option.{slice_get_within, get_or_from_slice_get}
 use Rattle.evaluator.specs.Exec.{Eval}
 use Rattle.schedule.specs.Moments.{Free}
-use Rattle.fs_store.specs.Stores.{StoreView, Out, voting}
+use Rattle.fs_store.specs.Stores.{DiskView, IsSteady, StoreView, Out, on_disk, voting}
 use Rattle.connection.specs.States.{PendingView}
 use Rattle.txn_core.specs.declared.slot.Slot.{Slot}
 use Rattle.txn_core.specs.Slots.{doing_of, CoreStands, CanEnd, ended, Closing}
@@ -23,18 +23,22 @@ get_either [] x (suc v) y e = absurd cc
 get_either (z ∷ xs) x zero y e = inr e
 get_either (z ∷ xs) x (suc v) y e = get_either xs x v y e
 
-kept : {E R S : Type 0} (st : StoreView) (rest : List (Slot E R S)) (slot : Slot E R S) → ((p : PendingView R) → slot ≡ Slot.Pending p → ⊥) → Closing st (rest ++ slot ∷ []) → Closing st rest
-kept st rest slot not all = record {
-  each = λ v p e. all.each v p (get_front rest slot v (Slot.Pending p) e);
-  voter = λ o e. let w = all.voter o e in (w.0, elim (get_either rest slot o.holder (Slot.Pending w.0) w.1) [ inl q ↦ absurd (not w.0 q) | inr r ↦ r ]);
-}
+kept : {E R S : Type 0} (st new : StoreView) (rest : List (Slot E R S)) (slot : Slot E R S) → ((p : PendingView R) → slot ≡ Slot.Pending p → ⊥) → new ≡ on_disk st new.disk → IsSteady new → Closing st (rest ++ slot ∷ []) → Closing new rest
+kept {E} {R} {S} st new rest slot not same steady all =
+    let out : st.out ≡ new.out = sym (ap (λ (s : StoreView). s.out) same) in
+    record {
+      steady = steady;
+      each = λ v p e. let a = all.each v p (get_front rest slot v (Slot.Pending p) e) in (a.0, sym out ∙ a.1, a.2, a.3);
+      voter = λ o e. let w = all.voter o (out ∙ e) in (w.0, elim (get_either rest slot o.holder (Slot.Pending w.0) w.1) [ inl q ↦ absurd (not w.0 q) | inr r ↦ r ]);
+    }
 
-pub closing_popped : {E R S : Type 0} (st : StoreView) (rest : List (Slot E R S)) (slot : Slot E R S) → Closing st (rest ++ slot ∷ []) → Closing (ended st slot) rest
-closing_popped st rest Slot.Idle all = kept st rest Slot.Idle (λ p e. cc) all
-closing_popped st rest (Slot.Fresh f) all = kept st rest (Slot.Fresh f) (λ p e. cc) all
-closing_popped st rest (Slot.Active a) all = kept st rest (Slot.Active a) (λ p e. cc) all
-closing_popped st rest (Slot.Computed a) all = kept st rest (Slot.Computed a) (λ p e. cc) all
-closing_popped st rest (Slot.Pending p) all = record {
+pub closing_popped : {E R S : Type 0} (st new : StoreView) (rest : List (Slot E R S)) (slot : Slot E R S) → new ≡ ended st slot new.disk → IsSteady new → Closing st (rest ++ slot ∷ []) → Closing new rest
+closing_popped st new rest Slot.Idle same steady all = kept st new rest Slot.Idle (λ p e. cc) same steady all
+closing_popped st new rest (Slot.Fresh f) same steady all = kept st new rest (Slot.Fresh f) (λ p e. cc) same steady all
+closing_popped st new rest (Slot.Active a) same steady all = kept st new rest (Slot.Active a) (λ p e. cc) same steady all
+closing_popped st new rest (Slot.Computed a) same steady all = kept st new rest (Slot.Computed a) (λ p e. cc) same steady all
+closing_popped st new rest (Slot.Pending p) same steady all = record {
+  steady = steady;
   each = λ v q e. absurd (
       let a = all.each v q (get_front rest (Slot.Pending p) v (Slot.Pending q) e) in
       let b = all.each (length rest) p (get_last rest (Slot.Pending p)) in
@@ -43,7 +47,7 @@ closing_popped st rest (Slot.Pending p) all = record {
       let at : v ≡ length rest = sym a.2 ∙ ap (λ (o : Out). o.holder) same ∙ b.2 in
       let within : v < length rest = slice_get_within rest v (Slot.Pending q) e in
       omega (arith, at, within));
-  voter = λ o e. absurd cc;
+  voter = λ o e. absurd (let none : new.out ≡ None = ap (λ (s : StoreView). s.out) same in let bad : Some o ≡ None = sym e ∙ none in cc);
 }
 
 pub can_end : {E R S : Type 0} (st : StoreView) (rest : List (Slot E R S)) (slot : Slot E R S) → Closing st (rest ++ slot ∷ []) → CanEnd st slot
@@ -53,26 +57,21 @@ can_end st rest (Slot.Active a) all = tt
 can_end st rest (Slot.Computed a) all = tt
 can_end st rest (Slot.Pending p) all = let s = all.each (length rest) p (get_last rest (Slot.Pending p)) in (s.0, s.1, s.3)
 
-pub same_end : {E R S : Type 0} (st : StoreView) (slot : Slot E R S) → voting (ended st slot) None ≡ voting st None
-same_end st Slot.Idle = refl
-same_end st (Slot.Fresh f) = refl
-same_end st (Slot.Active a) = refl
-same_end st (Slot.Computed a) = refl
-same_end st (Slot.Pending p) = refl
-
-pub closed : {E R S : Type 0} (st : StoreView) (slots : List (Slot E R S)) → slots ≡ [] → Closing st slots → st ≡ voting st None
-closed {E} {R} {S} st slots empty all = go st.out refl
-  where
-    go : (o : Option Out) → st.out ≡ o → st ≡ voting st None
-    go None e = ap (voting st) e
-    go (Some o) e = absurd (let w = all.voter o e in let bad : Some (Slot.Pending w.0) ≡ None = sym w.1 ∙ ap (λ (k : List (Slot E R S)). slice_get k o.holder) empty in cc)
+-- over a given disk, a store without its vote is the same whatever slot was ended
+pub same_end : {E R S : Type 0} (st : StoreView) (slot : Slot E R S) (after disk : DiskView) → voting (ended st slot after) None disk ≡ voting st None disk
+same_end st Slot.Idle after disk = refl
+same_end st (Slot.Fresh f) after disk = refl
+same_end st (Slot.Active a) after disk = refl
+same_end st (Slot.Computed a) after disk = refl
+same_end st (Slot.Pending p) after disk = refl
 
 pub closing_all : {E R S : Type 0} (eval : Eval R) (st : StoreView) (sl : List (Slot E R S)) → CoreStands eval st sl → Closing st sl
-closing_all eval st sl all = record { each = λ v p e. (all.each v (Slot.Pending p) e).0; voter = all.voter }
+closing_all eval st sl all = record { steady = all.steady; each = λ v p e. (all.each v (Slot.Pending p) e).0; voter = all.voter }
 
 -- a core of idle workers
-pub core_idle : {E R S : Type 0} (eval : Eval R) (store : StoreView) (slots : List (Slot E R S)) → length slots ≡ 16 → All (λ s. s ≡ Slot.Idle) slots → store.out ≡ None → CoreStands eval store slots
-core_idle {E} {R} {S} eval store slots len all none = record {
+pub core_idle : {E R S : Type 0} (eval : Eval R) (store : StoreView) (slots : List (Slot E R S)) → length slots ≡ 16 → All (λ s. s ≡ Slot.Idle) slots → store.out ≡ None → IsSteady store → CoreStands eval store slots
+core_idle {E} {R} {S} eval store slots len all none steady = record {
+  steady = steady;
   count = len;
   each = λ v s e. let i : s ≡ Slot.Idle = sym (get_or_from_slice_get slots v s s e) ∙ all v s (slice_get_within slots v s e) in rw i tt;
   voter = λ o e. absurd (let bad : Some o ≡ None = sym e ∙ none in cc);

@@ -1,4 +1,5 @@
 pub mod Lists
+pub mod Steadiness
 pub mod QuietArms
 pub mod Voting
 pub mod Cores

@@ -1,5 +1,5 @@
--- Each arm of a step that leaves the store alone: what a slot becomes is a step of the moment, and all keeps
--- standing.
+-- Each arm of a step that leaves the store as it was, its disk aside: what a slot becomes is a step of the moment, and
+-- all keeps standing.
 use Rattle.std.proofs.Common.{◌≡◌, ◌≢◌, ℕ, ◌+◌, ◌-◌, ◌*◌, ◌<◌, ◌≤◌, List, [], ◌∷◌, Option, Some, None, refl, sym, ap, ◌∙◌, subst, inl, inr, map, length, slice_get, slice_set, arith, lit<}
 use Rattle.std.proofs.lemmas.List.{length-set, length-append}
 use Rattle.zbase.specs.Values.{last}
@@ -12,9 +12,9 @@ use Rattle.evaluator.specs.Facts.{look}
 use Rattle.schedule.specs.declared.line.Line.{Line}
 use Rattle.schedule.specs.Moments.{Terms, Attempt, Doing, Vote, Moment, turned, clocked}
 use Rattle.schedule.specs.Stepping.{Told, told, from_doing, from_asking, Steps}
-use Rattle.fs_store.specs.Stores.{StoreView, Out}
+use Rattle.fs_store.specs.Stores.{IsSteady, StoreView, Out}
 use Rattle.connection.specs.declared.conflicts.Conflicts.{Conflicts}
-use Rattle.connection.specs.States.{FreshView, ActiveView, clashes_of}
+use Rattle.connection.specs.States.{AreSeen, FreshView, ActiveView, clashes_of}
 use Rattle.connection.specs.Turns.{comes_to, learned}
 use Rattle.txn_core.specs.declared.slot.Slot.{Slot}
 use Rattle.txn_core.specs.declared.step_line.StepLine.{StepLine}
@@ -22,6 +22,7 @@ use Rattle.txn_core.specs.Counting.{EndsVote, Lowers, Paces, attempt_steps, furt
 use Rattle.txn_core.specs.StepLines.{step_lines}
 use Rattle.txn_core.specs.Slots.{doing_of, reply_at, vote_of, moment_of, ActiveStands, SlotStands, CoreStands, Advances}
 use Rattle.txn_core.proofs.Lists.{get_map, map_set, set_same, get_set, set_other}
+use Rattle.txn_core.proofs.Steadiness.{Rests, last_rests, moment_rests, out_rests, rests_here, slot_rests}
 
 abbrev pub IsPending : {E R S : Type 0} → Option (Slot E R S) → Type 0
 IsPending (Some (Slot.Pending p)) = Unit {0}
@@ -56,12 +57,24 @@ pub told_at : {E R S : Type 0} (terms : Terms R) (eval : Eval R) (st : StoreView
     → told terms (clocked (moment_of eval st sl) now) w ≡ from_doing terms (clocked (moment_of eval st sl) now) w (Some (doing_of eval slot))
 told_at terms eval st sl w now slot here = ap (from_doing terms (clocked (moment_of eval st sl) now) w) (get_map (doing_of eval) sl w slot here)
 
--- all stands on where the store is as it was
-pub stands_quiet : {E R S : Type 0} (eval : Eval R) (st : StoreView) (sl : List (Slot E R S)) (w : ℕ) (next : Slot E R S) → CoreStands eval st sl → HoldsNone st w → SlotStands eval st w next → CoreStands eval st (slice_set sl w next)
-stands_quiet {E} {R} {S} eval st sl w next all not stands = record {
+-- all stands on where the store is as it was, over its disk
+pub stands_quiet : {E R S : Type 0} (eval : Eval R) (old new : StoreView) (sl : List (Slot E R S)) (w : ℕ) (next : Slot E R S) → Rests old new → CoreStands eval old sl → HoldsNone old w → SlotStands eval new w next → CoreStands eval new (slice_set sl w next)
+stands_quiet {E} {R} {S} eval old new sl w next rests all not stands = record {
+  steady = rests.keeps.steady;
   count = length-set sl w next ∙ all.count;
-  each = λ v s e. elim (get_set sl w v next s e) [ inl p ↦ rw (p.0, p.1) stands | inr p ↦ all.each v s p.1 ];
-  voter = λ o e. let v = all.voter o e in (v.0, set_other next sl w o.holder (not o e) ∙ v.1);
+  each = λ v s e. elim (get_set sl w v next s e) [ inl p ↦ rw (p.0, p.1) stands | inr p ↦ slot_rests eval old new v s rests (all.each v s p.1) ];
+  voter = λ o e.
+      let was : old.out ≡ Some o = out_rests old new rests ∙ e in
+      let v = all.voter o was in (v.0, set_other next sl w o.holder (not o was) ∙ v.1);
+}
+
+-- the same where no slot changes
+pub stands_rests : {E R S : Type 0} (eval : Eval R) (old new : StoreView) (sl : List (Slot E R S)) → Rests old new → CoreStands eval old sl → CoreStands eval new sl
+stands_rests {E} {R} {S} eval old new sl rests all = record {
+  steady = rests.keeps.steady;
+  count = all.count;
+  each = λ v s e. slot_rests eval old new v s rests (all.each v s e);
+  voter = λ o e. all.voter o (out_rests old new rests ∙ e);
 }
 
 -- who hasn't voted ends no vote
@@ -72,23 +85,24 @@ ends_none (Slot.Active a) next not = tt
 ends_none (Slot.Computed a) next not = tt
 ends_none (Slot.Pending p) next not = absurd (not tt)
 
--- An arm that leaves the store alone: the table gives these lines, and the slot's worker then does what the next
--- slot says.
-pub quiet : {E R S : Type 0} (eval : Eval R) (w now : ℕ) (st : StoreView) (slot next : Slot E R S) (line : StepLine) → (IsPending (Some slot) → ⊥) → SlotStands eval st w next → Lowers line (left_of slot) (left_of next) → Paces line slot next
-    → ((terms : Terms R) → terms.eval ≡ eval → terms.limit ≡ st.limit → (sl : List (Slot E R S)) → HoldsNone st w
-    → (from_doing terms (clocked (moment_of eval st sl) now) w (Some (doing_of eval slot)) ≡ (step_lines terms.answer w line, turned (clocked (moment_of eval st sl) now) w (doing_of eval next))))
-    → Advances eval w now st st slot next line
-quiet {E} {R} {S} eval w now st slot next line not stands lowers paces tells = record {
-  limit = refl;
+-- An arm that leaves the store as it was, over its disk: the table gives these lines, and the slot's worker then
+-- does what the next slot says.
+pub quiet : {E R S : Type 0} (eval : Eval R) (w now : ℕ) (old new : StoreView) (slot next : Slot E R S) (line : StepLine) → Rests old new → (IsPending (Some slot) → ⊥) → SlotStands eval new w next → Lowers line (left_of slot) (left_of next) → Paces line slot next
+    → ((terms : Terms R) → terms.eval ≡ eval → terms.limit ≡ old.limit → (sl : List (Slot E R S)) → HoldsNone old w
+    → (from_doing terms (clocked (moment_of eval old sl) now) w (Some (doing_of eval slot)) ≡ (step_lines terms.answer w line, turned (clocked (moment_of eval old sl) now) w (doing_of eval next))))
+    → Advances eval w now old new slot next line
+quiet {E} {R} {S} eval w now old new slot next line rests not stands lowers paces tells = record {
+  limit = ap (λ (s : StoreView). s.limit) rests.same;
   lowers = lowers;
   ends = ends_none slot next not;
   paces = paces;
   moves = λ sl here all.
-      let free = holds_none eval st sl w slot all here not in (
-        stands_quiet eval st sl w next all free stands,
+      let free = holds_none eval old sl w slot all here not in (
+        stands_quiet eval old new sl w next rests all free stands,
         λ terms same limit.
             let tell : Moment R → Told R = (λ m. (step_lines terms.answer w line, m)) in
-            inl (told_at terms eval st sl w now slot here ∙ tells terms same limit sl free ∙ ap tell (moment_quiet eval st sl w now next free)),
+            subst (λ (m : Moment R). Steps terms (clocked (moment_of eval old sl) now) w (step_lines terms.answer w line) (clocked m now)) (moment_rests eval old new (slice_set sl w next) rests)
+            (inl (told_at terms eval old sl w now slot here ∙ tells terms same limit sl free ∙ ap tell (moment_quiet eval old sl w now next free))),
       );
 }
 
@@ -113,9 +127,9 @@ begin_lowers (Conflicts.One a) = lit< tt
 begin_lowers (Conflicts.Two a b) = lit< tt
 begin_lowers (Conflicts.Three a b c) = lit< tt
 
-pub begin_advances : {E R S : Type 0} (eval : Eval R) (w now : ℕ) (st : StoreView) (f : FreshView R) (a : ActiveView R) (t : ℕ) → a ≡ record { attempt = record { request = f.request; clashes = clashes_of f.conflicts; snapshot = last st.history; facts = [] }; ready = None } → t ≡ a.attempt.snapshot
+pub begin_advances : {E R S : Type 0} (eval : Eval R) (w now : ℕ) (st : StoreView) (f : FreshView R) (a : ActiveView R) (t : ℕ) → IsSteady st → a ≡ record { attempt = record { request = f.request; clashes = clashes_of f.conflicts; snapshot = last st.history; facts = [] }; reads = []; ready = None } → t ≡ a.attempt.snapshot
     → Advances {E = E} {R = R} {S = S} eval w now st st (Slot.Fresh f) (Slot.Active a) (StepLine.Begun t)
-begin_advances eval w now st f a t is at = rw (at, is) (quiet eval w now st (Slot.Fresh f) _ (StepLine.Begun (last st.history)) (λ c. c) (refl, omega arith) (begin_lowers f.conflicts) refl (λ terms same limit sl free. refl))
+begin_advances eval w now st f a t steady is at = rw (at, is) (quiet eval w now st st (Slot.Fresh f) _ (StepLine.Begun (last st.history)) (rests_here st steady) (λ c. c) (refl, omega arith, λ i d within. absurd (omega (arith, within))) (begin_lowers f.conflicts) refl (λ terms same limit sl free. refl))
 
 asked : {R : Type 0} (terms : Terms R) (eval : Eval R) (m : Moment R) (w : ℕ) (a : Attempt R) (o : Outcome) → terms.eval ≡ eval → comes_to eval a ≡ o → from_asking terms m w a (terms.eval (look a.facts) a.request) ≡ from_asking terms m w a o
 asked terms eval m w a o same e = ap (from_asking terms m w a) (ap (λ k. k (look a.facts) a.request) same ∙ e)
@@ -123,22 +137,24 @@ asked terms eval m w a o same e = ap (from_asking terms m w a) (ap (λ k. k (loo
 fetch_lowers : (k m n : ℕ) → n ≡ m + 1 → n ≤ most_asks → k + (most_asks - n) + 3 < k + (most_asks - m) + 3
 fetch_lowers k m n one few = omega (arith, one, few)
 
-pub fetch_advances : {E R S : Type 0} (eval : Eval R) (w now : ℕ) (st : StoreView) (a b : ActiveView R) (ask : Ask) → ActiveStands st a → comes_to eval a.attempt ≡ Outcome.Need ask → b ≡ record { attempt = learned st.history a.attempt ask; ready = None } → length b.attempt.facts ≤ most_asks
-    → Advances {E = E} {R = R} {S = S} eval w now st st (Slot.Active a) (Slot.Active b) (StepLine.Fetched ask)
-fetch_advances eval w now st a b ask stands e is few =
-    let one : length (learned st.history a.attempt ask).facts ≡ length a.attempt.facts + 1 = length-append a.attempt.facts _ in
-    let short : length (learned st.history a.attempt ask).facts ≤ most_asks = rw is at few in
-    rw is (quiet eval w now st (Slot.Active a) _ (StepLine.Fetched ask) (λ c. c) (refl, stands.1)
-    (fetch_lowers (further_steps (length a.attempt.clashes)) (length a.attempt.facts) (length (learned st.history a.attempt ask).facts) one short) (omega (arith, one))
-    (λ terms same limit sl free. asked terms eval _ w a.attempt (Outcome.Need ask) same e))
+pub fetch_advances : {E R S : Type 0} (eval : Eval R) (w now : ℕ) (old new : StoreView) (a b : ActiveView R) (ask : Ask) → Rests old new → ActiveStands old a → comes_to eval a.attempt ≡ Outcome.Need ask → b.attempt ≡ learned old.history a.attempt ask → b.ready ≡ None → AreSeen new b.reads → length b.attempt.facts ≤ most_asks
+    → Advances {E = E} {R = R} {S = S} eval w now old new (Slot.Active a) (Slot.Active b) (StepLine.Fetched ask)
+fetch_advances {E} {R} {S} eval w now old new a b ask rests stands e is ready reads few =
+    let one : length b.attempt.facts ≡ length a.attempt.facts + 1 = ap (λ (k : Attempt R). length k.facts) is ∙ length-append a.attempt.facts _ in
+    let within : b.attempt.snapshot ≤ last new.history = rw is (subst (λ k. a.attempt.snapshot ≤ k) (last_rests old new rests) stands.1) in
+    quiet eval w now old new (Slot.Active a) (Slot.Active b) (StepLine.Fetched ask) rests (λ c. c) (ready, within, reads)
+    (rw is (fetch_lowers (further_steps (length a.attempt.clashes)) (length a.attempt.facts) (length (learned old.history a.attempt ask).facts) (rw is at one) (rw is at few))) (omega (arith, one))
+    (λ terms same limit sl free. rw is (asked terms eval _ w a.attempt (Outcome.Need ask) same e))
 
-pub read_advances : {E R S : Type 0} (eval : Eval R) (w now : ℕ) (st : StoreView) (a : ActiveView R) (x : Reply) (t : ℕ) → comes_to eval a.attempt ≡ Outcome.Answer x → t ≡ a.attempt.snapshot
-    → Advances {E = E} {R = R} {S = S} eval w now st st (Slot.Active a) Slot.Idle (StepLine.Read x t)
-read_advances eval w now st a x t e at = rw at (quiet eval w now st (Slot.Active a) Slot.Idle (StepLine.Read x a.attempt.snapshot) (λ c. c) tt (omega arith) (omega arith) (λ terms same limit sl free. asked terms eval _ w a.attempt (Outcome.Answer x) same e))
+pub read_advances : {E R S : Type 0} (eval : Eval R) (w now : ℕ) (old new : StoreView) (a : ActiveView R) (x : Reply) (t : ℕ) → Rests old new → comes_to eval a.attempt ≡ Outcome.Answer x → t ≡ a.attempt.snapshot
+    → Advances {E = E} {R = R} {S = S} eval w now old new (Slot.Active a) Slot.Idle (StepLine.Read x t)
+read_advances eval w now old new a x t rests e at = rw at (quiet eval w now old new (Slot.Active a) Slot.Idle (StepLine.Read x a.attempt.snapshot) rests (λ c. c) tt (omega arith) (omega arith) (λ terms same limit sl free. asked terms eval _ w a.attempt (Outcome.Answer x) same e))
 
 computed_lowers : (k m : ℕ) → k + 2 < k + m + 3
 computed_lowers k m = omega arith
 
-pub computed_advances : {E R S : Type 0} (eval : Eval R) (w now : ℕ) (st : StoreView) (a b : ActiveView R) (x : Reply) (d : Draft) → comes_to eval a.attempt ≡ Outcome.Change x d → b ≡ record { attempt = a.attempt; ready = Some (x, d) }
-    → Advances {E = E} {R = R} {S = S} eval w now st st (Slot.Active a) (Slot.Computed b) StepLine.Computed
-computed_advances eval w now st a b x d e is = rw is (quiet eval w now st (Slot.Active a) _ StepLine.Computed (λ c. c) (x, d, refl, e) (computed_lowers (further_steps (length a.attempt.clashes)) (most_asks - length a.attempt.facts)) (omega arith) (λ terms same limit sl free. asked terms eval _ w a.attempt (Outcome.Change x d) same e))
+pub computed_advances : {E R S : Type 0} (eval : Eval R) (w now : ℕ) (old new : StoreView) (a b : ActiveView R) (x : Reply) (d : Draft) → Rests old new → comes_to eval a.attempt ≡ Outcome.Change x d → b ≡ record { attempt = a.attempt; reads = a.reads; ready = Some (x, d) } → AreSeen new b.reads
+    → Advances {E = E} {R = R} {S = S} eval w now old new (Slot.Active a) (Slot.Computed b) StepLine.Computed
+computed_advances eval w now old new a b x d rests e is reads =
+    let read = rw is at reads in
+    rw is (quiet eval w now old new (Slot.Active a) _ StepLine.Computed rests (λ c. c) (x, d, refl, e, read) (computed_lowers (further_steps (length a.attempt.clashes)) (most_asks - length a.attempt.facts)) (omega arith) (λ terms same limit sl free. asked terms eval _ w a.attempt (Outcome.Change x d) same e))

@@ -8,8 +8,8 @@ use Rattle.evaluator.specs.declared.reply.Reply.{Reply}
 use Rattle.evaluator.specs.Exec.{Eval}
 use Rattle.schedule.specs.Moments.{Terms, Attempt, Doing, Free, Waiting, Asking, Computed, Vote, Moment, clocked}
 use Rattle.schedule.specs.Stepping.{Steps}
-use Rattle.fs_store.specs.Stores.{IsVoteOf, Out, StoreView, voting}
-use Rattle.connection.specs.States.{ActiveView, PendingView, clashes_of}
+use Rattle.fs_store.specs.Stores.{DiskView, IsSteady, IsVoteOf, Out, StoreView, on_disk, voting}
+use Rattle.connection.specs.States.{ActiveView, AreSeen, PendingView, clashes_of}
 use Rattle.connection.specs.Turns.{comes_to}
 use Rattle.txn_core.specs.declared.slot.Slot.{Slot}
 use Rattle.txn_core.specs.declared.step_line.StepLine.{StepLine}
@@ -58,13 +58,13 @@ vote_of slots (Some o) = Some (record { holder = o.holder; reply = reply_at (sli
 abbrev pub moment_of : {E R S : Type 0} → Eval R → StoreView → List (Slot E R S) → Moment R
 moment_of eval store slots = record { standing = store.history; end = store.end; clock = 0; vote = vote_of slots store.out; workers = map (doing_of eval) slots }
 
--- an attempt under way: its snapshot is a part of the history, and it isn't ready
+-- an attempt under way: it isn't ready, its snapshot is a part of the history, and what it read was read so
 abbrev pub ActiveStands : {R : Type 0} → StoreView → ActiveView R → Type 0
-ActiveStands store a = (a.ready ≡ None) × (a.attempt.snapshot ≤ last store.history)
+ActiveStands store a = (a.ready ≡ None) × (a.attempt.snapshot ≤ last store.history) × AreSeen store a.reads
 
--- the change that is ready is the one that its facts give
-abbrev pub ComputedStands : {R : Type 0} → Eval R → ActiveView R → Type 0
-ComputedStands eval a = (x : Reply) × (d : Draft) × (a.ready ≡ Some (x, d)) × (comes_to eval a.attempt ≡ Outcome.Change x d)
+-- the change that is ready is the one that its facts give, and what its attempt read was read so
+abbrev pub ComputedStands : {R : Type 0} → Eval R → StoreView → ActiveView R → Type 0
+ComputedStands eval store a = (x : Reply) × (d : Draft) × (a.ready ≡ Some (x, d)) × (comes_to eval a.attempt ≡ Outcome.Change x d) × AreSeen store a.reads
 
 -- the worker holds the vote that is out
 abbrev pub PendingStands : {R : Type 0} → StoreView → ℕ → PendingView R → Type 0
@@ -79,11 +79,12 @@ abbrev pub SlotStands : {E R S : Type 0} → Eval R → StoreView → ℕ → Sl
 SlotStands eval store w Slot.Idle = Unit {0}
 SlotStands eval store w (Slot.Fresh f) = Unit {0}
 SlotStands eval store w (Slot.Active a) = ActiveStands store a
-SlotStands eval store w (Slot.Computed a) = ComputedStands eval a
+SlotStands eval store w (Slot.Computed a) = ComputedStands eval store a
 SlotStands eval store w (Slot.Pending p) = PendingStands store w p × ChangeStands eval p
 
--- sixteen slots, each of which stands, and the vote that is out has its worker
+-- a steady store and sixteen slots, each of which stands, and the vote that is out has its worker
 pub record CoreStands {E R S : Type 0} (eval : Eval R) (store : StoreView) (slots : List (Slot E R S)) : Type 0 where
+  pub steady : IsSteady store
   pub count : length slots ≡ 16
   pub each : (v : ℕ) (s : Slot E R S) → slice_get slots v ≡ Some s → SlotStands eval store v s
   pub voter : (o : Out) → store.out ≡ Some o → (p : PendingView R) × (slice_get slots o.holder ≡ Some (Slot.Pending p))
@@ -108,15 +109,16 @@ CanEnd store (Slot.Active a) = Unit {0}
 CanEnd store (Slot.Computed a) = Unit {0}
 CanEnd store (Slot.Pending p) = IsVoteOf store p.tid
 
--- the store after it
-abbrev pub ended : {E R S : Type 0} → StoreView → Slot E R S → StoreView
-ended store Slot.Idle = store
-ended store (Slot.Fresh f) = store
-ended store (Slot.Active a) = store
-ended store (Slot.Computed a) = store
-ended store (Slot.Pending p) = voting store None
+-- the store after it, over this disk
+abbrev pub ended : {E R S : Type 0} → StoreView → Slot E R S → DiskView → StoreView
+ended store Slot.Idle disk = on_disk store disk
+ended store (Slot.Fresh f) disk = on_disk store disk
+ended store (Slot.Active a) disk = on_disk store disk
+ended store (Slot.Computed a) disk = on_disk store disk
+ended store (Slot.Pending p) disk = voting store None disk
 
 -- the slots that are left while a core is closed: the vote that is out has its slot among them
 pub record Closing {E R S : Type 0} (store : StoreView) (slots : List (Slot E R S)) : Type 0 where
+  pub steady : IsSteady store
   pub each : (v : ℕ) (p : PendingView R) → slice_get slots v ≡ Some (Slot.Pending p) → PendingStands store v p
   pub voter : (o : Out) → store.out ≡ Some o → (p : PendingView R) × (slice_get slots o.holder ≡ Some (Slot.Pending p))

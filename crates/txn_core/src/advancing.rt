@@ -1,5 +1,6 @@
 ghost use Rattle.std.specs.Prelude.{◌≡◌, ◌≤◌, None};
 ghost use Rattle.zbase.specs.Values.{last};
+ghost use Rattle.fs_store.specs.Stores.{IsSteady};
 ghost use Rattle.txn_core.specs.Slots.{ActiveStands, Advances, ChangeStands, ComputedStands, PendingStands, SlotStands};
 ghost use Rattle.txn_core.specs.StepLines.{IsAnswered};
 ghost use Rattle.txn_core.specs.declared.slot.Slot.{Slot};
@@ -19,6 +20,7 @@ fn begin<D: Disk + Drop, E: Evaluator>(
     now: Tid,
     fresh: Fresh<E>,
 ) -> (Slot<E>, StepLine)
+    requires { IsSteady store.now }
     ensures advances { Advances E.meaning worker now store.now store.now (Slot.Fresh fresh) result.0 result.1 }
     ensures answered { IsAnswered result.1 }
 {
@@ -34,7 +36,8 @@ fn turn<D: Disk + Drop, E: Evaluator>(
     now: Tid,
     active: Active<E>,
 ) -> (Slot<E>, StepLine)
-    requires { ActiveStands store.old active }
+    requires steady { IsSteady store.old }
+    requires stands { ActiveStands store.old active }
     ensures advances { Advances E.meaning worker now store.old store.new (Slot.Active active) result.0 result.1 }
     ensures answered { IsAnswered result.1 }
 {
@@ -55,7 +58,8 @@ fn vote<D: Disk + Drop, E: Evaluator>(
     now: Tid,
     active: Active<E>,
 ) -> (Slot<E>, StepLine)
-    requires { ComputedStands E.meaning active }
+    requires steady { IsSteady store.old }
+    requires stands { ComputedStands E.meaning store.old active }
     ensures advances { Advances E.meaning worker now store.old store.new (Slot.Computed active) result.0 result.1 }
     ensures answered { IsAnswered result.1 }
 {
@@ -88,6 +92,7 @@ fn finish<D: Disk + Drop, E: Evaluator>(
     now: Tid,
     pending: Pending<E>,
 ) -> (Slot<E>, StepLine)
+    requires steady { IsSteady store.old }
     requires vote { PendingStands store.old worker pending }
     requires change { ChangeStands E.meaning pending }
     ensures advances { Advances E.meaning worker now store.old store.new (Slot.Pending pending) result.0 result.1 }
@@ -106,7 +111,8 @@ pub(crate) fn advance<D: Disk + Drop, E: Evaluator>(
     now: Tid,
     slot: Slot<E>,
 ) -> (Slot<E>, StepLine)
-    requires { SlotStands E.meaning store.old worker slot }
+    requires steady { IsSteady store.old }
+    requires stands { SlotStands E.meaning store.old worker slot }
     ensures advances { Advances E.meaning worker now store.old store.new slot result.0 result.1 }
     ensures answered { IsAnswered result.1 }
 {

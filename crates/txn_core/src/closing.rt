@@ -1,5 +1,5 @@
 ghost use Rattle.std.specs.Prelude.{◌≡◌, [], None, length, map};
-ghost use Rattle.fs_store.specs.Stores.{voting};
+ghost use Rattle.fs_store.specs.Stores.{IsSteady, voting};
 ghost use Rattle.txn_core.specs.Cores.{is_taken};
 ghost use Rattle.txn_core.specs.Slots.{CanEnd, Closing, ended};
 
@@ -35,8 +35,10 @@ pub(crate) fn taken<E: Evaluator>(slots: &[Slot<E>]) -> [bool; 16]
 
 // Ends what a slot holds: a vote that is out never stands.
 fn end_slot<D: Disk + Drop, E: Evaluator>(store: &mut Store<D>, slot: Slot<E>)
-    requires { CanEnd store.old slot }
-    ensures { store.new ≡ ended store.old slot }
+    requires steady { IsSteady store.old }
+    requires vote { CanEnd store.old slot }
+    ensures store { store.new ≡ ended store.old slot store.new.disk }
+    ensures steady { IsSteady store.new }
 {
     match slot {
         Slot::Idle => {}
@@ -53,7 +55,8 @@ pub(crate) fn end_slots<D: Disk + Drop, E: Evaluator>(
     slots: &mut Vec<Slot<E>>,
 )
     requires { Closing store.old slots.old.items }
-    ensures store { store.new ≡ voting store.old None }
+    ensures store { store.new ≡ voting store.old None store.new.disk }
+    ensures steady { IsSteady store.new }
     ensures slots { slots.new.items ≡ [] }
 {
     while let Some(slot) = slots.pop() {

@@ -1,31 +1,33 @@
 ghost use Rattle.std.specs.Prelude.{◌≡◌, None, IfOk};
+ghost use Rattle.fs_store.specs.Stores.{IsSteady};
 
 use crate::{Core, GiveRefusal, Spent, StepLine};
 use evaluator::{Ask, CellRequest, Cells};
 use fs_store::Store;
 use std::alloc::Global;
 use std::test::Fail;
-use zbase::{Bytes, Items, Memory, Oid, Tid};
+use zbase::{Bytes, Oid, Tid};
 use zdisk::MemoryDisk;
 
 const COPY: CellRequest = CellRequest::Copy(Oid(1), Oid(1));
 
 /// A store without transactions, in a file that ends at 4.
-fn store_of(alloc: Global, limit: u64) -> Result<Store<MemoryDisk>, Memory>
-    ensures { IfOk result (λ store. store.out ≡ None) }
+fn store_of(alloc: Global, limit: u64) -> Result<Store<MemoryDisk>, Fail>
+    ensures idle { IfOk result (λ store. store.out ≡ None) }
+    ensures steady { IfOk result (λ store. IsSteady store) }
 {
-    let disk = MemoryDisk::new(alloc, Bytes::new(alloc));
-    match Store::new(alloc, disk, Items::new(alloc), 4, limit.min(1_000_000)) {
+    let disk = MemoryDisk::new(alloc, Bytes::from_slice(alloc, b"FS21")?);
+    match Store::open(alloc, disk, limit.min(1_000_000)) {
         Ok(store) => Ok(store),
-        Err((memory, _disk)) => Err(memory),
+        Err((refusal, _disk)) => Err(Fail::from(refusal)),
     }
 }
 
 /// A core over a store that may have so many bytes.
-fn core_of(alloc: Global, limit: u64) -> Result<Core<MemoryDisk, Cells>, Memory> {
+fn core_of(alloc: Global, limit: u64) -> Result<Core<MemoryDisk, Cells>, Fail> {
     match Core::new(alloc, store_of(alloc, limit)?, Cells::new(alloc)) {
         Ok(core) => Ok(core),
-        Err((memory, _store, _cells)) => Err(memory),
+        Err((memory, _store, _cells)) => Err(Fail::from(memory)),
     }
 }
 
@@ -85,6 +87,7 @@ fn a_request_steps_through_its_commit(rt: HostRuntime) -> Result<(), Fail> {
         (7, ("voted", 7)),
         (9, ("commit", 7)),
     ] {
+        core.is_sound();
         assert_eq!(rt; core.store().len(), 0);
         assert_eq!(rt; step(&mut core, 0, now), line);
     }

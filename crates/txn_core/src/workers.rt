@@ -2,7 +2,7 @@ ghost use Rattle.std.specs.Prelude.{◌≡◌, ◌<◌, ◌≤◌, ◌≢◌, �
 ghost use Rattle.schedule.specs.Follows.{Follows};
 ghost use Rattle.schedule.specs.Moments.{Terms};
 ghost use Rattle.schedule.specs.declared.item.Item2.{Item2};
-ghost use Rattle.fs_store.specs.Stores.{voting};
+ghost use Rattle.fs_store.specs.Stores.{IsSteady, voting};
 ghost use Rattle.connection.specs.States.{PendingView};
 ghost use Rattle.txn_core.specs.Counting.{Lowers, Paces, left};
 ghost use Rattle.txn_core.specs.StepLines.{IsAnswered, step_lines};
@@ -33,7 +33,7 @@ fn idle_slots<E: Evaluator>(alloc: Global) -> Result<Vec<Slot<E>>, Memory>
     Ok(slots)
 }
 
-/// Sixteen workers over one store, numbered from 0 to 15.
+/// Sixteen workers over one store, numbered from 0 to 15. The store's disk tells what it holds and can't fail.
 pub struct Core<D: Disk + Drop, E: Evaluator> {
     alloc: Global,
     store: Store<D>,
@@ -61,7 +61,8 @@ impl<D: Disk + Drop, E: Evaluator> Core<D, E> {
         store: Store<D>,
         evaluator: E,
     ) -> Result<Core<D, E>, (Memory, Store<D>, E)>
-        requires { store.out ≡ None }
+        requires idle { store.out ≡ None }
+        requires steady { IsSteady store }
         ensures store { IfOk result (λ core. core.store ≡ store) }
         ensures rest { IfOk result (λ core. IsAtRest E.meaning core) }
         ensures back { IfErr result (λ (_, store_back, evaluator_back). (store_back ≡ store) × (evaluator_back ≡ evaluator)) }
@@ -77,8 +78,9 @@ impl<D: Disk + Drop, E: Evaluator> Core<D, E> {
         }
     }
 
-    /// There are sixteen workers, and one has no step left exactly where it has no request.
+    /// The store is steady. There are sixteen workers, and one has no step left exactly where it has no request.
     pub fn is_sound(&self)
+        ensures steady { IsSteady self.now.store }
         ensures workers { length self.now.slots ≡ 16 }
         ensures idle { (worker : ℕ) → worker < 16 → left self.now.slots worker ≡ 0 ↔ IsIdle self.now worker }
     {
@@ -153,7 +155,8 @@ impl<D: Disk + Drop, E: Evaluator> Core<D, E> {
 
     /// Ends all requests: the store, in which a vote that was out never stands, and which workers had a request.
     pub fn close(self) -> (Store<D>, [bool; 16])
-        ensures store { result.0 ≡ voting self.store None }
+        ensures store { result.0 ≡ voting self.store None result.0.disk }
+        ensures steady { IsSteady result.0 }
         ensures taken { result.1 ≡ map is_taken self.slots }
     {
         let Core {

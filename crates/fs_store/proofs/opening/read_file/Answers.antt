@@ -1,10 +1,15 @@
-use Rattle.std.proofs.Common.{refl}
-use Rattle.fs_store.proofs.ReadingAll.{reads_file}
+use Rattle.std.proofs.Common.{◌∙◌, ap}
+use Rattle.zdisk.specs.Disk.{content}
+use Rattle.fs_record.specs.File.{last_place}
+use Rattle.fs_store.specs.declared.opening.FileRead.{FileRead}
+use Rattle.fs_store.specs.FileReads.{Reads}
+use Rattle.fs_store.proofs.Readings.{reads_scan}
+use Rattle.fs_store.proofs.Tellings.{on_told}
 use Rattle.fs_store.proofs.opening.read_file.Goals as goal
-
-pub new-requires : goal.new-requires
-new-requires g c = c.in_ok-wholes.ensures.rise c.in_ok-end.field-0.floor
 
 pub returns-clause-reads : goal.returns-clause-reads
 returns-clause-reads g c =
-    reads_file (g.D.Disk.told c.args.disk.now) (g.D.Disk.told c.scan.new.disk) c.in_ok-end.field-0 c.in_ok-wholes.wholes _ c.in_ok-end.ensures.same c.in_ok-end.ensures.told c.in_ok-wholes.ensures.reads c.in_ok-past.ensures.history refl refl
+    let s = c.in_ok-end.field-0 in
+    let read : FileRead = record { known = record { index = c.in_ok-index.index; end = s.end; last = s.last; next = c.above-next.result; count = s.count }; torn = s.torn } in
+    on_told (g.D.Disk.told c.args.disk.now) _ (λ told. Reads (content told) read)
+    (λ told t. reads_scan (content told) s c.in_ok-index.index c.above-next.result t (λ o. c.in_ok-index.ensures o ∙ ap (last_place o 0) c.as_slice.ensures) c.above-next.ensures.next) c.in_ok-end.ensures.told

@@ -2,29 +2,37 @@ use Rattle.std.proofs.Common.{◌≡◌, ◌+◌, ◌<◌, length, arith, ap, sy
 use Rattle.std.specs.Prelude.{◌-◌}
 use Rattle.std.specs.Ordering.{nat_cmp}
 use Rattle.std.specs.BTreeSet.{contains}
+use Rattle.zbase.specs.Faults.{counts_as, counts_then}
 use Rattle.zbase.specs.Values.{before}
 use Rattle.fs_scan.specs.declared.wholes.OidValue.{OidValue}
-use Rattle.fs_store.specs.Pasts.{history_of}
+use Rattle.fs_store.specs.Fronts.{history_at}
 use Rattle.fs_store.proofs.PartSteps.{seen_next, part_new, part_old}
+use Rattle.fs_store.proofs.Tellings.{moved, on_both, on_told}
 use Rattle.fs_store.proofs.parts.parts_of.Goals as goal
 
 pub loop-left-preserved-in_ok-push : goal.loop-left-preserved-in_ok-push
-loop-left-preserved-in_ok-push c =
+loop-left-preserved-in_ok-push g c =
+    let o = g.D.Disk.told c.args.disk.now in
     let kept = c.loop-left.invariant in
     let left = c.loop-left.left in
     let vs = c.args.values.now in
     let v = c.index-values-left.result in
+    let e = c.in_ok-part_of.ensures in
     let own = ap (λ (w : OidValue). w.oid) c.written.view_is in
     let one : left ≡ left - 1 + 1 = omega (arith, c.loop-left-test.true) in
     let lt : left - 1 < length vs = omega (arith, c.loop-left-test.true, kept.within) in
     record {
       within = omega (arith, kept.within);
-      parts = part_new (before (history_of c.args.past.now) c.args.tid) vs left (left - 1) _ v _ _ _ (contains nat_cmp c.loop-left.seen) one lt c.index-values-left.is own (sym c.in_ok-insert.ensures.added ∙ c.if-branch.true) kept.seen c.in_ok-part_of.ensures c.in_ok-push.ensures.items kept.parts;
+      parts = on_both o _ _ _ (λ told so part. part_new (before (history_at told c.args.known.now.end) c.args.tid) vs left (left - 1) _ v _ _ _ (contains nat_cmp c.loop-left.seen) one lt c.index-values-left.is own (sym c.in_ok-insert.ensures.added ∙ c.if-branch.true) kept.seen part c.in_ok-push.ensures.items so)
+          kept.parts (moved _ o _ (sym kept.same) e.part);
       seen = seen_next (contains nat_cmp c.loop-left.seen) (contains nat_cmp c.insert.new.self) vs left (left - 1) _ v one lt c.index-values-left.is own c.in_ok-insert.ensures.updates.0 kept.seen;
+      same = e.same ∙ kept.same;
+      spare = (e.spare.0 ∙ kept.spare.0, e.spare.1 ∙ kept.spare.1);
+      counts = counts_then kept.counts (λ none. none) (counts_as e.counts (λ x. cc) (λ none. absurd none));
     }
 
 pub loop-left-preserved : goal.loop-left-preserved
-loop-left-preserved c =
+loop-left-preserved g c =
     let kept = c.loop-left.invariant in
     let left = c.loop-left.left in
     let vs = c.args.values.now in
@@ -34,6 +42,10 @@ loop-left-preserved c =
     let lt : left - 1 < length vs = omega (arith, c.loop-left-test.true, kept.within) in
     record {
       within = omega (arith, kept.within);
-      parts = part_old (before (history_of c.args.past.now) c.args.tid) vs left (left - 1) _ v c.loop-left.parts.items (contains nat_cmp c.loop-left.seen) one lt c.index-values-left.is own (sym c.in_ok-insert.ensures.added ∙ c.if-branch.false) kept.seen kept.parts;
+      parts = on_told (g.D.Disk.told c.args.disk.now) _ _ (λ told so. part_old (before (history_at told c.args.known.now.end) c.args.tid) vs left (left - 1) _ v c.loop-left.parts.items (contains nat_cmp c.loop-left.seen) one lt c.index-values-left.is own (sym c.in_ok-insert.ensures.added ∙ c.if-branch.false) kept.seen so)
+          kept.parts;
       seen = seen_next (contains nat_cmp c.loop-left.seen) (contains nat_cmp c.insert.new.self) vs left (left - 1) _ v one lt c.index-values-left.is own c.in_ok-insert.ensures.updates.0 kept.seen;
+      same = kept.same;
+      spare = kept.spare;
+      counts = kept.counts;
     }

@@ -1,35 +1,39 @@
-use Rattle.std.proofs.Common.{◌≡◌, ◌<◌, arith, ap, sym, ◌∙◌, subst, map, Some}
+use Rattle.std.proofs.Common.{◌≡◌, IfSome, Option, Some, None, arith, sym, ap, subst, ◌∙◌}
 use Rattle.std.specs.Option.{option_map}
-use Rattle.zbase.specs.Values.{before, transaction, upto}
-use Rattle.evaluator.specs.Facts.{last_records, part_of, parts_of}
-use Rattle.fs_scan.specs.Wholes.{records_in, transaction_in}
-use Rattle.fs_store.specs.Pasts.{history_of}
-use Rattle.fs_store.proofs.PartSteps.{transaction_beyond, transaction_within, parts_within, found_tid, found_positive}
+use Rattle.zbase.specs.Values.{transaction, upto}
+use Rattle.evaluator.specs.Facts.{parts_of}
+use Rattle.fs_scan.specs.declared.wholes.Whole.{Whole}
+use Rattle.fs_scan.specs.Wholes.{transaction_in}
+use Rattle.fs_record.specs.FileLaws.{file_history}
+use Rattle.fs_store.specs.Fronts.{history_at}
+use Rattle.fs_store.proofs.PartSteps.{parts_are, parts_none, transaction_beyond, transaction_within, transaction_zero}
+use Rattle.fs_store.proofs.Tellings.{always, moved, on_three, on_told}
 use Rattle.fs_store.proofs.parts.transaction.Goals as goal
 
-pub returns-then-at-tid : goal.returns-then-at-tid
-returns-then-at-tid c = sym (ap (option_map (parts_of (upto (history_of c.args.past.now) c.args.at))) (transaction_beyond (history_of c.args.past.now) c.args.tid c.args.at c.if-at-tid.true))
+pub returns-then-at-tid-clause-parts : goal.returns-then-at-tid-clause-parts
+returns-then-at-tid-clause-parts g c =
+    always (g.D.Disk.told c.args.disk.now) (λ told. None ≡ option_map (parts_of (upto (history_at told c.args.known.now.end) c.args.at)) (transaction (upto (history_at told c.args.known.now.end) c.args.at) c.args.tid))
+    (λ told. parts_none (history_at told c.args.known.now.end) c.args.tid c.args.at (transaction_beyond (history_at told c.args.known.now.end) c.args.tid c.args.at c.if-at-tid.true))
 
-pub parts_of-requires-clause-positive : goal.parts_of-requires-clause-positive
-parts_of-requires-clause-positive c =
-    let h = history_of c.args.past.now in
-    let x = transaction_in c.in-Some.whole.now in
-    let found : transaction h c.args.tid ≡ Some x = sym c.in-Some.ensures in
-    subst (λ t. 0 < t) (found_tid h x c.args.tid c.requires.history found) (found_positive h x c.args.tid c.requires.history found)
+pub returns-then-tid-eq0-clause-parts : goal.returns-then-tid-eq0-clause-parts
+returns-then-tid-eq0-clause-parts g c =
+    on_told (g.D.Disk.told c.args.disk.now) _ (λ told. None ≡ option_map (parts_of (upto (history_at told c.args.known.now.end) c.args.at)) (transaction (upto (history_at told c.args.known.now.end) c.args.at) c.args.tid))
+    (λ told k.
+    let h = history_at told c.args.known.now.end in
+    parts_none h c.args.tid c.args.at (transaction_within h c.args.tid c.args.at (omega (arith, c.if-at-tid.false)) ∙ ap (transaction h) c.if-tid-eq0.true ∙ transaction_zero h (file_history _ _ k.0.file))) c.requires.known
 
-pub returns-in-None : goal.returns-in-None
-returns-in-None c =
-    let h = history_of c.args.past.now in
-    sym (ap (option_map (parts_of (upto h c.args.at))) (transaction_within h c.args.tid c.args.at c.if-at-tid.false ∙ sym c.in-None.ensures))
+pub returns-in-None-clause-parts : goal.returns-in-None-clause-parts
+returns-in-None-clause-parts g c =
+    let found = subst (λ (w : Option Whole). IfSome (g.D.Disk.told c.args.disk.now) (λ told. option_map transaction_in w ≡ transaction (history_at told c.args.known.now.end) c.args.tid)) c.in-None.is c.in_ok-whole_of.ensures.found in
+    on_told (g.D.Disk.told c.args.disk.now) _ (λ told. None ≡ option_map (parts_of (upto (history_at told c.args.known.now.end) c.args.at)) (transaction (upto (history_at told c.args.known.now.end) c.args.at) c.args.tid))
+    (λ told f.
+    let h = history_at told c.args.known.now.end in
+    parts_none h c.args.tid c.args.at (transaction_within h c.args.tid c.args.at (omega (arith, c.if-at-tid.false)) ∙ sym f)) found
 
-pub returns-in_ok-parts_of-in-Some : goal.returns-in_ok-parts_of-in-Some
-returns-in_ok-parts_of-in-Some c =
-    let h = history_of c.args.past.now in
-    let x = transaction_in c.in-Some.whole.now in
-    let found : transaction h c.args.tid ≡ Some x = sym c.in-Some.ensures in
-    let tid = found_tid h x c.args.tid c.requires.history found in
-    ap (λ ps. Some ps) (c.in_ok-parts_of-in-Some.ensures
-    ∙ ap (λ vs. map (part_of (before h c.args.tid)) (last_records (records_in vs))) c.as_slice.ensures
-    ∙ ap (λ t. map (part_of (before h t)) (last_records x.records)) (sym tid)
-    ∙ sym (parts_within h x c.args.at (omega (arith, tid, c.if-at-tid.false))))
-    ∙ sym (ap (option_map (parts_of (upto h c.args.at))) (transaction_within h c.args.tid c.args.at c.if-at-tid.false ∙ found))
+pub returns-in_ok-parts_of-in-Some-clause-parts : goal.returns-in_ok-parts_of-in-Some-clause-parts
+returns-in_ok-parts_of-in-Some-clause-parts g c =
+    let o = g.D.Disk.told c.args.disk.now in
+    let found = subst (λ (w : Option Whole). IfSome o (λ told. option_map transaction_in w ≡ transaction (history_at told c.args.known.now.end) c.args.tid)) c.in-Some.is c.in_ok-whole_of.ensures.found in
+    let parts = moved _ o _ (sym c.in_ok-whole_of.ensures.same) c.in_ok-parts_of-in-Some.ensures.parts in
+    on_three o _ _ _ (λ told. Some c.in_ok-parts_of-in-Some.field-0 ≡ option_map (parts_of (upto (history_at told c.args.known.now.end) c.args.at)) (transaction (upto (history_at told c.args.known.now.end) c.args.at) c.args.tid))
+    (λ told k f p. parts_are (history_at told c.args.known.now.end) c.args.tid c.args.at c.in-Some.whole c.as_slice.result.now c.in_ok-parts_of-in-Some.field-0 (file_history _ _ k.0.file) (omega (arith, c.if-at-tid.false)) f c.as_slice.ensures p) c.requires.known found parts

@@ -1,8 +1,15 @@
-use Rattle.std.proofs.Common.{◌≡◌, drop}
-use Rattle.fs_store.specs.Pasts.{history_of}
+use Rattle.std.proofs.Common.{◌≡◌, IfSome, drop}
+use Rattle.zbase.specs.Faults.{Counts}
+use Rattle.fs_store.specs.Fronts.{history_at}
 use Rattle.fs_store.specs.Verdicts.{clash_among}
 use Rattle.fs_store.proofs.voting.clash_among.Given as goal
 
--- the first clash is among the reads that are left
+-- the first clash is among the reads that are left, and no call was made
 abbrev pub invariant-loop-seen : goal.invariant-loop-seen
-invariant-loop-seen l = clash_among (history_of l.past) (drop l.seen-index l.reads) ≡ clash_among (history_of l.past) l.reads
+invariant-loop-seen g l = record {
+  left : IfSome (g.D.Disk.told l.fn.disk) (λ told. clash_among (history_at told l.known.end) (drop l.seen-index l.reads) ≡ clash_among (history_at told l.known.end) l.reads);
+  calls : g.D.Disk.device_calls l.disk ≡ g.D.Disk.device_calls l.fn.disk;
+  same : g.D.Disk.told l.disk ≡ g.D.Disk.told l.fn.disk;
+  spare : (g.D.Disk.spare_calls l.disk ≡ g.D.Disk.spare_calls l.fn.disk) × (g.D.Disk.spare_bytes l.disk ≡ g.D.Disk.spare_bytes l.fn.disk);
+  counts : Counts (g.D.Disk.counter l.fn.disk) (g.D.Disk.counter l.disk) ⊥;
+}

@@ -4,6 +4,12 @@ use Rattle.txn_core.proofs.Lists.{set_other, set_twice}
 use Rattle.txn_core.proofs.Cores.{step_ends, step_follows, step_lowers, step_paces}
 use Rattle.txn_core.proofs.workers.Core.step.Goals as goal
 
+pub advance-next-requires-clause-stands : goal.advance-next-requires-clause-stands
+advance-next-requires-clause-stands g c =
+    let here : slice_get c.self.inside.slots.items c.args.worker ≡ Some c.replace-slot.result =
+    slice_get_read c.self.inside.slots.items 16 c.args.worker c.replace-slot.result (sym c.self.invariant.count) c.requires (rw c.replace-slot.ensures.value c.index_mut.ensures.value) in
+    c.self.invariant.each c.args.worker c.replace-slot.result here
+
 pub invariant_of-self : goal.invariant_of-self
 invariant_of-self g c =
     let here : slice_get c.self.inside.slots.items c.args.worker ≡ Some c.replace-slot.result =

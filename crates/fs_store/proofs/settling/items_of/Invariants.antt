@@ -1,0 +1,22 @@
+use Rattle.std.proofs.Common.{◌≡◌, IfSome, drop, take}
+use Rattle.std.specs.Prelude.{All}
+use Rattle.std.specs.List.{AllByRecursion}
+use Rattle.zbase.specs.Faults.{Counts}
+use Rattle.fs_record.specs.Sizes.{records_size}
+use Rattle.fs_record.specs.Written.{HasBody}
+use Rattle.fs_store.specs.Drafts.{FitsEntry, IsWrite, sizes_of}
+use Rattle.fs_store.specs.Settled.{AreOf}
+use Rattle.fs_store.proofs.settling.items_of.Given as goal
+
+-- the items of the entries so far, and the entries that are left fit
+abbrev pub invariant-loop-entry : goal.invariant-loop-entry
+invariant-loop-entry g l = record {
+  are : IfSome (g.D.Disk.told l.fn.disk) (λ told. AreOf told l.known.end (take l.entry-index l.entries) l.items.items);
+  bodies : All HasBody l.items.items;
+  size : records_size l.items.items ≡ sizes_of (take l.entry-index l.entries);
+  fits : AllByRecursion (FitsEntry l.known.next) (drop l.entry-index l.entries);
+  calls : AllByRecursion IsWrite (take l.entry-index l.entries) → g.D.Disk.device_calls l.disk ≡ g.D.Disk.device_calls l.fn.disk;
+  same : g.D.Disk.told l.disk ≡ g.D.Disk.told l.fn.disk;
+  spare : (g.D.Disk.spare_calls l.disk ≡ g.D.Disk.spare_calls l.fn.disk) × (g.D.Disk.spare_bytes l.disk ≡ g.D.Disk.spare_bytes l.fn.disk);
+  counts : Counts (g.D.Disk.counter l.fn.disk) (g.D.Disk.counter l.disk) ⊥;
+}

@@ -1,0 +1,59 @@
+ghost use Rattle.std.specs.Prelude.{◌≡◌, IfOk, IfSome, IsErr, nat_le};
+ghost use Rattle.zbase.specs.Faults.{Counts};
+ghost use Rattle.fs_store.specs.Finding.{FoundIn};
+ghost use Rattle.fs_store.specs.Knowing.{IsKnown};
+
+use crate::known::Known;
+use fs_record::DataHead;
+use fs_scan::read_head;
+use zbase::{Failed, Oid, Tid};
+use zdisk::Disk;
+
+/// A data record: its place and its head.
+#[derive(Clone, Copy)]
+pub(crate) struct Record {
+    pub(crate) place: u64,
+    pub(crate) head: DataHead,
+}
+
+// Whether the record is of a transaction up to that one.
+fn is_upto(head: &DataHead, at: Tid) -> bool
+    ensures { result ≡ nat_le head.now.tid at }
+{
+    head.tid.0 <= at.0
+}
+
+/// An object's last data record up to a transaction, by its previous places: one device call
+/// for each record that is looked at.
+///
+/// FileStorage format notes: a data record has the place of the object's record before it.
+pub(crate) fn find<D: Disk>(
+    disk: &mut D,
+    known: &Known,
+    len: u64,
+    oid: Oid,
+    at: Tid,
+) -> Result<Option<Record>, Failed>
+    requires { IsKnown (D.told disk.old) known.now len }
+    ensures found { IfOk result (λ found. IfSome (D.told disk.old) (λ told. FoundIn told known.now.end oid at found)) }
+    ensures same { D.told disk.new ≡ D.told disk.old }
+    ensures spare { (D.spare_calls disk.new ≡ D.spare_calls disk.old) × (D.spare_bytes disk.new ≡ D.spare_bytes disk.old) }
+    ensures counts { Counts (D.counter disk.old) (D.counter disk.new) (IsErr result) }
+{
+    let mut place = known.place(oid);
+    'back: while place > 0 {
+        let head = match read_head(disk, len, place)? {
+            Some(head) => head,
+            None => return Ok(None),
+        };
+        if is_upto(&head, at) {
+            return Ok(Some(Record { place, head }));
+        }
+        // an earlier place, since the file was judged: a disk that tells nothing may say what it likes
+        if head.prev >= place {
+            return Ok(None);
+        }
+        place = head.prev;
+    }
+    Ok(None)
+}
