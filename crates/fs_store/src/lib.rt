@@ -1,11 +1,13 @@
-//! A store: a history that grows by voted transactions, one vote at a time.
+//! A store: the history of a disk's file, which grows by voted transactions, one vote at a time.
 //!
 //! A reader asks what the history up to a transaction says. A writer votes with a draft and the objects that it
-//! read; the vote is refused where one of these has a later serial, and else the transaction waits until it is
-//! finished or aborted. `specs/Stores` says what a store is seen as, `specs/Verdicts` when a vote is refused.
+//! read; the vote is refused where one of these has a later serial. Else its record stands behind the file with status
+//! `c`, which counts as a torn rest, until it is finished by one byte or cut off again.
 //!
-//! `Store::open` opens a disk's file, and cuts off what a broken write left (`specs/Opened`). So far its transactions
-//! are kept in memory from then on, and new ones aren't written to the disk.
+//! Of the file a store keeps where it ends, its numbers and each object's newest place (`specs/Knowing`); all else is
+//! read where it stands (`specs/Finding`). `specs/Stores` says what a store is seen as, `specs/Fronts` which history its
+//! disk's file says, `specs/Verdicts` when a vote is refused, `specs/Moments` what a stop at any moment may leave, and
+//! `specs/Opened` what opening makes of a disk.
 #![tactic(auto)]
 
 mod committing;

@@ -3,7 +3,7 @@ ghost use Rattle.zbase.specs.Faults.{Counts, Rose};
 ghost use Rattle.zbase.specs.History.{History};
 ghost use Rattle.fs_record.specs.declared.damage.Damage.{Damage as Kind};
 ghost use Rattle.fs_record.specs.Opening.{Damaged};
-ghost use Rattle.fs_store.specs.Stores.{most_length};
+ghost use Rattle.fs_store.specs.Stores.{IsSteady, most_length};
 ghost use Rattle.publisher.specs.Messages.{message_of};
 ghost use Rattle.publisher.specs.Site.{site};
 ghost use Rattle.replay.specs.Printed.{PrintsReport, terms_of};
@@ -38,6 +38,7 @@ fn open_file(alloc: Global, bytes: Bytes, limit: u64) -> Result<Store<MemoryDisk
     requires limit { limit ≤ most_length }
     requires size { length bytes ≤ most_file }
     ensures opens { IfOk result (λ store. Opens bytes limit store) }
+    ensures steady { IfOk result IsSteady }
     ensures damaged { (kind : Kind) (place : ℕ) → IsErrOf result (Refusal.Damaged kind place) → Damaged bytes place kind }
     ensures others { IfErr result IsOfReading }
 {
@@ -61,6 +62,7 @@ fn store_of<F: Shelf>(
 ) -> Result<Store<MemoryDisk>, Refusal>
     requires limit { limit ≤ most_length }
     ensures opens { IfOk result (λ store. (bytes : List ℕ) × Stored (F.files files.old) name.now bytes × Opens bytes limit store) }
+    ensures steady { IfOk result IsSteady }
     ensures cause { IfErr result (FileCause (F.files files.old) name.now (Rose (F.counter files.old) (F.counter files.new) ⊎ (F.sound_disks files.old → ⊥))) }
     ensures count { (F.counter files.old).count ≤ (F.counter files.new).count }
 {
@@ -76,11 +78,12 @@ fn run_over<K: Sink>(
     out: &mut K,
 ) -> Result<(), Refusal>
     requires idle { store.out ≡ None }
+    requires steady { IsSteady store }
     ensures printed { OnOk result ((last : History) × PrintsReport (terms_of message_of site store.limit store.end) store.history items.now last (K.written out.old) (K.written out.new)) }
     ensures cause { IfErr result (RunCause (Broke store items.now (K.written out.old) (K.written out.new)) (Rose (K.counter out.old) (K.counter out.new))) }
     ensures counts { Counts (K.counter out.old) (K.counter out.new) (IsErrOf result Refusal.Output) }
 {
-    let _store = replay(alloc, store, items, Site::new(alloc), out)?;
+    let _disk = replay(alloc, store, items, Site::new(alloc), out)?;
     Ok(())
 }
 
