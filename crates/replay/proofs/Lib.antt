@@ -7,3 +7,4 @@ pub mod InOrder
 pub mod LostMarks
 pub mod Giving
 pub mod DumpSteps
+pub mod Closing

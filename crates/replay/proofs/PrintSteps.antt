@@ -1,5 +1,5 @@
 -- Lines behind lines, and a whole report.
-use Rattle.std.proofs.Common.{◌≡◌, ℕ, ◌+◌, ◌<◌, List, [], ◌∷◌, ◌++◌, length, get_or, take, map, flat_map, subst, Option, Some, None, Result, Ok, Err, OnOk, refl, sym, ap, ◌∙◌, append_assoc, append-nil}
+use Rattle.std.proofs.Common.{◌≡◌, ℕ, ◌+◌, ◌<◌, List, [], ◌∷◌, ◌++◌, length, get_or, take, map, subst, Option, Some, None, Result, Ok, Err, OnOk, refl, sym, ap, ◌∙◌, append_assoc, append-nil}
 use Rattle.std.specs.Io.KnownBytes.{append_known}
 use Rattle.std.proofs.lemmas.Grind.{flat_map-append}
 use Rattle.std.proofs.lemmas.List.{take_more, map-append}
@@ -22,14 +22,6 @@ prints_then a b c xs ys p q =
 pub prints_then_ok : {T E : Type 0} (r : Result T E) (a b c : Option (List ℕ)) (xs ys : List Line) → Prints a b xs → OnOk r (Prints b c ys) → OnOk r (Prints a c (xs ++ ys))
 prints_then_ok (Ok x) a b c xs ys p q = prints_then a b c xs ys p q
 prints_then_ok (Err e) a b c xs ys p q = tt
-
--- the lines of one more item of a list, each seen through a view
-pub prints_next_lines : {X Y : Type 0} (lines_of : Y → List Line) (view : X → Y) (a b c : Option (List ℕ)) (xs : List X) (i : ℕ) (x : X) → i < length xs → x ≡ get_or xs i x → Prints a b (flat_map lines_of (map view (take i xs))) → Prints b c (lines_of (view x)) → Prints a c (flat_map lines_of (map view (take (i + 1) xs)))
-prints_next_lines lines_of view a b c xs i x lt e p q =
-    let one : take (i + 1) xs ≡ take i xs ++ x ∷ [] = take_more xs i x lt ∙ ap (λ y. take i xs ++ y ∷ []) (sym e) in
-    let all : flat_map lines_of (map view (take i xs)) ++ lines_of (view x) ≡ flat_map lines_of (map view (take (i + 1) xs)) =
-    sym (ap (λ ys. flat_map lines_of (map view ys)) one ∙ ap (flat_map lines_of) (map-append view (take i xs) (x ∷ [])) ∙ flat_map-append lines_of (map view (take i xs)) (view x ∷ []) ∙ ap (λ ys. flat_map lines_of (map view (take i xs)) ++ ys) (append-nil (lines_of (view x)))) in
-    subst (λ ls. Prints a c ls) all (prints_then a b c (flat_map lines_of (map view (take i xs))) (lines_of (view x)) p q)
 
 -- the line of one more item, each seen through a view
 pub prints_next_line : {X Y : Type 0} (line_of : Y → Line) (view : X → Y) (a b c : Option (List ℕ)) (xs : List X) (i : ℕ) (x : X) → i < length xs → x ≡ get_or xs i x → Prints a b (map line_of (map view (take i xs))) → Prints b c (line_of (view x) ∷ []) → Prints a c (map line_of (map view (take (i + 1) xs)))

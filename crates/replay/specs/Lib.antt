@@ -4,3 +4,4 @@ pub mod Losing
 pub mod BrokenOff
 pub mod Refusals
 pub mod Dumped
+pub mod Held

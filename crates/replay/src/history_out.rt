@@ -1,16 +1,14 @@
-ghost use Rattle.std.specs.Prelude.{◌≡◌, IfOk, OnOk, IsErrOf, flat_map, length, map};
+ghost use Rattle.std.specs.Prelude.{◌≡◌, IfOk, OnOk, IsErrOf, length, map};
 ghost use Rattle.zbase.specs.Faults.{Counts};
-ghost use Rattle.schedule.specs.Explained.{history_lines, record_line, transaction_lines};
+ghost use Rattle.schedule.specs.Explained.{record_line, transaction_lines};
 ghost use Rattle.fs_scan.specs.Wholes.{records_in, transaction_in};
 ghost use Rattle.replay.specs.Printed.{Prints};
 
 use crate::printing::put_line;
 use fs_scan::{OidValue, Whole};
-use fs_store::Store;
 use schedule::Line;
 use std::alloc::Global;
 use zbase::{Memory, Value};
-use zdisk::Disk;
 use zio::{OutsideRefusal, Sink};
 
 // A second value of the same bytes.
@@ -73,31 +71,4 @@ pub(crate) fn put_transaction<K: Sink>(
     };
     put_line(alloc, &line, out)?;
     put_records(alloc, transaction.values.as_slice(), out)
-}
-
-fn put_transactions<K: Sink>(
-    alloc: Global,
-    transactions: &[Whole],
-    out: &mut K,
-) -> Result<(), OutsideRefusal>
-    ensures ok { OnOk result (Prints (K.written out.old) (K.written out.new) (flat_map transaction_lines (map transaction_in transactions.now))) }
-    ensures counts { Counts (K.counter out.old) (K.counter out.new) (IsErrOf result OutsideRefusal.Failed) }
-{
-    for transaction in transactions {
-        put_transaction(alloc, transaction, out)?;
-    }
-    Ok(())
-}
-
-/// Writes the store's history, with all of its values. A vote that is out isn't part of it.
-pub fn put_history<D: Disk + Drop, K: Sink>(
-    alloc: Global,
-    store: &Store<D>,
-    out: &mut K,
-) -> Result<(), OutsideRefusal>
-    ensures ok { OnOk result (Prints (K.written out.old) (K.written out.new) (history_lines store.now.history)) }
-    ensures counts { Counts (K.counter out.old) (K.counter out.new) (IsErrOf result OutsideRefusal.Failed) }
-{
-    put_line(alloc, &Line::History(store.len() as u64), out)?;
-    put_transactions(alloc, store.transactions(), out)
 }

@@ -18,6 +18,5 @@ mod running;
 mod tests;
 
 pub use dumping::{DumpRefusal, dump};
-pub use history_out::put_history;
 pub use refusal::RunRefusal;
 pub use running::replay;

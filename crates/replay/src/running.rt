@@ -1,17 +1,20 @@
 ghost use Rattle.std.specs.Prelude.{◌≡◌, ◌⊎◌, ◌++◌, ◌∷◌, ◌<◌, ℕ, [], None, Some, false, true, IfOk, OnOk, OnErr, IsErrOf};
 ghost use Rattle.zbase.specs.Faults.{Counts};
+ghost use Rattle.zbase.specs.History.{History};
 ghost use Rattle.schedule.specs.Courses.{Happens};
 ghost use Rattle.schedule.specs.Moments.{Free, clocked, doing};
 ghost use Rattle.schedule.specs.declared.item.Item2.{Item2};
+ghost use Rattle.fs_store.specs.Stores.{IsSteady};
 ghost use Rattle.txn_core.specs.Cores.{IsAtRest, IsIdle};
 ghost use Rattle.txn_core.specs.Slots.{moment_of};
 ghost use Rattle.schedule.specs.declared.line.Line.{Line};
 ghost use Rattle.schedule.specs.Explained.{history_lines};
 ghost use Rattle.replay.specs.Losing.{lost_marks};
+ghost use Rattle.replay.specs.Held.{HoldsFile};
 ghost use Rattle.replay.specs.BrokenOff.{BrokenOff, CannotRun};
 ghost use Rattle.replay.specs.Printed.{HappensPrinted, Prints, PrintsReport, Ran, terms_of};
 
-use crate::history_out::put_history;
+use crate::dumping::{DumpRefusal, dump};
 use crate::losing::put_lost;
 use crate::printing::{put_line, put_step};
 use crate::refusal::RunRefusal;
@@ -89,19 +92,31 @@ fn run_item<D: Disk + Drop, E: Evaluator, K: Sink>(
     }
 }
 
-// Writes what closes a report: a line for each request that is cut off, and the history.
+// Writes what closes a report: a line for each request that is cut off, and the history, by a walk over the disk
+// under the store.
 fn put_closing<D: Disk + Drop, K: Sink>(
     alloc: Global,
-    store: &Store<D>,
+    store: Store<D>,
     taken: &[bool; 16],
     out: &mut K,
-) -> Result<(), OutsideRefusal>
-    ensures ok { OnOk result (Prints (K.written out.old) (K.written out.new) (lost_marks taken.now ++ history_lines store.now.history ++ Line.End ∷ [])) }
+) -> Result<D, OutsideRefusal>
+    requires idle { store.out ≡ None }
+    requires steady { IsSteady store }
+    ensures ok { OnOk result (Prints (K.written out.old) (K.written out.new) (lost_marks taken.now ++ history_lines store.history ++ Line.End ∷ [])) }
+    ensures held { IfOk result (λ disk. HoldsFile (D.told disk) store.history) }
     ensures counts { Counts (K.counter out.old) (K.counter out.new) (IsErrOf result OutsideRefusal.Failed) }
 {
     put_lost(alloc, taken.as_slice(), out)?;
-    put_history(alloc, store, out)?;
-    put_line(alloc, &Line::End, out)
+    let mut disk = store.into_disk();
+    match dump(alloc, &mut disk, out) {
+        Ok(()) => Ok(disk),
+        Err(DumpRefusal::Output) => Err(OutsideRefusal::Failed),
+        Err(DumpRefusal::Memory) => Err(OutsideRefusal::Memory),
+        // The disk can't fail.
+        Err(DumpRefusal::Disk) => unreachable!(),
+        // It holds a file, in which there is no damage.
+        Err(DumpRefusal::Damaged(_, _)) => unreachable!(),
+    }
 }
 
 // Writes what opens a report, and runs the items from the first on.
@@ -117,9 +132,10 @@ fn run_items<D: Disk + Drop, E: Evaluator, K: Sink>(
     ensures counts { Counts (K.counter out.old) (K.counter out.new) (IsErrOf result RunRefusal.Output) }
 {
     runs_are_serial::<E>();
+    core.is_sound();
     core.store().is_sound();
     put_line(alloc, &Line::Head, out)?;
-    let opened = Line::Opened(core.store().last(), core.store().len() as u64);
+    let opened = Line::Opened(core.store().last(), core.store().len());
     put_line(alloc, &opened, out)?;
     let mut clock = Tid(0);
     let mut number: u64 = 2;
@@ -130,20 +146,22 @@ fn run_items<D: Disk + Drop, E: Evaluator, K: Sink>(
     Ok(())
 }
 
-/// Runs a schedule over a store, by an evaluator, and writes the report line by line. With `Ok` the store comes
-/// back, in which a vote that was out at the schedule's end doesn't stand.
+/// Runs a schedule over a store, by an evaluator, and writes the report line by line. With `Ok` the disk comes back, in
+/// which a vote that was out at the schedule's end doesn't stand: what it reads is its one image, a file of the history
+/// that the report prints last.
 ///
-/// The report is one that the schedule may have over the store's history, and ends in the history of the store that
-/// comes back. Where an item can't be run, the items before it are run and printed.
+/// The report is one that the schedule may have over the store's history. Where an item can't be run, the items before
+/// it are run and printed.
 pub fn replay<D: Disk + Drop, E: Evaluator, K: Sink>(
     alloc: Global,
     store: Store<D>,
     items: &[Item2],
     evaluator: E,
     out: &mut K,
-) -> Result<Store<D>, RunRefusal>
-    requires { store.out ≡ None }
-    ensures explained { IfOk result (λ last. PrintsReport (terms_of E.takes E.meaning store.limit store.end) store.history items.now last.history (K.written out.old) (K.written out.new)) }
+) -> Result<D, RunRefusal>
+    requires idle { store.out ≡ None }
+    requires steady { IsSteady store }
+    ensures explained { IfOk result (λ disk. (last : History) × PrintsReport (terms_of E.takes E.meaning store.limit store.end) store.history items.now last (K.written out.old) (K.written out.new) × HoldsFile (D.told disk) last) }
     ensures bad_line { (n : ℕ) → IsErrOf result (RunRefusal.BadLine n) → BrokenOff (terms_of E.takes E.meaning store.limit store.end) store.history items.now n (K.written out.old) (K.written out.new) }
     ensures counts { Counts (K.counter out.old) (K.counter out.new) (IsErrOf result RunRefusal.Output) }
 {
@@ -156,8 +174,7 @@ pub fn replay<D: Disk + Drop, E: Evaluator, K: Sink>(
     match run_items(alloc, &mut core, items, out) {
         Ok(()) => {
             let (store, taken) = core.close();
-            put_closing(alloc, &store, &taken, out)?;
-            Ok(store)
+            Ok(put_closing(alloc, store, &taken, out)?)
         }
         Err(refusal) => {
             let (_store, _taken) = core.close();

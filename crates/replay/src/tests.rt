@@ -1,16 +1,15 @@
 ghost use Rattle.std.specs.Prelude.{◌≡◌, None, IfOk};
 ghost use Rattle.evaluator.specs.Cells.{eval_cell, takes_cell};
 ghost use Rattle.evaluator.specs.CellLaws.{cell_changes, cell_replies, cells_ask_few, cells_lawful};
+ghost use Rattle.fs_store.specs.Stores.{IsSteady};
 
 use crate::{RunRefusal, replay};
 use evaluator::{CellRequest, Cells, Evaluator, Facts, Outcome};
-use fs_record::TxnTexts;
-use fs_scan::{OidValue, OidValues, Whole, Wholes};
 use fs_store::Store;
 use schedule::{Item2, Schedule, read_schedule};
 use std::alloc::Global;
 use std::test::Fail;
-use zbase::{Bytes, FaultPlan, Memory, Oid, Text, Tid};
+use zbase::{Bytes, FaultPlan, Memory};
 use zdisk::MemoryDisk;
 use zio::MemorySink;
 
@@ -36,19 +35,18 @@ const LAST: &str = "ffffffffffffffff";
 
 const BEFORE_LAST: &str = "fffffffffffffffe";
 
-/// A file of one transaction, with its objects and their bytes.
+/// A file of one transaction, with its objects and their bytes, and how many bytes it may have.
 #[derive(Clone, Copy)]
 struct File<'a> {
     tid: u64,
     objects: &'a [(u64, &'a str)],
-    end: u64,
     limit: u64,
 }
 
+/// A file that ends at 121.
 const CELLS: File<'static> = File {
     tid: 0x0331_6200_0000_0000,
     objects: &[(1, "a"), (2, "b")],
-    end: 200,
     limit: 100_000,
 };
 
@@ -56,47 +54,43 @@ const CELLS: File<'static> = File {
 const FIRST: &str =
     "transaction 0331620000000000 - - - 2\nrecord 0000000000000001 61\nrecord 0000000000000002 62\n";
 
-fn values_of(alloc: Global, objects: &[(u64, &str)]) -> Result<OidValues, Memory> {
-    let mut values = OidValues::new(alloc);
-    for (oid, text) in objects {
-        values.push(OidValue {
-            oid: Oid(*oid),
-            value: Some(Bytes::from_slice(alloc, text.as_bytes())?),
-        })?;
-    }
-    Ok(values)
+/// Adds the record of an object's first value, in the transaction that begins at 4.
+fn put_record(out: &mut Bytes, tid: u64, oid: u64, data: &[u8]) -> Result<(), Memory> {
+    out.append(&oid.to_be_bytes())?;
+    out.append(&tid.to_be_bytes())?;
+    out.append(&0u64.to_be_bytes())?;
+    out.append(&4u64.to_be_bytes())?;
+    out.append(&[0, 0])?;
+    out.append(&(data.len() as u64).to_be_bytes())?;
+    out.append(data)
 }
 
-fn transaction_of(alloc: Global, file: &File<'_>) -> Result<Whole, Memory>
-    ensures { IfOk result (λ transaction. transaction.tid ≡ file.now.tid) }
-{
-    let values = values_of(alloc, file.objects)?;
-    Ok(Whole {
-        place: 4,
-        status: b' ',
-        tid: Tid(file.tid),
-        texts: TxnTexts {
-            user: Bytes::new(alloc),
-            description: Bytes::new(alloc),
-            extension: Bytes::new(alloc),
-        },
-        values,
-    })
+/// The bytes of the file, laid out by hand.
+fn bytes_of(alloc: Global, file: &File<'_>) -> Result<Bytes, Memory> {
+    let mut inside = Bytes::new(alloc);
+    for (oid, text) in file.objects {
+        put_record(&mut inside, file.tid, *oid, text.as_bytes())?;
+    }
+    let long = (inside.len() as u64).wrapping_add(23).to_be_bytes();
+    let mut bytes = Bytes::from_slice(alloc, b"FS21")?;
+    bytes.append(&file.tid.to_be_bytes())?;
+    bytes.append(&long)?;
+    bytes.append(b" ")?;
+    bytes.append(&[0, 0, 0, 0, 0, 0])?;
+    bytes.append(inside.as_slice())?;
+    bytes.append(&long)?;
+    Ok(bytes)
 }
 
-/// A store over the file; none where its transaction's id is 0 or its limit is more than 2^48 - 1.
-fn store_of(alloc: Global, file: &File<'_>) -> Result<Store<MemoryDisk>, Memory>
-    ensures { IfOk result (λ store. store.out ≡ None) }
+/// A store over the file, which may have at most 2^48 - 1 bytes.
+fn store_of(alloc: Global, file: &File<'_>) -> Result<Store<MemoryDisk>, Fail>
+    ensures idle { IfOk result (λ store. store.out ≡ None) }
+    ensures steady { IfOk result IsSteady }
 {
-    if file.tid == 0 || file.limit > 281_474_976_710_655 {
-        return Err(Memory);
-    }
-    let mut transactions = Wholes::new(alloc);
-    transactions.push(transaction_of(alloc, file)?)?;
-    let disk = MemoryDisk::new(alloc, Bytes::new(alloc));
-    match Store::new(alloc, disk, transactions, file.end, file.limit) {
+    let disk = MemoryDisk::new(alloc, bytes_of(alloc, file)?);
+    match Store::open(alloc, disk, file.limit.min(281_474_976_710_655)) {
         Ok(store) => Ok(store),
-        Err((memory, _disk)) => Err(memory),
+        Err((_refusal, _disk)) => Err(Fail::from("no store")),
     }
 }
 
@@ -122,7 +116,7 @@ fn ran<E: Evaluator>(
     let plan = FaultPlan::new(Vec::from_slice(alloc, &[failing])?);
     let mut sink = MemorySink::new(alloc, plan);
     let refusal = match replay(alloc, store, items, evaluator, &mut sink) {
-        Ok(_store) => None,
+        Ok(_disk) => None,
         Err(refusal) => Some(refusal),
     };
     Ok((refusal, text_of(alloc, sink.bytes())?))
@@ -391,12 +385,11 @@ fn a_vote_waits_for_the_one_that_is_out(rt: HostRuntime) -> Result<(), Fail> {
     Ok(())
 }
 
-/// A file of one transaction that ends at 200.
+/// A file of one transaction.
 fn file_of<'a>(tid: u64, objects: &'a [(u64, &'a str)], limit: u64) -> File<'a> {
     File {
         tid,
         objects,
-        end: 200,
         limit,
     }
 }
@@ -422,13 +415,13 @@ fn a_full_file_takes_no_vote(rt: HostRuntime) -> Result<(), Fail> {
     let copy = asks(alloc, 0, format!(in alloc; "copy {ONE} {TWO}")?.as_str(), 5)?;
     let objects = CELLS.objects;
     let computes = computes(alloc, 0, T0, ONE)?;
-    for limit in [0, 200, 274] {
+    for limit in [0, 121, 195] {
         let gone = refused(
             alloc,
             0,
-            format!(in alloc; "full: 275 of {limit}")?.as_str(),
+            format!(in alloc; "full: 196 of {limit}")?.as_str(),
         )?;
-        let steps = format!(in alloc; "{computes}spent 0 full 275 {limit}\n{gone}idle 0\n")?;
+        let steps = format!(in alloc; "{computes}spent 0 full 196 {limit}\n{gone}idle 0\n")?;
         assert_eq!(rt;
             printed(alloc, &file_of(CELLS.tid, objects, limit), copy.as_str())?.as_str(),
             report(alloc, steps.as_str(), 0, "")?.as_str()
@@ -437,11 +430,11 @@ fn a_full_file_takes_no_vote(rt: HostRuntime) -> Result<(), Fail> {
     let lines = format!(in alloc; "{copy}{copy}")?;
     let first = copies(alloc, 0, T0, ONE, T1)?;
     let second = self::computes(alloc, 0, T1, ONE)?;
-    let gone = refused(alloc, 0, "full: 350 of 275")?;
-    let steps = format!(in alloc; "{first}{second}spent 0 full 350 275\n{gone}idle 0\n")?;
+    let gone = refused(alloc, 0, "full: 271 of 196")?;
+    let steps = format!(in alloc; "{first}{second}spent 0 full 271 196\n{gone}idle 0\n")?;
     let rows = wrote(alloc, T1, TWO, "612b")?;
     assert_eq!(rt;
-        printed(alloc, &file_of(CELLS.tid, objects, 275), lines.as_str())?.as_str(),
+        printed(alloc, &file_of(CELLS.tid, objects, 196), lines.as_str())?.as_str(),
         report(alloc, steps.as_str(), 1, rows.as_str())?.as_str()
     );
     Ok(())

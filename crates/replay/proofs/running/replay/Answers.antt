@@ -18,8 +18,11 @@ returns-in_ok-put_closing-in-Ok-run_items-clause-explained g c =
     let end = clocked (moment_of g.E.Evaluator.meaning core.store core.slots) ran.0 in
     let same : c.close-store.result.0.history ≡ core.store.history = ap (λ (s : StoreView). s.history) c.close-store.ensures.store in
     let closed : Prints (g.K.Sink.written c.run_items.new.out) (g.K.Sink.written c.put_closing.new.out) (closing end) =
-    rw (← marks_of_slots g.E.Evaluator.meaning core.store ran.0 core.slots c.close-store.result.1 c.close-store.ensures.taken, ← same) c.in_ok-put_closing-in-Ok-run_items.ensures.ok in
-    whole g.E.Evaluator.takes g.E.Evaluator.meaning store.limit store.end store.history _ _ end c.args.items.now ran.1.0 _ _ _ c.runs_are_serial.ensures g.met.E.Evaluator.lawful c.is_sound.ensures.history refl same ran.1.1 ran.1.2 closed
+    rw (← marks_of_slots g.E.Evaluator.meaning core.store ran.0 core.slots c.close-store.result.1 c.close-store.ensures.taken, ← same) c.in_ok-put_closing-in-Ok-run_items.ensures.ok in (
+      c.close-store.result.0.history,
+      whole g.E.Evaluator.takes g.E.Evaluator.meaning store.limit store.end store.history _ _ end c.args.items.now ran.1.0 _ _ _ c.runs_are_serial.ensures g.met.E.Evaluator.lawful (c.is_sound.ensures.history c.requires.steady.told) refl same ran.1.1 ran.1.2 closed,
+      c.in_ok-put_closing-in-Ok-run_items.ensures.held,
+    )
 
 pub returns-in_err-put_closing-in-Ok-run_items-clause-bad_line : goal.returns-in_err-put_closing-in-Ok-run_items-clause-bad_line
 returns-in_err-put_closing-in-Ok-run_items-clause-bad_line g c n is =

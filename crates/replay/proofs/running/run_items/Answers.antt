@@ -6,7 +6,6 @@ use Rattle.zbase.specs.Values.{last}
 use Rattle.schedule.specs.declared.line.Line.{Line}
 use Rattle.schedule.specs.CourseLaws.{RanCalm, ran_next, ran_none}
 use Rattle.schedule.specs.Moments.{start}
-use Rattle.fs_store.specs.Stores.{StoreView}
 use Rattle.replay.specs.Printed.{Prints, opening, terms_of}
 use Rattle.replay.proofs.BreakingOff.{broken_off}
 use Rattle.replay.proofs.LineRefusals.{no_line}
@@ -17,10 +16,11 @@ use Rattle.replay.proofs.running.run_items.Goals as goal
 pub loop-item-init : goal.loop-item-init
 loop-item-init g c =
     let core = c.args.core.now in
+    let told = c.is_sound.ensures.steady.told in
     let terms = terms_of g.E.Evaluator.takes g.E.Evaluator.meaning core.store.limit core.store.end in
     let opened : Line.Opened c.last.result c.len.result ≡ Line.Opened (last core.store.history) (length core.store.history.transactions) =
-    ap (λ n. Line.Opened n c.len.result) (c.last.ensures ∙ ap (λ (s : StoreView). last s.history) c.store-2.ensures)
-    ∙ ap (λ n. Line.Opened (last core.store.history) n) (c.len.ensures ∙ ap (λ (s : StoreView). length s.history.transactions) c.store-3.ensures) in
+    ap (λ n. Line.Opened n c.len.result) ((rw c.store-2.ensures at c.last.ensures) told)
+    ∙ ap (λ n. Line.Opened (last core.store.history) n) ((rw c.store-3.ensures at c.len.ensures) told) in
     record {
       limit = refl;
       ran = ([], subst (λ m. RanCalm terms (start terms core.store.history) [] [] m) (sym (rest_starts g.E.Evaluator.takes g.E.Evaluator.meaning core.store.limit core c.requires.rest)) (ran_none terms (start terms core.store.history)), subst (λ line. Prints (g.K.Sink.written c.args.out.now) (g.K.Sink.written c.put_line-2.new.out) (Line.Head ∷ line ∷ [])) opened (prints_then _ _ _ (Line.Head ∷ []) (Line.Opened c.last.result c.len.result ∷ []) c.in_ok-put_line.ensures.ok c.in_ok-put_line-2.ensures.ok));
@@ -63,7 +63,7 @@ returns-in_err-run_item-clause-bad_line g c n is =
     let ran = c.loop-item.invariant.ran in
     let grew = subst (λ w. Prints (g.K.Sink.written c.args.out.now) w (opening core.store.history ++ ran.0)) (sym bad.2) ran.2 in
     broken_off g.E.Evaluator.takes g.E.Evaluator.meaning core.store.limit core.store.end core.store.history _ _ c.args.items.now c.loop-item.item-index c.item-item.result n ran.0 _ _
-    c.runs_are_serial.ensures g.met.E.Evaluator.lawful (rw c.store.ensures at c.is_sound.ensures.history) refl c.loop-item-test.true c.item-item.is (bad.0 ∙ c.loop-item.invariant.number) ran.1 grew bad.1
+    c.runs_are_serial.ensures g.met.E.Evaluator.lawful ((rw c.store.ensures at c.is_sound-2.ensures.history) c.is_sound.ensures.steady.told) refl c.loop-item-test.true c.item-item.is (bad.0 ∙ c.loop-item.invariant.number) ran.1 grew bad.1
 
 pub returns-clause-ran : goal.returns-clause-ran
 returns-clause-ran g c =
