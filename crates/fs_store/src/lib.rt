@@ -29,3 +29,8 @@ pub use reads::{Loaded, Seen};
 pub use refusal::{AbortRefusal, FinishRefusal, LoadRefusal, VoteRefusal};
 pub use store::Store;
 pub use voted::Voted;
+
+#[cfg(test)]
+mod opening_tests;
+#[cfg(test)]
+mod tests;
