@@ -14,5 +14,5 @@ returns-in-Ok-clause-steady c =
     record {
       told = both_tell _ _ _ opened.told;
       faultless = (c.in-Ok.ensures.calm.calm c.new-disk.ensures.faultless).0;
-      fresh = c.in-Ok.ensures.fresh;
+      fresh = opened.fresh;
     }
