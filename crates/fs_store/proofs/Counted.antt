@@ -74,7 +74,7 @@ pub history_counted : (t : Told) (k : Known) (w : Waiting) → (counted_front t 
 history_counted t k w = history-transaction (front_at t k.end) k.end w.tid 32 w.texts w.items
 
 -- setting the status byte behind a file
-set_behind : (file piece : List ℕ) (i byte : ℕ) → set (file ++ piece) (length file + i) byte ≡ file ++ set piece i byte
+pub set_behind : (file piece : List ℕ) (i byte : ℕ) → set (file ++ piece) (length file + i) byte ≡ file ++ set piece i byte
 set_behind file piece i byte = set-append_right file piece (length file) (length file + i) byte refl (omega arith) ∙ ap (λ (n : ℕ). file ++ set piece n byte) (omega arith)
 
 pub status_counted : (t : Told) (k : Known) (w : Waiting) → Knows t k → StandsBehind t k w → slice_set (content t) (k.end + 16) 32 ≡ file_at t k.end ++ piece_of 32 k w

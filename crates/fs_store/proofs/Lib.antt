@@ -7,6 +7,7 @@ pub mod PartSteps
 pub mod Files
 pub mod Images
 pub mod InOrder
+pub mod OpeningMoments
 pub mod Readings
 pub mod Sorting
 pub mod Sound

@@ -1,13 +1,13 @@
 -- What a store knows of a file that was opened.
-use Rattle.std.proofs.Common.{◌≡◌, ℕ, ◌+◌, ◌<◌, ◌≤◌, ◌==◌, ◌^◌, Bool, true, false, cond, List, [], ◌∷◌, ◌++◌, length, map, max, take, Option, Some, None, IfSome, refl, sym, ap, subst, ◌∙◌, append-nil, arith, inl, inr}
+use Rattle.std.proofs.Common.{◌≡◌, ℕ, ◌+◌, ◌<◌, ◌≤◌, ◌==◌, ◌^◌, Bool, true, false, cond, List, [], ◌∷◌, ◌++◌, length, map, max, take, drop, Option, Some, None, IfSome, refl, sym, ap, subst, ◌∙◌, append-nil, arith, inl, inr}
 use Rattle.std.specs.Prelude.{◌⊎◌}
 use Rattle.std.proofs.lemmas.Bool.{eq-eqb, eqb-true, false≢true, ne_eqb}
 use Rattle.std.proofs.lemmas.Grind.{flat_map-append}
-use Rattle.std.proofs.lemmas.List.{map-append, take_all, take_at}
+use Rattle.std.proofs.lemmas.List.{length-append, length-take, map-append, take-append-le, take-take, take_all, take_at}
 use Rattle.zbase.specs.History.{Value}
 use Rattle.zbase.specs.Values.{Revision, last, next, next_after, revisions, revisions_of}
 use Rattle.zbase.specs.declared.ids.Row.{Row}
-use Rattle.zdisk.specs.Calls.{Follows}
+use Rattle.zdisk.specs.Calls.{Follows, changed, put}
 use Rattle.zdisk.specs.Crashes.{IsSynced}
 use Rattle.zdisk.specs.Disk.{Held, Told, content}
 use Rattle.fs_index.specs.declared.index.Index.{Index}
@@ -25,7 +25,7 @@ use Rattle.fs_store.specs.FileReads.{Reads, above}
 use Rattle.fs_store.specs.Fronts.{file_at, front_at, front_in, history_where}
 use Rattle.fs_store.specs.Kept.{IsKept}
 use Rattle.fs_store.specs.Knowing.{Knows}
-use Rattle.fs_store.specs.Opened.{CutAt, CutsOff, OpensAs, Synced, Tidies, WhereTold}
+use Rattle.fs_store.specs.Opened.{Brings, CutAt, CutsOff, OpensAs, Readies, StatusSet, Synced, Tidies, WhereTold, waiting_from}
 use Rattle.fs_store.specs.Stores.{StoreView, most_length}
 
 -- ---- one more than the greatest object id
@@ -115,12 +115,34 @@ reads_scan bytes s index n t places is = record {
 abbrev Left : Told → ℕ → Told → Type 0
 Left t end v = IsSynced v × (content v ≡ take end (content t))
 
-cut_left : (f v : Told) (between : Option Told) (end : ℕ) → Follows (Some f) between (CutAt end) → Follows between (Some v) Synced → IsSynced v × (content v ≡ take end (content f))
-cut_left f v None end cut synced = absurd cut
-cut_left f v (Some b) end cut synced = (ap (λ (h : Held). h.before) synced.0, ap (λ (h : Held). h.now) synced.0 ∙ ap (λ (h : Held). h.now) cut.0)
-
 some_is : {A : Type 0} (a b : A) → Some a ≡ Some b → a ≡ b
 some_is a b e = cc
+
+take_put : (n at : ℕ) (piece bytes : List ℕ) → n ≤ at → n ≤ length bytes → take n (put at piece bytes) ≡ take n bytes
+take_put n at piece bytes le within =
+    let front : n ≤ length (take at bytes) = omega (arith, le, within, length-take at bytes) in
+    take-append-le n (take at bytes ++ piece) (drop (at + length piece) bytes) (omega (arith, front, length-append (take at bytes) piece))
+    ∙ take-append-le n (take at bytes) piece front
+    ∙ take-take n at bytes le
+
+brought : (f : List ℕ → List ℕ) (s v : Told) (between : Option Told) → Follows (Some s) between (λ held next. next ≡ changed (f held.now) held) → Follows between (Some v) Synced → IsSynced v × (content v ≡ f (content s))
+brought f s v None change synced = absurd change
+brought f s v (Some b) change synced = (ap (λ (h : Held). h.before) synced.0, ap (λ (h : Held). h.now) synced.0 ∙ ap (λ (h : Held). h.now) change.0)
+
+-- the file in front of the rest stays as it was
+readied_front : (f m : Told) (end : ℕ) → end ≤ length (content f) → Readies (Some f) (Some m) end → take end (content m) ≡ take end (content f)
+readied_front f m end le (inl s) = ap (λ (t : Told). take end (content t)) (some_is m f s.0)
+readied_front f m end le (inr s) = ap (take end) (brought (waiting_from end) f m s.1.between s.1.change s.1.synced).1 ∙ take_put end (end + 16) (99 ∷ []) (content f) (omega arith) le
+
+cut_left : (f v : Told) (m : Option Told) (end : ℕ) → end ≤ length (content f) → Readies (Some f) m end → Brings (CutAt end) m (Some v) → IsSynced v × (content v ≡ take end (content f))
+cut_left f v None end le ready cut = absurd (none_brings cut.between cut.change cut.synced)
+  where
+    none_brings : (between : Option Told) → Follows None between (CutAt end) → Follows between (Some v) Synced → ⊥
+    none_brings None change synced = synced
+    none_brings (Some b) change synced = change
+cut_left f v (Some m) end le ready cut =
+    let b = brought (take end) m v cut.between cut.change cut.synced in
+    (b.0, b.1 ∙ readied_front f m end le ready)
 
 tidy_left : (t v : Told) (first : Option Told) (end torn : ℕ) → end + torn ≡ length (content t) → Follows (Some t) first Synced → ((torn ≡ 0) × (Some v ≡ first)) ⊎ ((0 < torn) × CutsOff first (Some v) end) → Left t end v
 tidy_left t v None end torn rest synced follows = absurd synced
@@ -128,28 +150,41 @@ tidy_left t v (Some f) end torn rest synced (inl still) =
     let same : v ≡ f = some_is v f still.1 in
     (ap (λ (x : Told). x.now.before) same ∙ ap (λ (h : Held). h.before) synced.0, ap content same ∙ ap (λ (h : Held). h.now) synced.0 ∙ sym (take_all end (content t) (omega (arith, rest, still.0))))
 tidy_left t v (Some f) end torn rest synced (inr cut) =
-    let l = cut_left f v cut.1.between end cut.1.cut cut.1.synced in
-    (l.0, l.1 ∙ ap (λ (h : Held). take end h.now) synced.0)
+    let same = ap (λ (h : Held). h.now) synced.0 in
+    let l = cut_left f v cut.1.readied end (omega (arith, rest, ap length same)) cut.1.ready cut.1.cut in
+    (l.0, l.1 ∙ ap (take end) same)
 
 -- a disk that tells is told of, and one that doesn't isn't
+none_brings : (Change : Held → Held → Type 0) (m u : Option Told) → Follows None m Change → Follows m u Synced → u ≡ None
+none_brings Change None None change synced = refl
+none_brings Change None (Some v) change synced = absurd synced
+none_brings Change (Some b) u change synced = absurd change
+
+none_readies : (m : Option Told) (end : ℕ) → Readies None m end → m ≡ None
+none_readies m end (inl s) = s.0
+none_readies m end (inr s) = none_brings (StatusSet end) s.1.between m s.1.change s.1.synced
+
+none_cut : (m u : Option Told) (end : ℕ) → m ≡ None → Brings (CutAt end) m u → u ≡ None
+none_cut m u end none cut = none_brings (CutAt end) cut.between u (subst (λ (d : Option Told). Follows d cut.between (CutAt end)) none cut.change) cut.synced
+
 tells_none : (first u : Option Told) (end torn : ℕ) → Follows None first Synced → ((torn ≡ 0) × (u ≡ first)) ⊎ ((0 < torn) × CutsOff first u end) → u ≡ None
 tells_none None u end torn synced (inl still) = still.1
-tells_none None u end torn synced (inr cut) = none_behind cut.1.between u end cut.1.cut cut.1.synced
-  where
-    none_behind : (between u : Option Told) (end : ℕ) → Follows None between (CutAt end) → Follows between u Synced → u ≡ None
-    none_behind None None end cut synced = refl
-    none_behind None (Some v) end cut synced = absurd synced
-    none_behind (Some b) u end cut synced = absurd cut
+tells_none None u end torn synced (inr cut) = none_cut cut.1.readied u end (none_readies cut.1.readied end cut.1.ready) cut.1.cut
 tells_none (Some f) u end torn synced follows = absurd synced
+
+some_brings : {X : Type 0} (Change : Held → Held → Type 0) (s : Told) (m : Option Told) → Follows (Some s) m Change → Follows m None Synced → X
+some_brings Change s None change synced = absurd change
+some_brings Change s (Some b) change synced = absurd synced
+
+some_cut : {X : Type 0} (f : Told) (m : Option Told) (end : ℕ) → Readies (Some f) m end → Brings (CutAt end) m None → X
+some_cut f None end (inl s) cut = absurd cc
+some_cut f None end (inr s) cut = some_brings (StatusSet end) f s.1.between s.1.change s.1.synced
+some_cut f (Some m) end ready cut = some_brings (CutAt end) m cut.between cut.change cut.synced
 
 tells_some : {X : Type 0} (t : Told) (first : Option Told) (end torn : ℕ) → Follows (Some t) first Synced → ((torn ≡ 0) × (None ≡ first)) ⊎ ((0 < torn) × CutsOff first None end) → X
 tells_some t None end torn synced follows = absurd synced
 tells_some t (Some f) end torn synced (inl still) = absurd cc
-tells_some t (Some f) end torn synced (inr cut) = none_left cut.1.between end cut.1.cut cut.1.synced
-  where
-    none_left : {X : Type 0} (between : Option Told) (end : ℕ) → Follows (Some f) between (CutAt end) → Follows between None Synced → X
-    none_left None end cut synced = absurd cut
-    none_left (Some b) end cut synced = absurd synced
+tells_some t (Some f) end torn synced (inr cut) = some_cut f cut.1.readied end cut.1.ready cut.1.cut
 
 cut_file : (bytes : List ℕ) (front : Front) (end : ℕ) (cut : Cut bytes front end) → cut.1.file ≡ take end bytes
 cut_file bytes front end cut = sym (ap (take end) cut.1.joined ∙ take_at cut.1.file cut.0 end (sym cut.1.at))

@@ -1,8 +1,8 @@
 -- What opening a store makes of its disk, and why it may be refused.
-use Rattle.std.specs.Prelude.{◌≡◌, ◌⊎◌, ℕ, ◌+◌, ◌<◌, ◌≤◌, false, List, [], length, take, Option, Some, None, IfSome}
+use Rattle.std.specs.Prelude.{◌≡◌, ◌⊎◌, ℕ, ◌+◌, ◌<◌, ◌≤◌, false, List, [], ◌∷◌, length, take, drop, Option, Some, None, IfSome}
 use Rattle.fs_record.specs.File.{Front, IsFile}
-use Rattle.fs_record.specs.Opening.{Cut, Damaged}
-use Rattle.zdisk.specs.Calls.{AnyImage, Follows, Mixed, changed}
+use Rattle.fs_record.specs.Opening.{Cut, Damaged, status_in}
+use Rattle.zdisk.specs.Calls.{AnyImage, Follows, Mixed, changed, put}
 use Rattle.zdisk.specs.Disk.{Held, Told, content}
 use Rattle.fs_store.specs.declared.opening.OpenRefusal.{OpenRefusal}
 use Rattle.fs_store.specs.Stores.{StoreView, most_length}
@@ -17,13 +17,42 @@ Synced held next = next ≡ record { now = held.now; before = [] }
 abbrev pub CutAt : ℕ → Held → Held → Type 0
 CutAt to held next = next ≡ changed (take to held.now) held
 
--- the file is cut, and that is synced
-pub record CutsOff (old new : Option Told) (end : ℕ) : Type 0 where
+-- A rest without a whole head, or of status c or 0, is torn whichever of its bytes are lost. Any other torn rest is one
+-- by its length alone, and bytes of that may be lost while it is cut off.
+abbrev pub StaysTorn : List ℕ → Type 0
+StaysTorn rest = (length rest < 23) ⊎ ((status_in rest ≡ 99) ⊎ (status_in rest ≡ 0))
+
+abbrev pub RestStaysTorn : Option Told → ℕ → Type 0
+RestStaysTorn disk end = IfSome disk (λ told. StaysTorn (drop end (content told)))
+
+-- bytes of it may be lost so that it isn't torn any more
+abbrev pub MayNotStay : Option Told → ℕ → Type 0
+MayNotStay disk end = IfSome disk (λ told. StaysTorn (drop end (content told)) → ⊥)
+
+-- the file whose rest has the status c
+abbrev pub waiting_from : ℕ → List ℕ → List ℕ
+waiting_from end bytes = put (end + 16) (99 ∷ []) bytes
+
+abbrev pub StatusSet : ℕ → Held → Held → Type 0
+StatusSet end held next = next ≡ changed (waiting_from end held.now) held
+
+-- a change, and a sync
+pub record Brings (Change : Held → Held → Type 0) (old new : Option Told) : Type 0 where
   pub between : Option Told
-  pub cut : Follows old between (CutAt end)
+  pub change : Follows old between Change
   pub synced : Follows between new Synced
 
--- without a torn rest the file is synced once; else it is cut, and synced again
+-- a rest that may not stay torn gets the status c first, and that is synced
+abbrev pub Readies : Option Told → Option Told → ℕ → Type 0
+Readies old new end = ((new ≡ old) × RestStaysTorn old end) ⊎ (MayNotStay old end × Brings (StatusSet end) old new)
+
+-- the file is cut, and that is synced
+pub record CutsOff (old new : Option Told) (end : ℕ) : Type 0 where
+  pub readied : Option Told
+  pub ready : Readies old readied end
+  pub cut : Brings (CutAt end) readied new
+
+-- without a torn rest the file is synced once; else the rest is cut off
 pub record Tidies (old new : Option Told) (end torn : ℕ) : Type 0 where
   pub first : Option Told
   pub synced : Follows old first Synced
@@ -65,15 +94,25 @@ IsRefusedFor disk OpenRefusal.Disk = Unit {0}
 IsRefusedFor disk (OpenRefusal.TooLong n) = (most_length < n) × IfSome disk (λ told. n ≡ length (content told))
 IsRefusedFor disk OpenRefusal.Memory = Unit {0}
 
--- the sync behind the cut failed
-pub record SyncFailed (old new : Option Told) (end : ℕ) : Type 0 where
+-- the sync behind a change failed
+pub record SyncFailed (Change : Held → Held → Type 0) (old new : Option Told) : Type 0 where
   pub between : Option Told
-  pub cut : Follows old between (CutAt end)
+  pub change : Follows old between Change
   pub failed : Follows between new AnyImage
 
+-- the change failed, or the sync behind it
+abbrev pub BringsNot : (List ℕ → List ℕ) → Option Told → Option Told → Type 0
+BringsNot f old new = Follows old new (λ held next. Mixed held (f held.now) next) ⊎ SyncFailed (λ held next. next ≡ changed (f held.now) held) old new
+
 -- the cut failed, or the sync behind it
+pub record CutFailed (old new : Option Told) (end : ℕ) : Type 0 where
+  pub readied : Option Told
+  pub ready : Readies old readied end
+  pub failed : BringsNot (take end) readied new
+
+-- the rest's status couldn't be read, or not be set, or the file not be cut
 abbrev pub CutOffFailed : Option Told → Option Told → ℕ → Type 0
-CutOffFailed old new end = Follows old new (λ held next. Mixed held (take end held.now) next) ⊎ SyncFailed old new end
+CutOffFailed old new end = (new ≡ old) ⊎ ((MayNotStay old end × BringsNot (waiting_from end) old new) ⊎ CutFailed old new end)
 
 -- cutting the file's torn rest off failed
 pub record TornStayed (old new : Option Told) : Type 0 where

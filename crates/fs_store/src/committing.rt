@@ -36,7 +36,7 @@ use zbase::{Bytes, Failed, Memory, Tid};
 use zdisk::{Disk, append_and_sync, cut_and_sync, overwrite_and_sync};
 
 /// Where the status stands in a transaction record, in bytes from its start.
-const STATUS_AT: u64 = 16;
+pub(crate) const STATUS_AT: u64 = 16;
 
 // Keeps room for each item's object.
 fn reserve_all(index: &mut Index, items: &[Item]) -> Result<(), Memory>

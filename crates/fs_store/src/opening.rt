@@ -1,16 +1,18 @@
-ghost use Rattle.std.specs.Prelude.{◌≡◌, ◌≤◌, ◌^◌, ℕ, length, IfErr, IfOk, IfSome, IsErr, IsErrOf, OnOk, OnErr};
+ghost use Rattle.std.specs.Prelude.{◌≡◌, ◌⊎◌, ◌↔◌, ◌+◌, ◌≤◌, ◌^◌, ℕ, false, true, drop, length, IfErr, IfOk, IfSome, IsErr, IsErrOf, OnOk, OnErr};
+ghost use Rattle.std.specs.Option.{ForSome};
 ghost use Rattle.zbase.specs.Faults.{Counts};
-ghost use Rattle.zdisk.specs.Disk.{HasPlace, content};
+ghost use Rattle.zdisk.specs.Disk.{content};
 ghost use Rattle.fs_record.specs.declared.damage.Damage.{Damage as Kind};
 ghost use Rattle.fs_record.specs.Opening.{Damaged};
 ghost use Rattle.fs_record.specs.File.{last_place};
 ghost use Rattle.fs_scan.specs.Newest.{place_in};
 ghost use Rattle.fs_index.specs.Places.{place_of};
-ghost use Rattle.fs_store.specs.Opened.{CutOffFailed, CutsOff, IsRefusedFor, LeavesDisk, Tidies};
+ghost use Rattle.fs_store.specs.Opened.{BringsNot, CutOffFailed, CutsOff, IsRefusedFor, LeavesDisk, MayNotStay, Readies, StaysTorn, Tidies, waiting_from};
 ghost use Rattle.fs_store.specs.FileReads.{Reads, above, of_scan};
 ghost use Rattle.fs_store.specs.Stores.{most_length};
 ghost use Rattle.fs_store.specs.declared.opening.OpenRefusal.TheVariants as refusals;
 
+use crate::committing::STATUS_AT;
 use crate::known::Known;
 use fs_index::Index;
 use fs_record::Damage;
@@ -21,6 +23,9 @@ use zdisk::Disk;
 
 /// The most bytes that a file may have.
 pub const MAX_LENGTH: u64 = 281_474_976_710_655;
+
+/// The bytes of a transaction's head, up to its texts.
+const HEAD_LEN: u64 = 23;
 
 /// Why a store isn't opened.
 #[derive(Clone, Copy, Debug, PartialEq, Eq)]
@@ -127,19 +132,55 @@ fn read_file<D: Disk>(alloc: Global, disk: &mut D) -> Result<FileRead, ScanRefus
     })
 }
 
+// Whether the rest behind the file's end has no whole head, or the status `c` or 0.
+fn stays_torn<D: Disk>(disk: &mut D, end: u64, torn: u64) -> Result<bool, Failed>
+    requires rest { ForSome (D.told disk.old) (λ told. (end + torn ≡ length (content told)) × (length (content told) ≤ most_length)) }
+    ensures stays { IfOk result (λ stays. IfSome (D.told disk.old) (λ told. (stays ≡ true) ↔ StaysTorn (drop end (content told)))) }
+    ensures long { IfOk result (λ stays. (stays ≡ false) → 23 ≤ torn) }
+    ensures same { D.told disk.new ≡ D.told disk.old }
+    ensures spare { (D.spare_calls disk.new ≡ D.spare_calls disk.old) × (D.spare_bytes disk.new ≡ D.spare_bytes disk.old) }
+    ensures counts { Counts (D.counter disk.old) (D.counter disk.new) (IsErr result) }
+{
+    if torn < HEAD_LEN {
+        return Ok(true);
+    }
+    let mut status = [0];
+    disk.read_at(end.saturating_add(STATUS_AT), &mut status)?;
+    Ok(status[0] == b'c' || status[0] == 0)
+}
+
+// Sees to it that the rest behind the file's end is torn whichever of its bytes are lost: else it gets the status `c`,
+// and that is synced.
+fn ready<D: Disk>(disk: &mut D, end: u64, torn: u64) -> Result<(), Failed>
+    requires rest { ForSome (D.told disk.old) (λ told. (end + torn ≡ length (content told)) × (length (content told) ≤ most_length)) }
+    requires room { (4 ≤ D.spare_calls disk.old) × (1 ≤ D.spare_bytes disk.old) }
+    ensures ready { OnOk result (Readies (D.told disk.old) (D.told disk.new) end) }
+    ensures failed { OnErr result ((D.told disk.new ≡ D.told disk.old) ⊎ (MayNotStay (D.told disk.old) end × BringsNot (waiting_from end) (D.told disk.old) (D.told disk.new))) }
+    ensures room { 2 ≤ D.spare_calls disk.new }
+    ensures counts { Counts (D.counter disk.old) (D.counter disk.new) (IsErr result) }
+{
+    if stays_torn(disk, end, torn)? {
+        return Ok(());
+    }
+    disk.write_at(end.saturating_add(STATUS_AT), b"c")?;
+    disk.sync()
+}
+
 // Cuts off what stands behind the file's end, and syncs.
-fn cut_off<D: Disk>(disk: &mut D, end: u64) -> Result<(), Failed>
-    requires within { HasPlace (D.told disk.old) end }
-    requires room { 2 ≤ D.spare_calls disk.old }
+fn cut_off<D: Disk>(disk: &mut D, end: u64, torn: u64) -> Result<(), Failed>
+    requires rest { ForSome (D.told disk.old) (λ told. (end + torn ≡ length (content told)) × (length (content told) ≤ most_length)) }
+    requires room { (4 ≤ D.spare_calls disk.old) × (1 ≤ D.spare_bytes disk.old) }
     ensures cut { OnOk result (CutsOff (D.told disk.old) (D.told disk.new) end) }
     ensures failed { OnErr result (CutOffFailed (D.told disk.old) (D.told disk.new) end) }
     ensures counts { Counts (D.counter disk.old) (D.counter disk.new) (IsErr result) }
 {
+    ready(disk, end, torn)?;
     disk.cut(end)?;
     disk.sync()
 }
 
-/// Opens the disk's file: syncs it, reads it, and cuts off what stands behind its end.
+/// Opens the disk's file: syncs it, reads it, and cuts off what stands behind its end. A stop at any moment leaves a file
+/// that opens to the same history.
 pub(crate) fn open_file<D: Disk>(alloc: Global, disk: &mut D) -> Result<FileRead, OpenRefusal>
     ensures reads { IfOk result (λ read. IfSome (D.told disk.old) (λ told. (length (content told) ≤ most_length) × Reads (content told) read)) }
     ensures bound { IfOk result (λ read. read.known.next ≤ 2 ^ 64) }
@@ -152,12 +193,12 @@ pub(crate) fn open_file<D: Disk>(alloc: Global, disk: &mut D) -> Result<FileRead
     if len > MAX_LENGTH {
         return Err(OpenRefusal::TooLong(len));
     }
-    disk.reserve(3, 0)?;
+    disk.reserve(5, 1)?;
     disk.sync()?;
     let read = read_file(alloc, disk)?;
     if read.torn == 0 {
         return Ok(read);
     }
-    cut_off(disk, read.known.end)?;
+    cut_off(disk, read.known.end, read.torn)?;
     Ok(read)
 }

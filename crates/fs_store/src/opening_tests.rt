@@ -278,17 +278,27 @@ fn each_of_many_revisions_is_loaded(rt: HostRuntime) -> Result<(), Fail> {
     Ok(())
 }
 
+// A transaction that isn't whole is torn, and a whole one too that was voted for and never finished.
 #[test]
 fn a_torn_rest_is_cut_off(rt: HostRuntime) -> Result<(), Fail> {
     let alloc = rt.alloc();
     let file = site(alloc)?;
-    let mut broken = Bytes::from_slice(alloc, file.as_slice())?;
-    put(&mut broken, 9, b'c', b"ann", &[])?;
-    for len in file.len()..broken.len() + 1 {
-        let given = broken.as_slice().get(..len).ok_or("is a front")?;
-        let (last, mut disk) = left(alloc, given, FaultPlan::none(alloc))?;
-        assert_eq!(rt; last, Ok(Tid(8)));
-        assert!(rt; holds(alloc, &mut disk, file.as_slice())?);
+    for (status, whole) in [
+        (b'c', 1),
+        (0, 1),
+        (b' ', 0),
+        (b'p', 0),
+        (b'u', 0),
+        (b'x', 0),
+    ] {
+        let mut broken = Bytes::from_slice(alloc, file.as_slice())?;
+        put(&mut broken, 9, status, b"ann", &[])?;
+        for len in file.len()..broken.len() + whole {
+            let given = broken.as_slice().get(..len).ok_or("is a front")?;
+            let (last, mut disk) = left(alloc, given, FaultPlan::none(alloc))?;
+            assert_eq!(rt; last, Ok(Tid(8)), "{status} {len}");
+            assert!(rt; holds(alloc, &mut disk, file.as_slice())?, "{status} {len}");
+        }
     }
     Ok(())
 }
@@ -316,23 +326,39 @@ fn a_damaged_file_comes_back_as_it_was(rt: HostRuntime) -> Result<(), Fail> {
     Ok(())
 }
 
-// The call of that number fails. One that failed on this disk left the file as it was.
-#[test]
-fn a_fault_of_the_disk_ends_an_opening(rt: HostRuntime) -> Result<(), Fail> {
-    let alloc = rt.alloc();
+// The number of device calls that opening the site with a rest behind it makes. Where one of them fails, the opening is
+// refused after it; the last of them is the sync behind the cut.
+fn calls_with_faults(alloc: Global, rest: &[u8]) -> Result<u64, Fail> {
     let mut file = site(alloc)?;
     let whole = file.len();
-    file.append(&[1, 2, 3])?;
+    file.append(rest)?;
     let (_, disk) = left(alloc, file.as_slice(), FaultPlan::none(alloc))?;
     let calls = disk.calls();
     for earlier in 0..calls {
         let number = earlier + 1;
         let plan = FaultPlan::new(Vec::from_slice(alloc, &[number])?);
         let (refusal, mut disk) = left(alloc, file.as_slice(), plan)?;
-        assert_eq!(rt; (refusal, disk.calls()), (Err(OpenRefusal::Disk), number));
-        // at the last call, the second sync, the torn rest is cut off
+        let made = disk.calls();
+        // a call that failed on this disk left the file as it was
         let kept = if number == calls { whole } else { file.len() };
-        assert_eq!(rt; disk.len(), Ok(kept as u64));
+        if refusal != Err(OpenRefusal::Disk) || made != number || disk.len()? != kept as u64 {
+            return Err(format!(in alloc; "call {number}: {refusal:?} after {made}")?.into());
+        }
+    }
+    Ok(calls)
+}
+
+// Of a rest with a head its status is read, and where it is neither `c` nor 0, it is set and synced.
+#[test]
+fn a_fault_of_the_disk_ends_an_opening(rt: HostRuntime) -> Result<(), Fail> {
+    let alloc = rt.alloc();
+    let head = [0, 0, 0, 0, 0, 0, 0, 9, 0, 0, 0, 0, 0, 0, 0, 99];
+    let without_head = calls_with_faults(alloc, &head)?;
+    for (status, more) in [(b'c', 1), (0, 1), (b' ', 3), (b'x', 3)] {
+        let mut rest = Bytes::from_slice(alloc, &head)?;
+        rest.append(&[status, 0, 0, 0, 0, 0, 0])?;
+        let calls = calls_with_faults(alloc, rest.as_slice())?;
+        assert_eq!(rt; calls.checked_sub(without_head), Some(more), "{status}");
     }
     Ok(())
 }

@@ -8,7 +8,7 @@ ghost use Rattle.zdisk.specs.Disk.{content, counted};
 ghost use Rattle.zdisk.specs.Images.{IsImage};
 ghost use Rattle.evaluator.specs.Facts.{log_row, parts_of};
 ghost use Rattle.fs_store.specs.Drafts.{HasNoRestore};
-ghost use Rattle.fs_store.specs.Moments.{IsWhole, KeepsOpening, OpensTo, OpensToEither};
+ghost use Rattle.fs_store.specs.Moments.{IsWhole, KeepsGiven, KeepsOpening, OpensTo, OpensToEither};
 ghost use Rattle.fs_store.specs.Opened.{IsRefusedFor, LeavesDisk, Opens};
 ghost use Rattle.fs_store.specs.Seeing.{IsSeen};
 ghost use Rattle.fs_store.specs.Stores.{IsDraft, IsTold, IsVoteOf, Out, Stays, finished, most_length, on_disk, staled, voting};
@@ -60,7 +60,8 @@ impl<D: Disk + Drop> Model for Store<D> {
 
 impl<D: Disk + Drop> Store<D> {
     /// The store of the history to which the disk's file opens, which may have `limit` bytes. The file is synced; a
-    /// torn rest is cut off, and the file synced again. With `Err` the disk comes back.
+    /// torn rest is cut off, and the file synced again. With `Err` the disk comes back. Where each image of the given
+    /// disk opens to one history, a stop at any moment leaves a file that opens to it.
     ///
     /// FileStorage format notes: a file is read forward from its start, and what a write left that was broken off is
     /// cut off its end.
@@ -70,6 +71,8 @@ impl<D: Disk + Drop> Store<D> {
         ensures calm { IfOk result (λ store. Counts (D.counter disk) store.disk.counter ⊥) }
         ensures refused { IfErr result (λ (refusal, _). IsRefusedFor (D.told disk) refusal) }
         ensures left { IfErr result (λ (refusal, back). LeavesDisk (D.told disk) (D.told back) refusal) }
+        ensures any_moment { IfOk result (λ store. KeepsGiven (D.told disk) store.disk.told) }
+        ensures any_moment_refused { IfErr result (λ (_, back). KeepsGiven (D.told disk) (D.told back)) }
         ensures counts { IfErr result (λ (refusal, back). Counts (D.counter disk) (D.counter back) (refusal ≡ OpenRefusal.Disk)) }
     {
         let mut disk = disk;

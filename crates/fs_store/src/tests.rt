@@ -120,6 +120,7 @@ fn commit(store: &mut Store<MemoryDisk>, draft: Draft, now: u64) -> Result<u64, 
     requires rules { IsDraft draft }
     ensures fresh { IfOk result (λ _. store.new.stale ≡ false) }
     ensures idle { IfOk result (λ _. store.new.out ≡ None) }
+    ensures seen { IfOk result (λ _. (seen : Seen) → IsSeen store.old seen → IsSeen store.new seen) }
 {
     match store.vote(3, draft, &[], Tid(now)) {
         Ok(voted) => match store.finish(voted) {
@@ -408,6 +409,35 @@ fn the_first_clash_is_named(rt: HostRuntime) -> Result<(), Fail> {
     let draft = change(alloc, 2, "new")?;
     let reads = [(1, 7), (4, 9), (3, 9)];
     assert_eq!(rt; refusal_over(&mut store, draft, reads)?, None);
+    Ok(())
+}
+
+// The refusal of a vote over an object that was read before another vote wrote object 1 at 9.
+fn refusal_behind_a_commit(
+    alloc: Global,
+    store: &mut Store<MemoryDisk>,
+    oid: u64,
+) -> Result<Option<VoteRefusal>, Fail>
+    requires fresh { store.old.stale ≡ false }
+{
+    let seen = read(store, oid, 8)?;
+    commit(store, change(alloc, 1, "new")?, 9)?;
+    refusal(store, change(alloc, 3, "other")?, &[seen])
+}
+
+#[test]
+fn a_later_commit_overtakes_a_read(rt: HostRuntime) -> Result<(), Fail> {
+    let alloc = rt.alloc();
+    let clash = VoteRefusal::Conflict(Clash {
+        oid: 1,
+        seen: 7,
+        found: 9,
+    });
+    for (oid, found) in [(1, Some(clash)), (2, None), (4, None)] {
+        let mut store = opened(alloc, two(alloc)?.as_slice())?;
+        let refusal = refusal_behind_a_commit(alloc, &mut store, oid)?;
+        assert_eq!(rt; refusal, found, "{oid}");
+    }
     Ok(())
 }
 
