@@ -17,7 +17,7 @@ use Rattle.fs_record.specs.Opening.{Cut, is_end, length_in, status_in}
 use Rattle.fs_record.specs.OpeningLaws.{one_cut}
 use Rattle.fs_store.specs.declared.opening.OpenRefusal.{OpenRefusal}
 use Rattle.fs_store.specs.Moments.{EachOpensTo, KeepsGiven, OpensTo}
-use Rattle.fs_store.specs.Opened.{Brings, BringsNot, CutAt, CutFailed, CutOffFailed, CutsOff, LeavesDisk, MayNotStay, Readies, Stays, StaysTorn, StatusSet, SyncFailed, Synced, Tidies, TornStayed, waiting_from}
+use Rattle.fs_store.specs.Opened.{Brings, BringsNot, CutOffFailed, CutsOff, LeavesDisk, Readies, Stays, StaysTorn, Synced, Tidies, TornStayed, waiting_from}
 use Rattle.fs_store.proofs.Counted.{set_behind}
 use Rattle.fs_store.proofs.Images.{one_image, opens_before, own_image, torn_is_end, torn_off}
 use Rattle.fs_store.proofs.Tellings.{moved, on_both, on_told}
