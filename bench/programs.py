@@ -49,22 +49,26 @@ def scratch(folder, name, uses):
 KEEPING = {"MALLOC_MMAP_THRESHOLD_": str(1 << 30), "MALLOC_TRIM_THRESHOLD_": str(1 << 30), "MALLOC_TOP_PAD_": str(1 << 26)}
 
 
-def lines_of(program, keeps_memory):
-    """What a program prints: each line as its words. Where it doesn't end well, what it said is raised."""
+def lines_of(program, keeps_memory, words=()):
+    """What a program prints that is given these words: each line as its words. Where it doesn't end well, what it said is raised."""
     kept = KEEPING if keeps_memory else {}
-    done = subprocess.run(["rt", "run"], cwd=program, capture_output=True, text=True, env=os.environ | kept)
+    done = subprocess.run(["rt", "run", "--", *words], cwd=program, capture_output=True, text=True, env=os.environ | kept)
     if done.returncode:
         raise SystemExit(done.stdout + done.stderr)
     return [line.split() for line in done.stdout.splitlines()]
 
 
-def best_of(name, uses, keeps_memory=False):
-    """The least time of each kind and size, in seconds, that a program prints as lines of a kind, a size and microseconds."""
-    with tempfile.TemporaryDirectory() as made:
-        lines = lines_of(scratch(pathlib.Path(made), name, uses), keeps_memory)
+def least(lines):
+    """The least time of each kind and size, in seconds, from lines of a kind, a size and microseconds."""
     best = {}
     for words in lines:
         if len(words) == 3 and words[1].isdigit() and words[2].isdigit():
             key = words[0], int(words[1])
             best[key] = min(int(words[2]) / 1e6, best.get(key, 1e9))
     return best
+
+
+def best_of(name, uses, keeps_memory=False):
+    """The least time of each kind and size, in seconds, that a program prints as lines of a kind, a size and microseconds."""
+    with tempfile.TemporaryDirectory() as made:
+        return least(lines_of(scratch(pathlib.Path(made), name, uses), keeps_memory))
