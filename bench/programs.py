@@ -58,14 +58,18 @@ def lines_of(program, keeps_memory, words=()):
     return [line.split() for line in done.stdout.splitlines()]
 
 
-def least(lines):
-    """The least time of each kind and size, in seconds, from lines of a kind, a size and microseconds."""
-    best = {}
+def numbers_in(lines):
+    """The numbers of each kind and size, from lines of a kind, a size and a number."""
+    numbers = {}
     for words in lines:
         if len(words) == 3 and words[1].isdigit() and words[2].isdigit():
-            key = words[0], int(words[1])
-            best[key] = min(int(words[2]) / 1e6, best.get(key, 1e9))
-    return best
+            numbers.setdefault((words[0], int(words[1])), []).append(int(words[2]))
+    return numbers
+
+
+def least(lines):
+    """The least time of each kind and size, in seconds, from lines of a kind, a size and microseconds."""
+    return {key: min(micros) / 1e6 for key, micros in numbers_in(lines).items()}
 
 
 def best_of(name, uses, keeps_memory=False):
