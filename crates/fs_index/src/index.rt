@@ -1,27 +1,51 @@
-ghost use Rattle.std.specs.Prelude.{◌≡◌, ◌==◌, if◌then◌else◌, ℕ, All, None, OnOk};
+ghost use Rattle.std.specs.Prelude.{◌≡◌, ◌==◌, ◌+◌, ◌<◌, if◌then◌else◌, length, ℕ, All, None, OnOk};
 ghost use Rattle.fs_index.specs.Places.{known};
 
 use std::alloc::Global;
 use std::collections::BTreeMap;
+use std::marker::Model;
 use zbase::{Memory, Oid};
+
+/// How many places at most are kept in a row for each object, so that a few objects with great ids don't take much.
+const SPREAD: u64 = 8;
 
 /// Places by object, counted in bytes from the file's start. An object may be there without a place: then room is kept
 /// for it.
+///
+/// Ids are given out one after another, so the places of nearly all objects stand in a row, each at the number that is
+/// its object's id: one is found at once, however many there are. Ids that are far from the others, as of a file from
+/// elsewhere, are in a tree, till there are enough objects for a row that reaches them.
 #[derive(Drop)]
 pub struct Index {
-    /// 0 where only room is kept, as FileStorage itself writes 0 for no record: there stands the file's magic.
-    places: BTreeMap<u64, u64>,
+    /// The places of the first ids; 0 where only room is kept, as FileStorage itself writes 0 for no record: there
+    /// stands the file's magic.
+    near: Vec<u64>,
+    /// The places of ids behind these, alike.
+    far: BTreeMap<u64, u64>,
+    /// For how many objects room was taken.
+    taken: u64,
+}
+
+impl Model for Index {
+    ghost use Rattle.fs_index.specs.Places.{Slots};
+
+    ghost Value = { Slots };
+
+    ghost view = { λ index. record { near = index.near.items; far = index.far.entries } };
 }
 
 impl Index {
-    ghost use Rattle.fs_index.specs.Places.{HasRoom, place_of};
+    ghost use Rattle.fs_index.specs.Places.{HasRoom, place_of, slot_of};
 
     /// No object has a place. Takes no memory.
+    #[tactic(auto, unfolding(crate::specs::Places::slot_of))]
     pub fn new(alloc: Global) -> Index
         ensures { (o : ℕ) → place_of result o ≡ None }
     {
         Index {
-            places: BTreeMap::new(alloc),
+            near: Vec::new(alloc),
+            far: BTreeMap::new(alloc),
+            taken: 0,
         }
     }
 
@@ -29,9 +53,21 @@ impl Index {
     pub fn get(&self, oid: Oid) -> Option<u64>
         ensures { result ≡ place_of self.now oid }
     {
-        match self.places.get(&oid.0) {
-            Some(place) => known(*place),
+        match self.slot(oid.0) {
+            Some(place) => known(place),
             None => None,
+        }
+    }
+
+    // The object's place, 0 where only room is kept.
+    #[tactic(auto, unfolding(crate::specs::Places::slot_of))]
+    fn slot(&self, id: u64) -> Option<u64>
+        ensures { result ≡ slot_of self.now id }
+    {
+        if id < self.near.len() as u64 {
+            Some(self.near[id as usize])
+        } else {
+            self.far.get(&id).copied()
         }
     }
 
@@ -47,31 +83,85 @@ impl Index {
         Ok(())
     }
 
+    #[tactic(auto, unfolding(crate::specs::Places::slot_of))]
     fn reserve_one(&mut self, oid: Oid) -> Result<(), Memory>
         ensures places { (o : ℕ) → place_of self.new o ≡ place_of self.old o }
         ensures room { OnOk result (HasRoom self.new oid) }
         ensures keeps { (o : ℕ) → HasRoom self.old o → HasRoom self.new o }
     {
-        let place = match self.get(oid) {
-            Some(place) => place,
-            None => 0,
-        };
-        match self.places.insert(oid.0, place) {
+        let id = oid.0;
+        if self.slot(id).is_some() {
+            return Ok(());
+        }
+        if id / SPREAD <= self.taken {
+            self.lengthen(id)?;
+        } else {
+            self.add_far(id)?;
+        }
+        self.taken = self.taken.saturating_add(1);
+        Ok(())
+    }
+
+    // Keeps room for an object that has none, in the tree.
+    #[tactic(auto, unfolding(crate::specs::Places::slot_of))]
+    fn add_far(&mut self, id: u64) -> Result<(), Memory>
+        requires { slot_of self.old id ≡ None }
+        ensures places { (o : ℕ) → place_of self.new o ≡ place_of self.old o }
+        ensures room { OnOk result (HasRoom self.new id) }
+        ensures keeps { (o : ℕ) → HasRoom self.old o → HasRoom self.new o }
+    {
+        match self.far.insert(id, 0) {
             Ok(_) => Ok(()),
             Err(_) => Err(Memory),
         }
     }
 
+    // Makes the row reach an id.
+    #[tactic(auto, unfolding(crate::specs::Places::slot_of))]
+    fn lengthen(&mut self, id: u64) -> Result<(), Memory>
+        ensures places { (o : ℕ) → place_of self.new o ≡ place_of self.old o }
+        ensures room { OnOk result (HasRoom self.new id) }
+        ensures keeps { (o : ℕ) → HasRoom self.old o → HasRoom self.new o }
+    {
+        'reach: while (self.near.len() as u64) <= id {
+            self.add_near()?;
+        }
+        Ok(())
+    }
+
+    // Makes the row longer by the next id, whose place comes out of the tree.
+    #[tactic(auto, unfolding(crate::specs::Places::slot_of))]
+    fn add_near(&mut self) -> Result<(), Memory>
+        ensures places { (o : ℕ) → place_of self.new o ≡ place_of self.old o }
+        ensures keeps { (o : ℕ) → HasRoom self.old o → HasRoom self.new o }
+        ensures longer { OnOk result (length self.new.near ≡ length self.old.near + 1) }
+    {
+        let id = self.near.len() as u64;
+        let place = match self.far.get(&id) {
+            Some(place) => *place,
+            None => 0,
+        };
+        self.near.push(place)?;
+        let _ = self.far.remove(&id);
+        Ok(())
+    }
+
     /// Puts an object at a place, in the stead of its earlier one; at 0 it has none. It takes no memory and can't fail,
     /// since the object is there, or room is kept for it.
+    #[tactic(auto, unfolding(crate::specs::Places::slot_of))]
     pub fn put(&mut self, oid: Oid, place: u64)
         requires { HasRoom self.old oid }
         ensures places { (o : ℕ) → place_of self.new o ≡ (if oid == o then known place else place_of self.old o) }
         ensures keeps { (o : ℕ) → HasRoom self.old o → HasRoom self.new o }
     {
-        match self.places.insert(oid.0, place) {
-            Ok(_) => {}
-            Err(_) => unreachable!(),
+        let id = oid.0;
+        if id < self.near.len() as u64 {
+            self.near[id as usize] = place;
+        } else {
+            match self.far.insert(id, place) {
+                Ok(_) => {}
+                Err(_) => unreachable!(),
+            }
         }
     }
 }

@@ -1,4 +1,4 @@
-use Rattle.std.proofs.Common.{◌≡◌, ◌<◌, ◌≤◌, ℕ, arith, length, refl, subst, ◌∙◌, slice_index_or, inl, inr}
+use Rattle.std.proofs.Common.{◌≡◌, ℕ, arith, length, refl, subst, ◌∙◌, slice_index_or, inl, inr}
 use Rattle.std.proofs.lemmas.Bool.{cases_lt}
 use Rattle.std.proofs.lemmas.List.{get_or_read_under}
 use Rattle.fs_index.specs.Places.{HasRoom}
