@@ -9,12 +9,16 @@ use zbase::{Memory, Oid};
 /// How many places at most are kept in a row for each object, so that a few objects with great ids don't take much.
 const SPREAD: u64 = 8;
 
+/// By how many ids at most the row grows at once, so that no object has to wait till a long one is made.
+const STRIDE: u64 = 16;
+
 /// Places by object, counted in bytes from the file's start. An object may be there without a place: then room is kept
 /// for it.
 ///
 /// Ids are given out one after another, so the places of nearly all objects stand in a row, each at the number that is
 /// its object's id: one is found at once, however many there are. Ids that are far from the others, as of a file from
-/// elsewhere, are in a tree, till there are enough objects for a row that reaches them.
+/// elsewhere, are in a tree. Where there are enough objects for a row that reaches these, it takes them over, some with
+/// each object that comes.
 #[derive(Drop)]
 pub struct Index {
     /// The places of the first ids; 0 where only room is kept, as FileStorage itself writes 0 for no record: there
@@ -93,37 +97,37 @@ impl Index {
         if self.slot(id).is_some() {
             return Ok(());
         }
-        if id / SPREAD <= self.taken {
-            self.lengthen(id)?;
-        } else {
-            self.add_far(id)?;
-        }
         self.taken = self.taken.saturating_add(1);
-        Ok(())
+        self.lengthen(id)?;
+        self.add_far(id)
     }
 
-    // Keeps room for an object that has none, in the tree.
+    // Keeps room in the tree for an object that has none.
     #[tactic(auto, unfolding(crate::specs::Places::slot_of))]
     fn add_far(&mut self, id: u64) -> Result<(), Memory>
-        requires { slot_of self.old id ≡ None }
         ensures places { (o : ℕ) → place_of self.new o ≡ place_of self.old o }
         ensures room { OnOk result (HasRoom self.new id) }
         ensures keeps { (o : ℕ) → HasRoom self.old o → HasRoom self.new o }
     {
+        if self.slot(id).is_some() {
+            return Ok(());
+        }
         match self.far.insert(id, 0) {
             Ok(_) => Ok(()),
             Err(_) => Err(Memory),
         }
     }
 
-    // Makes the row reach an id.
-    #[tactic(auto, unfolding(crate::specs::Places::slot_of))]
+    // Makes the row longer towards an id, where there are enough objects for it.
     fn lengthen(&mut self, id: u64) -> Result<(), Memory>
         ensures places { (o : ℕ) → place_of self.new o ≡ place_of self.old o }
-        ensures room { OnOk result (HasRoom self.new id) }
         ensures keeps { (o : ℕ) → HasRoom self.old o → HasRoom self.new o }
     {
-        'reach: while (self.near.len() as u64) <= id {
+        for _ in 0..STRIDE {
+            let next = self.near.len() as u64;
+            if id < next || self.taken <= next / SPREAD {
+                return Ok(());
+            }
             self.add_near()?;
         }
         Ok(())
