@@ -20,6 +20,10 @@ const MOST_BYTES: usize = 262_144;
 /// How many blocks may stand inside one another.
 const MOST_LEVELS: u32 = 64;
 
+/// A source's outermost block has room ahead for a node for each so many bytes. A list that grows is moved, and what it
+/// leaves behind are holes that the allocator goes through.
+const BYTES_A_NODE: usize = 32;
+
 /// Whether a part can't stand in a block, but only behind one: a closing tag, `elif` or `else`.
 fn ends_block(kind: &PartKind) -> bool
     ensures { result ≡ ends_block kind.now }
@@ -93,12 +97,27 @@ fn turn_of(
     Ok((piece, part.start, part.end))
 }
 
-/// Adds an item at the end.
+/// Adds an item at the end. A list begins with room for one, since most blocks have one node and most `if` tags one arm;
+/// by itself it would begin with room for four. A call would copy the item once more.
+#[inline(always)]
 fn push<T: Drop>(items: &mut Vec<T>, item: T) -> Result<(), Memory>
     ensures { OnOk result (items.new.items ≡ items.old.items ++ item ∷ []) }
 {
+    if items.is_empty() {
+        items.reserve_exact(1)?;
+    }
     items.push(item)?;
     Ok(())
+}
+
+/// No node yet, and room for so many.
+fn room_for(alloc: Global, nodes: usize) -> Result<Vec<Node>, Memory>
+    ensures { IfOk result (λ items. items.items ≡ []) }
+{
+    match Vec::with_capacity(alloc, nodes) {
+        Ok(items) => Ok(items),
+        Err(_) => Err(Memory),
+    }
 }
 
 /// How many levels are left inside the tag at a place.
@@ -113,13 +132,14 @@ fn inside(levels: u32, at: usize) -> Result<u32, DtmlRefusal>
 }
 
 /// The nodes from a place on, up to the end of the source or to a part that ends a block, and that part. So many
-/// blocks may stand inside one another there.
+/// blocks may stand inside one another there. The list begins with room for `room` nodes.
 #[cycle(parse)]
 fn block_of(
     alloc: Global,
     source: &str,
     levels: u32,
     start: usize,
+    room: usize,
 ) -> Result<(Tree, Option<SourcePart>), DtmlRefusal>
     requires small { length source.now ≤ 262144 }
     requires boundary { IsCharBoundary source.now start }
@@ -127,7 +147,7 @@ fn block_of(
     ensures stops { IfOk result (λ x. Stops source.now x.1) }
     ensures refused { IfErr result (λ refusal. (outer : Option Open) → IsFirst source.now levels outer start refusal) }
 {
-    let mut items = Vec::new(alloc);
+    let mut items = room_for(alloc, room)?;
     let mut at = start;
     'parts: while let Some(part) = next_part(alloc, source, at)? {
         if ends_block(&part.kind) {
@@ -226,7 +246,7 @@ fn whole_block(
     ensures read { IfOk result (λ x. (behind : ℕ) × IsBlock source.now (view x.0) levels start behind × Stands source.now behind (pieces.Close name) x.1) }
     ensures refused { IfErr result (IsFirst source.now levels (Some (record { at = at; name = name; goes_on = false })) start) }
 {
-    let (block, stop) = block_of(alloc, source, levels, start)?;
+    let (block, stop) = block_of(alloc, source, levels, start, 0)?;
     let end = closed(at, name, stop)?;
     Ok((block, end))
 }
@@ -245,7 +265,7 @@ fn in_of(
     ensures read { IfOk result (λ x. (middle : ℕ) × (behind : ℕ) × IsBlock source.now (view x.0) levels start middle × IsElse source.now (otherwise_view x.1) levels middle behind × Stands source.now behind (pieces.Close tags.In) x.2) }
     ensures refused { IfErr result (IsOfLoop source.now levels at start) }
 {
-    let (block, stop) = block_of(alloc, source, levels, start)?;
+    let (block, stop) = block_of(alloc, source, levels, start, 0)?;
     let (piece, _, end) = turn_of(alloc, at, TagName::In, stop)?;
     let Piece::Else = piece else {
         return Ok((block, None, end));
@@ -274,7 +294,7 @@ fn if_of(
     let mut arm_arg = arg;
     let mut arm_start = start;
     'arms: loop {
-        let (block, stop) = block_of(alloc, source, levels, arm_start)?;
+        let (block, stop) = block_of(alloc, source, levels, arm_start, 0)?;
         let arm = Arm {
             at: arm_at as u32,
             arg: arm_arg,
@@ -311,9 +331,13 @@ pub fn parse(alloc: Global, source: &str) -> Result<Tree, DtmlRefusal>
     if source.len() > MOST_BYTES {
         return Err(DtmlRefusal::TooLarge(MOST_BYTES));
     }
-    let (tree, stop) = block_of(alloc, source, MOST_LEVELS, 0)?;
+    let room = source.len() / BYTES_A_NODE;
+    let (mut tree, stop) = block_of(alloc, source, MOST_LEVELS, 0, room)?;
     match stop {
         Some(part) => Err(DtmlRefusal::Stray(part.start)),
-        None => Ok(tree),
+        None => {
+            tree.nodes.items.shrink_to_fit();
+            Ok(tree)
+        }
     }
 }

@@ -18,11 +18,16 @@ use Rattle.dtml_parse.proofs.block.+parse.Goals as goal
 
 pub block_of-parts-init : goal.block_of-parts-init
 block_of-parts-init t c =
-    record { read = rw c.new-items.ensures.items refl; boundary = assumption (c.requires.1) }
+    record { read = rw c.in_ok-items.ensures refl; boundary = assumption (c.requires.1) }
+
+pub block_of-returns-in_err-items-clause-refused : goal.block_of-returns-in_err-items-clause-refused
+block_of-returns-in_err-items-clause-refused t c =
+    let p = err_from_is_err_and c.from_residual.result c.from_residual.ensures.1 in
+    rw (p.1, p.2) (λ outer. memory_first c.args.source.now c.args.levels outer c.args.start)
 
 pub block_of-returns-in_err-part-clause-refused : goal.block_of-returns-in_err-part-clause-refused
 block_of-returns-in_err-part-clause-refused t c =
-    let p = err_from_is_err_and c.from_residual.result c.from_residual.ensures.1 in
+    let p = err_from_is_err_and c.from_residual-in_err-part.result c.from_residual-in_err-part.ensures.1 in
     rw (p.1, p.2) (λ outer. behind_block c.args.source.now c.args.levels outer (list_view c.parts.items.items) c.args.start c.parts.at c.in_err-part.field-0.0 c.parts.invariant.read
     (not_lexed c.args.source.now c.args.levels outer c.parts.at c.in_err-part.field-0.0 c.in_err-part.ensures.refused))
 
