@@ -1,4 +1,4 @@
-ghost use Rattle.std.specs.Prelude.{◌≡◌, ◌==◌, ◌+◌, ◌<◌, if◌then◌else◌, length, ℕ, All, None, OnOk};
+ghost use Rattle.std.specs.Prelude.{◌≡◌, ◌==◌, if◌then◌else◌, ℕ, All, None, OnOk};
 ghost use Rattle.fs_index.specs.Places.{known};
 
 use std::alloc::Global;
@@ -9,7 +9,7 @@ use zbase::{Memory, Oid};
 /// How many places at most are kept in a row for each object, so that a few objects with great ids don't take much.
 const SPREAD: u64 = 8;
 
-/// By how many ids at most the row grows at once, so that no object has to wait till a long one is made.
+/// By how many ids at most the row grows with an object, so that none has to wait till a long tree is taken over.
 const STRIDE: u64 = 16;
 
 /// Places by object, counted in bytes from the file's start. An object may be there without a place: then room is kept
@@ -97,12 +97,13 @@ impl Index {
         if self.slot(id).is_some() {
             return Ok(());
         }
-        self.taken = self.taken.saturating_add(1);
         self.lengthen(id)?;
-        self.add_far(id)
+        self.add_far(id)?;
+        self.taken = self.taken.saturating_add(1);
+        Ok(())
     }
 
-    // Keeps room in the tree for an object that has none.
+    // Keeps room in the tree for an object that has none, neither there nor in the row.
     #[tactic(auto, unfolding(crate::specs::Places::slot_of))]
     fn add_far(&mut self, id: u64) -> Result<(), Memory>
         ensures places { (o : ℕ) → place_of self.new o ≡ place_of self.old o }
@@ -125,7 +126,7 @@ impl Index {
     {
         for _ in 0..STRIDE {
             let next = self.near.len() as u64;
-            if id < next || self.taken <= next / SPREAD {
+            if id < next || self.taken < next / SPREAD {
                 return Ok(());
             }
             self.add_near()?;
@@ -138,7 +139,6 @@ impl Index {
     fn add_near(&mut self) -> Result<(), Memory>
         ensures places { (o : ℕ) → place_of self.new o ≡ place_of self.old o }
         ensures keeps { (o : ℕ) → HasRoom self.old o → HasRoom self.new o }
-        ensures longer { OnOk result (length self.new.near ≡ length self.old.near + 1) }
     {
         let id = self.near.len() as u64;
         let place = match self.far.get(&id) {
