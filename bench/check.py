@@ -15,7 +15,7 @@ import tempfile
 from replay import HOME, PROGRAM, timed
 
 # the program itself, without the script that builds it where that is due
-BUILT = HOME / "crates" / "zope" / "out" / "zope"
+BUILT = HOME / "crates" / "zope_main" / "out" / "zope_main"
 
 FIRST = 0x0331620000000000
 

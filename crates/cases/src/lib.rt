@@ -15,6 +15,6 @@ mod running;
 pub use case::{Case, Part};
 pub use comparing::compare;
 pub use count::Count;
-pub use reader::read_cases;
+pub use reader::{CaseFile, read_cases};
 pub use refusal::CasesRefusal;
-pub use running::{Runner, run_files, run_text};
+pub use running::{Met, Runner, run_files, run_text};

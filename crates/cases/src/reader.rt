@@ -3,15 +3,36 @@ use crate::{Case, CasesRefusal, Part};
 use std::alloc::Global;
 use zbase::Bytes;
 
-// What was read of a text so far: the pieces, and the cases. Lines go to the last case, or to the last piece before the first.
+/// A text of cases: its pieces, and its cases.
 #[derive(Drop)]
-struct Reader {
+pub struct CaseFile {
+    /// The pieces, each with its name as its second word.
+    pub pieces: Vec<Part>,
+    /// The cases.
+    pub cases: Vec<Case>,
+}
+
+// What was read of a text so far: the pieces, and the cases. Lines go to the last case, or to the last piece before the
+// first. Pieces of other files stand beside its own.
+#[derive(Drop)]
+struct Reader<'a> {
+    shared: &'a [Part],
     pieces: Vec<Part>,
     cases: Vec<Case>,
     alloc: Global,
 }
 
-impl Reader {
+// The bytes of the piece of that name.
+fn copy_named(pieces: &[Part], name: &str) -> Result<Option<Bytes>, CasesRefusal> {
+    for piece in pieces {
+        if piece.word(1) == Some(name) {
+            return Ok(Some(piece.bytes.copy()?));
+        }
+    }
+    Ok(None)
+}
+
+impl Reader<'_> {
     // The bytes to which the lines of contents are added.
     fn open_bytes(&mut self) -> Option<&mut Bytes> {
         match self.cases.last_mut() {
@@ -26,14 +47,12 @@ impl Reader {
         }
     }
 
-    // The bytes of the piece of that name.
+    // The bytes of the piece of that name, of this text or another.
     fn copy_piece(&self, name: &str) -> Result<Option<Bytes>, CasesRefusal> {
-        for piece in &self.pieces {
-            if piece.word(1) == Some(name) {
-                return Ok(Some(piece.bytes.copy()?));
-            }
+        match copy_named(self.shared, name)? {
+            Some(bytes) => Ok(Some(bytes)),
+            None => copy_named(self.pieces.as_slice(), name),
         }
-        Ok(None)
     }
 
     // Adds the bytes of the piece of that name, so many times.
@@ -135,9 +154,10 @@ impl Reader {
     }
 }
 
-/// The cases of a text.
-pub fn read_cases(alloc: Global, text: &str) -> Result<Vec<Case>, CasesRefusal> {
+/// The pieces and cases of a text, in which the pieces of other files may be named too.
+pub fn read_cases(alloc: Global, text: &str, shared: &[Part]) -> Result<CaseFile, CasesRefusal> {
     let mut reader = Reader {
+        shared,
         pieces: Vec::new(alloc),
         cases: Vec::new(alloc),
         alloc,
@@ -148,6 +168,6 @@ pub fn read_cases(alloc: Global, text: &str) -> Result<Vec<Case>, CasesRefusal> 
             return Err(CasesRefusal::BadLine(number));
         }
     }
-    let Reader { cases, .. } = reader;
-    Ok(cases)
+    let Reader { pieces, cases, .. } = reader;
+    Ok(CaseFile { pieces, cases })
 }

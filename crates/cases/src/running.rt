@@ -1,4 +1,4 @@
-use crate::{Case, CasesRefusal, Count, Part, compare, read_cases};
+use crate::{Case, CaseFile, CasesRefusal, Count, Part, compare, read_cases};
 use std::alloc::Global;
 use std::process::ExitCode;
 use std::rt::{Env, Files};
@@ -61,31 +61,65 @@ fn run_case<R: Runner>(
     Ok(true)
 }
 
-/// Runs the cases of a text, which is that of the file of this name: what is to be said of them, and how many there are.
-/// A text that isn't one of cases counts as a case that is wrong.
+/// What was met in the files so far.
+#[derive(Drop)]
+pub struct Met {
+    /// The pieces of files without cases, which every later file may name.
+    pub pieces: Vec<Part>,
+    /// The cases.
+    pub count: Count,
+}
+
+impl Met {
+    /// Nothing.
+    pub fn new(alloc: Global) -> Met {
+        Met {
+            pieces: Vec::new(alloc),
+            count: Count::new(),
+        }
+    }
+}
+
+// Runs these cases of the file of that name: what is to be said of them.
+fn run_cases<R: Runner>(
+    alloc: Global,
+    runner: &R,
+    name: &str,
+    file: CaseFile,
+    met: &mut Met,
+) -> Result<Text, CasesRefusal> {
+    let CaseFile { pieces, cases } = file;
+    let mut out = Text::new(alloc);
+    for case in &cases {
+        let is_wrong = run_case(alloc, &mut out, runner, name, case)?;
+        met.count = met.count.with(is_wrong);
+    }
+    if cases.is_empty() {
+        for piece in pieces {
+            met.pieces.push(piece)?;
+        }
+    }
+    Ok(out)
+}
+
+/// Runs the cases of a text, which is that of the file of this name: what is to be said of them. A text that isn't one
+/// of cases counts as a case that is wrong.
 pub fn run_text<R: Runner>(
     alloc: Global,
     runner: &R,
     name: &str,
     text: &str,
-    before: Count,
-) -> Result<(Text, Count), CasesRefusal> {
-    let mut out = Text::new(alloc);
-    let mut count = before;
-    match read_cases(alloc, text) {
-        Ok(cases) => {
-            for case in &cases {
-                count = count.with(run_case(alloc, &mut out, runner, name, case)?);
-            }
-        }
+    met: &mut Met,
+) -> Result<Text, CasesRefusal> {
+    match read_cases(alloc, text, met.pieces.as_slice()) {
+        Ok(file) => run_cases(alloc, runner, name, file, met),
         Err(CasesRefusal::BadLine(line)) => {
+            met.count = met.count.with(true);
             let said = format!(in alloc; "{name} line {line}: none of the format's\n")?;
-            out.push_str(said.as_str())?;
-            count = count.with(true);
+            Ok(Text::from_str(alloc, said.as_str())?)
         }
-        Err(refusal) => return Err(refusal),
+        Err(refusal) => Err(refusal),
     }
-    Ok((out, count))
 }
 
 // Runs the cases of the file of that name, and prints what is wrong.
@@ -93,20 +127,20 @@ fn run_file<R: Runner>(
     rt: &(impl AllocGlobal + Files + Print),
     runner: &R,
     name: &str,
-    before: Count,
-) -> io::Result<Count> {
+    met: &mut Met,
+) -> io::Result<()> {
     let text = fs::read_to_string(rt, name)?;
-    match run_text(rt.alloc(), runner, name, text.as_str(), before) {
-        Ok((said, count)) => {
+    match run_text(rt.alloc(), runner, name, text.as_str(), met) {
+        Ok(said) => {
             let said = said.as_str();
             print!(rt; "{said}")?;
-            Ok(count)
         }
         Err(_) => {
+            met.count = met.count.with(true);
             println!(rt; "{name}: no memory")?;
-            Ok(before.with(true))
         }
     }
+    Ok(())
 }
 
 /// All that a driver does: runs the cases of the files that the program's words name, prints what is wrong, and then the
@@ -115,11 +149,11 @@ pub fn run_files<R: Runner>(
     rt: &(impl AllocGlobal + Env + Files + Print),
     runner: &R,
 ) -> io::Result<ExitCode> {
-    let mut count = Count::new();
+    let mut met = Met::new(rt.alloc());
     for name in env::args(rt)?.skip(1) {
-        count = run_file(rt, runner, name.as_str(), count)?;
+        run_file(rt, runner, name.as_str(), &mut met)?;
     }
-    let Count { all, wrong } = count;
+    let Count { all, wrong } = met.count;
     println!(rt; "{all} cases, {wrong} wrong")?;
     Ok(ExitCode::from(u8::from(wrong > 0)))
 }

@@ -1,9 +1,9 @@
-use cases::{Case, CasesRefusal, Count, Part, Runner, run_text};
+use cases::{Case, CasesRefusal, Count, Met, Part, Runner, run_text};
 use std::alloc::Global;
 use zbase::Bytes;
 
-/// Case files: `text` is one, whose cases are run by `Echo`; `output` with what is said of it and `count N M` come of it,
-/// for N cases of which M are wrong.
+/// Case files: each `text` is one, whose cases are run by `Echo`; `output` with what is said of them and `count N M` come
+/// of them, for N cases of which M are wrong.
 #[derive(Drop)]
 pub struct CaseFiles;
 
@@ -39,15 +39,19 @@ impl Runner for CaseFiles {
     }
 
     fn run(&self, alloc: Global, case: &Case) -> Result<Vec<Part>, CasesRefusal> {
-        let text = case.bytes(alloc, "text")?;
-        let Ok(text) = str::from_utf8(text.as_slice()) else {
-            return Err(CasesRefusal::Missing);
-        };
-        let (said, Count { all, wrong }) =
-            run_text(alloc, &Echo, "inner.cases", text, Count::new())?;
+        let mut met = Met::new(alloc);
+        let mut output = Bytes::new(alloc);
+        for part in case.parts.iter().filter(|part| part.key() == "text") {
+            let Ok(text) = str::from_utf8(part.bytes.as_slice()) else {
+                return Err(CasesRefusal::BadPart(part.line));
+            };
+            let said = run_text(alloc, &Echo, "inner.cases", text, &mut met)?;
+            output.append(said.as_bytes())?;
+        }
+        let Count { all, wrong } = met.count;
         let count = format!(in alloc; "count {all} {wrong}")?;
         let mut parts = Vec::new(alloc);
-        parts.push(Part::with(alloc, "output", Bytes::from_slice(alloc, said.as_bytes())?)?)?;
+        parts.push(Part::with(alloc, "output", output)?)?;
         parts.push(Part::with(alloc, count.as_str(), Bytes::new(alloc))?)?;
         Ok(parts)
     }

@@ -7,8 +7,6 @@ mod laws;
 mod memory;
 mod record;
 mod synced;
-#[cfg(test)]
-mod tests;
 
 pub use disk::Disk;
 pub use file::FileDisk;

@@ -20,8 +20,6 @@ mod refusal;
 mod shelf;
 mod sink;
 mod source;
-#[cfg(test)]
-mod tests;
 mod unread;
 mod writer_sink;
 

@@ -1,36 +1,12 @@
-//! The top call, and the program.
+//! The program: its words, the folder that it runs in, its input and its output, handed to `run`.
 #![tactic(auto)]
-
-#[cfg(test)]
-mod cause_tests;
-#[cfg(test)]
-mod check_tests;
-mod checking;
-mod command;
-#[cfg(test)]
-mod dump_tests;
-mod dumping;
-#[cfg(test)]
-mod edit_tests;
-mod inputs;
-mod last_lines;
-#[cfg(test)]
-mod opening_tests;
-#[cfg(test)]
-mod page_tests;
-mod refusal;
-mod replaying;
-#[cfg(test)]
-mod tests;
-mod top;
-mod words;
 
 use std::env;
 use std::io::ErrorKind;
 use std::process::ExitCode;
-pub use top::{Status, run};
 use zbase::FaultPlan;
 use zio::{Folder, MemoryClock, MemoryHub, OutsideRefusal, ReaderSource, Sink, WriterSink};
+use zope::{Status, run};
 
 // The words of the command line. Words that aren't UTF-8 are none of the program's.
 fn words_of(

@@ -1,0 +1,14 @@
+//! The commands of the program, over a shelf of files, an input, an output, a hub and a clock: `run` is the top call.
+#![tactic(auto)]
+
+mod checking;
+mod command;
+mod dumping;
+mod inputs;
+mod last_lines;
+mod refusal;
+mod replaying;
+mod top;
+mod words;
+
+pub use top::{Status, run};
