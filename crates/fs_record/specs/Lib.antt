@@ -19,3 +19,4 @@ pub mod StandingLaws
 pub mod Walks
 pub mod WalkLaws
 pub mod FileReading
+pub mod Worked

@@ -4,7 +4,7 @@
 //! a file one behind another, and the history that it says; `specs/Standing` where the records of that history
 //! stand, and `specs/Walks` how an object's previous places lead back through it; `specs/Opening` where a file ends: at its end, before a torn rest, or before damage; `specs/Reading` the
 //! same as a function of the bytes; `specs/Written` which transaction is written, and what makes it right behind a
-//! file.
+//! file; `specs/Worked` has rows worked by hand.
 #![tactic(auto)]
 
 mod body;
@@ -12,8 +12,6 @@ mod damage;
 mod heads;
 mod laws;
 mod reading;
-#[cfg(test)]
-mod tests;
 mod writing;
 
 pub use body::{Body, Item, TxnTexts};

@@ -6,23 +6,17 @@
 //! (`specs/Walked`).
 #![tactic(auto)]
 
-#[cfg(test)]
-mod agreeing;
 mod checking;
 mod data;
 mod extent;
 mod following;
 mod judging;
 mod magic;
-#[cfg(test)]
-mod naive;
 mod opening;
 mod pages;
 mod places;
 mod records;
 mod step;
-#[cfg(test)]
-mod tests;
 mod texts;
 mod valued;
 mod walk;

@@ -1,7 +1,7 @@
 use Rattle.std.proofs.Common.{IfSome}
 use Rattle.zdisk.specs.Disk.{content}
 use Rattle.fs_scan.specs.Walked.{IsOn}
-use Rattle.fs_scan.proofs.agreeing.walked.Given as goal
+use Rattle.file_tests.proofs.agreeing.walked.Given as goal
 
 -- the walk is one over this disk
 abbrev pub invariant-loop : goal.invariant-loop

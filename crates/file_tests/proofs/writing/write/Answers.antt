@@ -1,6 +1,6 @@
 use Rattle.std.proofs.Common.{arith}
 use Rattle.fs_record.specs.Sizes.{length-transaction}
-use Rattle.fs_record.proofs.tests.write.Goals as goal
+use Rattle.file_tests.proofs.writing.write.Goals as goal
 
 pub write_txn-requires-clause-fits : goal.write_txn-requires-clause-fits
 write_txn-requires-clause-fits c =

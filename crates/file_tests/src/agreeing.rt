@@ -1,8 +1,8 @@
 //! The scan, the walk and a plain reader agree, on files that are made here and then changed byte by byte.
 
 use crate::naive::{Answer, Passed, Said, history, read_file};
-use crate::{Checked, ScanRefusal, Scanned, Walk, Whole, check_bytes, scan};
 use fs_record::Damage;
+use fs_scan::{Checked, ScanRefusal, Scanned, Walk, Whole, check_bytes, scan};
 use std::alloc::Global;
 use std::mem;
 use std::test::*;
@@ -51,15 +51,12 @@ const FILES: [&[Made]; 10] = [
         (b'p', &[]),
         (b' ', &[(7, Data(1)), (2, Data(1))]),
     ],
-    DAMAGED,
-];
-
-/// The file whose last transaction, at place 198 behind an undone one, is damaged below: it has a back pointer at
-/// place 221, and data at 271.
-const DAMAGED: &[Made] = &[
-    (b' ', &[(1, Data(3)), (2, Data(2))]),
-    (b'u', &[(7, Data(1))]),
-    (b' ', &[(1, Back(1)), (2, Data(4))]),
+    // a back pointer and data behind an undone transaction
+    &[
+        (b' ', &[(1, Data(3)), (2, Data(2))]),
+        (b'u', &[(7, Data(1))]),
+        (b' ', &[(1, Back(1)), (2, Data(4))]),
+    ],
 ];
 
 fn number(out: &mut Bytes, number: u64) -> Result<(), Memory> {
@@ -267,17 +264,38 @@ fn counted(counts: &mut [u64; 10], answer: &Answer) {
     counts[index] = counts[index].saturating_add(1);
 }
 
+// Whether the file opens to its end, and each beginning of it to what was written whole, but for a cut in the magic.
+fn is_whole_however_cut(alloc: Global, file: &[u8]) -> Result<bool, Fail> {
+    let end = agreed(alloc, file)?.map(|said| (said.end, said.torn));
+    let mut all = end == Ok((file.len() as u64, 0));
+    for len in 0..file.len() {
+        let answer = agreed(alloc, &file[..len])?;
+        all = all && answer.is_err() == (len < 4);
+    }
+    Ok(all)
+}
+
 #[test]
 fn they_agree_on_made_files_however_they_are_cut(rt: HostRuntime) -> Result<(), Fail> {
     for (index, made) in FILES.iter().enumerate() {
         let file = file_of(rt.alloc(), made)?;
-        let whole = agreed(rt.alloc(), file.as_slice())?;
-        let end = whole.map(|said| (said.end, said.torn));
-        assert_eq!(rt; end, Ok((file.len() as u64, 0)), "file {index}");
-        for len in 0..file.len() {
-            let answer = agreed(rt.alloc(), &file.as_slice()[..len])?;
-            assert_eq!(rt; answer.is_err(), len < 4, "file {index} cut at {len}");
+        assert!(rt;
+            is_whole_however_cut(rt.alloc(), file.as_slice())?,
+            "file {index}"
+        );
+    }
+    Ok(())
+}
+
+// Counts what the file opens to with each of its bytes changed in some ways.
+fn count_changed(alloc: Global, counts: &mut [u64; 10], file: &mut [u8]) -> Result<(), Fail> {
+    for place in 0..file.len() {
+        let old = file[place];
+        for byte in [old.wrapping_add(1), old ^ 128, b'u', b'p', 0] {
+            set(file, place, byte);
+            counted(counts, &agreed(alloc, file)?);
         }
+        set(file, place, old);
     }
     Ok(())
 }
@@ -287,72 +305,8 @@ fn they_agree_on_made_files_with_any_byte_changed(rt: HostRuntime) -> Result<(),
     let mut counts = [0; 10];
     for made in FILES {
         let mut file = file_of(rt.alloc(), made)?;
-        for place in 0..file.len() {
-            let old = file[place];
-            for byte in [old.wrapping_add(1), old ^ 128, b'u', b'p', 0] {
-                set(file.as_mut_slice(), place, byte);
-                counted(&mut counts, &agreed(rt.alloc(), file.as_slice())?);
-            }
-            set(file.as_mut_slice(), place, old);
-        }
+        count_changed(rt.alloc(), &mut counts, file.as_mut_slice())?;
     }
     assert!(rt; counts.iter().all(|count| *count > 20));
-    Ok(())
-}
-
-/// Changes to the last transaction of the damaged file, and the damage that each makes, in the order in which damages
-/// are tried.
-const CHANGES: [(usize, u8, Damage); 9] = [
-    // the length of its last data, 5 for 4
-    (312, 5, Damage::BadLength),
-    // its id, which is less than the one before; a data record's start
-    (204, 0, Damage::BadTid),
-    (252, 199, Damage::BadTid),
-    // the previous place of its last data record
-    (294, 73, Damage::BadPrev),
-    // the back pointer's place is of another object
-    (270, 72, Damage::BadBack),
-    (214, b'x', Damage::BadStatus),
-    (324, 126, Damage::BadTail),
-    (254, 1, Damage::BadVersion),
-    (304, 1, Damage::BadVersion),
-];
-
-#[test]
-fn of_two_damages_the_first_is_named(rt: HostRuntime) -> Result<(), Fail> {
-    let mut file = file_of(rt.alloc(), DAMAGED)?;
-    for (index, first) in CHANGES.iter().enumerate() {
-        for second in &CHANGES[index..] {
-            let before = set(file.as_mut_slice(), first.0, first.1);
-            let between = set(file.as_mut_slice(), second.0, second.1);
-            let answer = agreed(rt.alloc(), file.as_slice())?;
-            assert_eq!(rt; answer, Err((first.2, 198)), "change {index}");
-            set(file.as_mut_slice(), second.0, between);
-            set(file.as_mut_slice(), first.0, before);
-        }
-    }
-    Ok(())
-}
-
-/// Changes by which the last transaction looks as if its writing was broken off: its status, or a length that passes
-/// the file's end.
-const TORN: [(usize, u8); 3] = [(214, b'c'), (214, 0), (213, 128)];
-
-#[test]
-fn a_rest_that_looks_torn_is_not_judged(rt: HostRuntime) -> Result<(), Fail> {
-    let mut file = file_of(rt.alloc(), DAMAGED)?;
-    for change in CHANGES {
-        let old = set(file.as_mut_slice(), change.0, change.1);
-        let head = file.as_slice().get(..220).ok_or("is longer")?;
-        let cut = agreed(rt.alloc(), head)?;
-        assert_eq!(rt; cut.map(|said| (said.end, said.torn)), Ok((198, 22)));
-        for (place, byte) in TORN {
-            let whole = set(file.as_mut_slice(), place, byte);
-            let answer = agreed(rt.alloc(), file.as_slice())?;
-            assert_eq!(rt; answer.map(|said| (said.end, said.torn)), Ok((198, 127)));
-            set(file.as_mut_slice(), place, whole);
-        }
-        set(file.as_mut_slice(), change.0, old);
-    }
     Ok(())
 }

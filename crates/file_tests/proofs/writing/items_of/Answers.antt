@@ -3,7 +3,7 @@ use Rattle.std.proofs.lemmas.List.Elements.{All-push}
 use Rattle.std.proofs.lemmas.List.Sums.{sum_by-append, sum_by-cons}
 use Rattle.fs_record.specs.Sizes.{record_size}
 use Rattle.fs_record.specs.Written.{HasBody}
-use Rattle.fs_record.proofs.tests.items_of.Goals as goal
+use Rattle.file_tests.proofs.writing.items_of.Goals as goal
 
 pub loop-each-preserved : goal.loop-each-preserved
 loop-each-preserved c = record {

@@ -1,0 +1,191 @@
+use crate::telling::{
+    check_words, head_words, put_rows, put_step, put_value, refusal_words, scan_words,
+};
+use cases::{Case, CasesRefusal, Part, Runner};
+use fs_record::DataHead;
+use fs_scan::{
+    Checked, ScanRefusal, Scanned, Walk, check, follow_from, read_head, scan, scan_bytes,
+};
+use std::alloc::Global;
+use zbase::{Bytes, FaultPlan, Value};
+use zdisk::{Disk, MemoryDisk};
+
+/// Files: `file` is one, and `failing disk NUMBER` a call of its disk that is to fail; each of these is read from a disk
+/// of its own. A file that has damage gives `damaged KIND PLACE` in place of the words, and a call that failed `fault`.
+///
+/// - `scan end N torn N greatest HEX last HEX packed HEX transactions N`, the same of `scan_bytes` without a disk, `rows`
+///   with a line `HEX PLACE` for each object's last record, and `scan_calls N`;
+/// - `check transactions N objects N last HEX end N torn N`, and `check_calls N`;
+/// - `walk` with the lines `transaction PLACE HEX STATUS USER DESCRIPTION EXTENSION` and `record HEX VALUE` up to `end` or
+///   the damage; behind `fault` it goes on; `walk_calls N`;
+/// - where `at PLACE` is given, `head HEX HEX PREVIOUS START VERSION LENGTH` with the fields of the data record there or
+///   `none`, `value` with what it means, and `at_calls N`.
+#[derive(Drop)]
+pub struct FileRuns;
+
+// More steps than any walk over a case's file has.
+const STEPS: usize = 1000;
+
+// The disk of the case, before any call.
+fn disk_of(alloc: Global, case: &Case) -> Result<MemoryDisk, CasesRefusal> {
+    let plan = FaultPlan::new(case.failing(alloc, "disk")?);
+    Ok(MemoryDisk::with_faults(case.bytes(alloc, "file")?, plan))
+}
+
+// Adds a part of this key and these words.
+fn put_part(
+    alloc: Global,
+    parts: &mut Vec<Part>,
+    key: &str,
+    words: &str,
+    bytes: Bytes,
+) -> Result<(), CasesRefusal> {
+    let text = format!(in alloc; "{key} {words}")?;
+    parts.push(Part::with(alloc, text.as_str(), bytes)?)?;
+    Ok(())
+}
+
+// Adds how many calls the disk has had.
+fn put_calls(
+    alloc: Global,
+    parts: &mut Vec<Part>,
+    key: &str,
+    disk: &MemoryDisk,
+) -> Result<(), CasesRefusal> {
+    let calls = disk.calls();
+    let words = format!(in alloc; "{calls}")?;
+    put_part(alloc, parts, key, words.as_str(), Bytes::new(alloc))
+}
+
+// Adds what a scan says.
+fn put_scan(
+    alloc: Global,
+    parts: &mut Vec<Part>,
+    key: &str,
+    found: &Result<Scanned, ScanRefusal>,
+) -> Result<(), CasesRefusal> {
+    let words = match found {
+        Ok(scanned) => scan_words(alloc, scanned)?,
+        Err(refusal) => refusal_words(alloc, *refusal)?,
+    };
+    put_part(alloc, parts, key, words.as_str(), Bytes::new(alloc))
+}
+
+// Scans the file, on a disk and without one.
+fn run_scan(alloc: Global, case: &Case, parts: &mut Vec<Part>) -> Result<(), CasesRefusal> {
+    let mut disk = disk_of(alloc, case)?;
+    let found = scan(alloc, &mut disk);
+    put_scan(alloc, parts, "scan", &found)?;
+    if let Ok(scanned) = &found {
+        let mut rows = Bytes::new(alloc);
+        put_rows(alloc, &mut rows, scanned.rows.as_slice())?;
+        put_part(alloc, parts, "rows", "", rows)?;
+    }
+    put_calls(alloc, parts, "scan_calls", &disk)?;
+    let bytes = case.bytes(alloc, "file")?;
+    put_scan(
+        alloc,
+        parts,
+        "scan_bytes",
+        &scan_bytes(alloc, bytes.as_slice()),
+    )
+}
+
+// What a check says.
+fn checked_words(
+    alloc: Global,
+    found: Result<Checked, ScanRefusal>,
+) -> Result<String, CasesRefusal> {
+    match found {
+        Ok(checked) => check_words(alloc, &checked),
+        Err(refusal) => refusal_words(alloc, refusal),
+    }
+}
+
+// Checks the file.
+fn run_check(alloc: Global, case: &Case, parts: &mut Vec<Part>) -> Result<(), CasesRefusal> {
+    let mut disk = disk_of(alloc, case)?;
+    let words = checked_words(alloc, check(alloc, &mut disk))?;
+    put_part(alloc, parts, "check", words.as_str(), Bytes::new(alloc))?;
+    put_calls(alloc, parts, "check_calls", &disk)
+}
+
+// The lines of a walk over the disk's file.
+fn walked<D: Disk>(alloc: Global, disk: &mut D) -> Result<Bytes, CasesRefusal> {
+    let mut walk = Walk::new(alloc);
+    let mut out = Bytes::new(alloc);
+    for _ in 0..STEPS {
+        if !put_step(alloc, &mut out, walk.next(disk))? {
+            return Ok(out);
+        }
+    }
+    Err(CasesRefusal::Missing)
+}
+
+// Walks over the file.
+fn run_walk(alloc: Global, case: &Case, parts: &mut Vec<Part>) -> Result<(), CasesRefusal> {
+    let mut disk = disk_of(alloc, case)?;
+    let lines = walked(alloc, &mut disk)?;
+    put_part(alloc, parts, "walk", "", lines)?;
+    put_calls(alloc, parts, "walk_calls", &disk)
+}
+
+// The head and the meaning of the data record at a place.
+fn read_at<D: Disk>(
+    alloc: Global,
+    disk: &mut D,
+    at: u64,
+) -> Result<Option<(DataHead, Value)>, ScanRefusal> {
+    let len = disk.len()?;
+    let Some(head) = read_head(disk, len, at)? else {
+        return Ok(None);
+    };
+    let value = follow_from(alloc, disk, len, at, &head)?;
+    Ok(Some((head, value)))
+}
+
+// Adds what stands at a place.
+fn put_found(
+    alloc: Global,
+    parts: &mut Vec<Part>,
+    found: Result<Option<(DataHead, Value)>, ScanRefusal>,
+) -> Result<(), CasesRefusal> {
+    let mut value = Bytes::new(alloc);
+    let words = match found {
+        Ok(Some((head, meant))) => {
+            put_value(&mut value, &meant)?;
+            head_words(alloc, &head)?
+        }
+        Ok(None) => String::from_str(alloc, "none")?,
+        Err(refusal) => refusal_words(alloc, refusal)?,
+    };
+    put_part(alloc, parts, "head", words.as_str(), Bytes::new(alloc))?;
+    let value = str::from_utf8(value.as_slice()).unwrap_or("");
+    put_part(alloc, parts, "value", value, Bytes::new(alloc))
+}
+
+// Reads the data record at the place of the case, if it has one.
+fn run_at(alloc: Global, case: &Case, parts: &mut Vec<Part>) -> Result<(), CasesRefusal> {
+    if case.part("at").is_none() {
+        return Ok(());
+    }
+    let mut disk = disk_of(alloc, case)?;
+    let found = read_at(alloc, &mut disk, case.number("at", 0)?);
+    put_found(alloc, parts, found)?;
+    put_calls(alloc, parts, "at_calls", &disk)
+}
+
+impl Runner for FileRuns {
+    fn knows(&self, key: &str) -> bool {
+        key == "file" || key == "failing" || key == "at"
+    }
+
+    fn run(&self, alloc: Global, case: &Case) -> Result<Vec<Part>, CasesRefusal> {
+        let mut parts = Vec::new(alloc);
+        run_scan(alloc, case, &mut parts)?;
+        run_check(alloc, case, &mut parts)?;
+        run_walk(alloc, case, &mut parts)?;
+        run_at(alloc, case, &mut parts)?;
+        Ok(parts)
+    }
+}
