@@ -14,8 +14,6 @@ mod fresh;
 mod learning;
 mod pending;
 mod refusal;
-#[cfg(test)]
-mod tests;
 mod turned;
 
 pub use active::Active;

@@ -14,8 +14,6 @@ mod printing;
 mod refusal;
 mod replies;
 mod running;
-#[cfg(test)]
-mod tests;
 
 pub use dumping::{DumpRefusal, dump};
 pub use refusal::RunRefusal;

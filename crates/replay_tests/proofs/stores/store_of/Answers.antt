@@ -2,7 +2,7 @@ use Rattle.std.proofs.Common.{Option, Some, None, refl}
 use Rattle.std.specs.Prelude.{IsSome}
 use Rattle.zdisk.specs.Disk.{Told}
 use Rattle.fs_store.specs.Opened.{WhereTold}
-use Rattle.connection.proofs.tests.store_of.Goals as goal
+use Rattle.replay_tests.proofs.stores.store_of.Goals as goal
 
 both_tell : (R : Told → Told → Type 0) (told : Told) (new : Option Told) → WhereTold (Some told) new R → IsSome new
 both_tell R told None h = absurd h

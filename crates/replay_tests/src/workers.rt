@@ -1,0 +1,84 @@
+ghost use Rattle.std.specs.Prelude.{◌≡◌, None, IfOk};
+ghost use Rattle.fs_store.specs.Stores.{IsSteady};
+
+use crate::stores::store_of;
+use evaluator::{CellRequest, Cells};
+use fs_store::Store;
+use std::alloc::Global;
+use std::test::Fail;
+use txn_core::{Core, GiveRefusal};
+use zbase::{Oid, Tid};
+use zdisk::MemoryDisk;
+
+const COPY: CellRequest = CellRequest::Copy(Oid(1), Oid(1));
+
+/// A core over a store.
+fn core_of(alloc: Global, store: Store<MemoryDisk>) -> Result<Core<MemoryDisk, Cells>, Fail>
+    requires idle { store.out ≡ None }
+    requires steady { IsSteady store }
+{
+    match Core::new(alloc, store, Cells::new(alloc)) {
+        Ok(core) => Ok(core),
+        Err((memory, _store, _cells)) => Err(Fail::from(memory)),
+    }
+}
+
+/// The store behind a core over it, in which worker 5 is given a copy and stepped so often at a stamp; and whether its
+/// request was cut off.
+fn closed(
+    alloc: Global,
+    store: Store<MemoryDisk>,
+    stamp: u64,
+    count: usize,
+) -> Result<(Store<MemoryDisk>, bool), Fail>
+    requires idle { store.out ≡ None }
+    requires steady { IsSteady store }
+    ensures idle { IfOk result (λ (store, _). store.out ≡ None) }
+    ensures steady { IfOk result (λ (store, _). IsSteady store) }
+{
+    let mut core = core_of(alloc, store)?;
+    let is_given = core.give(5, COPY).is_ok();
+    for _ in 0..count {
+        let _line = core.step(5, Tid(stamp));
+    }
+    let (store, taken) = core.close();
+    if is_given {
+        Ok((store, taken[5]))
+    } else {
+        Err(Fail::from("not given"))
+    }
+}
+
+#[test]
+fn a_vote_that_is_out_at_the_end_never_stands(rt: HostRuntime) -> Result<(), Fail> {
+    let alloc = rt.alloc();
+    let mut store = store_of(alloc)?;
+    for (stamp, count, is_cut_off, last, len) in [
+        (7, 4, true, 0, 0),
+        (3, 5, false, 3, 1),
+        (3, 4, true, 3, 1),
+        (0, 5, false, 4, 2),
+    ] {
+        let (behind, is_taken) = closed(alloc, store, stamp, count)?;
+        store = behind;
+        assert_eq!(rt; is_taken, is_cut_off);
+        assert_eq!(rt; (store.last(), store.len()), (Tid(last), len));
+    }
+    Ok(())
+}
+
+#[test]
+fn a_worker_with_a_request_takes_no_other(rt: HostRuntime) -> Result<(), Fail> {
+    let alloc = rt.alloc();
+    let mut core = core_of(alloc, store_of(alloc)?)?;
+    let refused = Err((GiveRefusal::WorkerTaken, CellRequest::Log));
+    assert_eq!(rt; core.give(3, COPY), Ok(()));
+    for _ in 0..5usize {
+        assert_eq!(rt; core.give(3, CellRequest::Log), refused);
+        let _line = core.step(3, Tid(0));
+    }
+    assert_eq!(rt; core.give(3, CellRequest::Log), Ok(()));
+    let (store, _taken) = core.close();
+    assert_eq!(rt; store.last(), Tid(1));
+    Ok(())
+}
