@@ -27,6 +27,3 @@ mod unread;
 pub use expr::{Expr, Exprs, Order};
 pub use laws::one_expression;
 pub use reading::parse_expr;
-
-#[cfg(test)]
-mod tests;

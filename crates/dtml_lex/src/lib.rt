@@ -17,6 +17,3 @@ pub use laws::{part_is_spelled, parts_make_the_source};
 pub use next::next_part;
 pub use part::{Attribute, Attributes, PartKind, SourcePart, TagName};
 pub use refusal::DtmlRefusal;
-
-#[cfg(test)]
-mod tests;

@@ -14,6 +14,3 @@ mod tree;
 pub use block::parse;
 pub use laws::one_tree;
 pub use tree::{Arg, Arm, Arms, Binding, Bindings, Node, Nodes, Tree, VarTag};
-
-#[cfg(test)]
-mod tests;
