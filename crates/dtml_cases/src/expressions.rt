@@ -25,43 +25,17 @@ pub fn put_expr(page: &mut Page, expr: &Expr) {
             page.put("'");
         }
         Expr::Name(name) => page.put_text(name.as_str()),
-        Expr::Or(operands) => put_all(page, "(or", operands),
-        Expr::And(operands) => put_all(page, "(and", operands),
+        Expr::Or(operands) => put_all(page, "or", operands),
+        Expr::And(operands) => put_all(page, "and", operands),
         Expr::Not(operand) => {
             page.put("(not ");
             put_expr(page, operand);
             page.put(")");
         }
-        Expr::Compare(left, order, right) => {
-            page.put("(");
-            page.put(order_text(*order));
-            page.put(" ");
-            put_expr(page, left);
-            page.put(" ");
-            put_expr(page, right);
-            page.put(")");
-        }
-        Expr::Add(left, right) => {
-            page.put("(+ ");
-            put_expr(page, left);
-            page.put(" ");
-            put_expr(page, right);
-            page.put(")");
-        }
-        Expr::Sub(left, right) => {
-            page.put("(- ");
-            put_expr(page, left);
-            page.put(" ");
-            put_expr(page, right);
-            page.put(")");
-        }
-        Expr::Mul(left, right) => {
-            page.put("(* ");
-            put_expr(page, left);
-            page.put(" ");
-            put_expr(page, right);
-            page.put(")");
-        }
+        Expr::Compare(left, order, right) => put_pair(page, order_text(*order), left, right),
+        Expr::Add(left, right) => put_pair(page, "+", left, right),
+        Expr::Sub(left, right) => put_pair(page, "-", left, right),
+        Expr::Mul(left, right) => put_pair(page, "*", left, right),
         Expr::Dot(object, name) => {
             page.put("(. ");
             put_expr(page, object);
@@ -72,9 +46,22 @@ pub fn put_expr(page: &mut Page, expr: &Expr) {
     }
 }
 
-// Adds an opening bracket with its word, the operands and a closing bracket.
+// Adds two operands in brackets, with their sign before them.
+#[cycle(shown)]
+fn put_pair(page: &mut Page, sign: &str, left: &Expr, right: &Expr) {
+    page.put("(");
+    page.put(sign);
+    page.put(" ");
+    put_expr(page, left);
+    page.put(" ");
+    put_expr(page, right);
+    page.put(")");
+}
+
+// Adds operands in brackets, with their word before them.
 #[cycle(shown)]
 fn put_all(page: &mut Page, word: &str, operands: &Exprs) {
+    page.put("(");
     page.put(word);
     for operand in operands.items.as_slice() {
         page.put(" ");
