@@ -28,17 +28,27 @@ pub fn put_expr(page: &mut Page, expr: &Expr) {
         Expr::Or(operands) => put_all(page, "or", operands),
         Expr::And(operands) => put_all(page, "and", operands),
         Expr::Not(operand) => {
-            page.put("(not ");
-            put_expr(page, operand);
+            put_first(page, "not", operand);
             page.put(")");
         }
-        Expr::Compare(left, order, right) => put_pair(page, order_text(*order), left, right),
-        Expr::Add(left, right) => put_pair(page, "+", left, right),
-        Expr::Sub(left, right) => put_pair(page, "-", left, right),
-        Expr::Mul(left, right) => put_pair(page, "*", left, right),
+        Expr::Compare(left, order, right) => {
+            put_first(page, order_text(*order), left);
+            put_last(page, right);
+        }
+        Expr::Add(left, right) => {
+            put_first(page, "+", left);
+            put_last(page, right);
+        }
+        Expr::Sub(left, right) => {
+            put_first(page, "-", left);
+            put_last(page, right);
+        }
+        Expr::Mul(left, right) => {
+            put_first(page, "*", left);
+            put_last(page, right);
+        }
         Expr::Dot(object, name) => {
-            page.put("(. ");
-            put_expr(page, object);
+            put_first(page, ".", object);
             page.put(" ");
             page.put_text(name.as_str());
             page.put(")");
@@ -46,15 +56,20 @@ pub fn put_expr(page: &mut Page, expr: &Expr) {
     }
 }
 
-// Adds two operands in brackets, with their sign before them.
+// Adds an opening bracket, a sign or a word, and the first operand.
 #[cycle(shown)]
-fn put_pair(page: &mut Page, sign: &str, left: &Expr, right: &Expr) {
+fn put_first(page: &mut Page, sign: &str, operand: &Expr) {
     page.put("(");
     page.put(sign);
     page.put(" ");
-    put_expr(page, left);
+    put_expr(page, operand);
+}
+
+// Adds the last operand and the closing bracket.
+#[cycle(shown)]
+fn put_last(page: &mut Page, operand: &Expr) {
     page.put(" ");
-    put_expr(page, right);
+    put_expr(page, operand);
     page.put(")");
 }
 
