@@ -25,46 +25,30 @@ pub fn put_expr(page: &mut Page, expr: &Expr) {
             page.put("'");
         }
         Expr::Name(name) => page.put_text(name.as_str()),
-        Expr::Or(operands) => put_all(page, "(or", operands),
-        Expr::And(operands) => put_all(page, "(and", operands),
+        Expr::Or(operands) => put_all(page, "or", operands),
+        Expr::And(operands) => put_all(page, "and", operands),
         Expr::Not(operand) => {
-            page.put("(not ");
-            put_expr(page, operand);
+            put_first(page, "not", operand);
             page.put(")");
         }
         Expr::Compare(left, order, right) => {
-            page.put("(");
-            page.put(order_text(*order));
-            page.put(" ");
-            put_expr(page, left);
-            page.put(" ");
-            put_expr(page, right);
-            page.put(")");
+            put_first(page, order_text(*order), left);
+            put_last(page, right);
         }
         Expr::Add(left, right) => {
-            page.put("(+ ");
-            put_expr(page, left);
-            page.put(" ");
-            put_expr(page, right);
-            page.put(")");
+            put_first(page, "+", left);
+            put_last(page, right);
         }
         Expr::Sub(left, right) => {
-            page.put("(- ");
-            put_expr(page, left);
-            page.put(" ");
-            put_expr(page, right);
-            page.put(")");
+            put_first(page, "-", left);
+            put_last(page, right);
         }
         Expr::Mul(left, right) => {
-            page.put("(* ");
-            put_expr(page, left);
-            page.put(" ");
-            put_expr(page, right);
-            page.put(")");
+            put_first(page, "*", left);
+            put_last(page, right);
         }
         Expr::Dot(object, name) => {
-            page.put("(. ");
-            put_expr(page, object);
+            put_first(page, ".", object);
             page.put(" ");
             page.put_text(name.as_str());
             page.put(")");
@@ -72,9 +56,27 @@ pub fn put_expr(page: &mut Page, expr: &Expr) {
     }
 }
 
-// Adds an opening bracket with its word, the operands and a closing bracket.
+// Adds an opening bracket, a sign or a word, and the first operand.
+#[cycle(shown)]
+fn put_first(page: &mut Page, sign: &str, operand: &Expr) {
+    page.put("(");
+    page.put(sign);
+    page.put(" ");
+    put_expr(page, operand);
+}
+
+// Adds the last operand and the closing bracket.
+#[cycle(shown)]
+fn put_last(page: &mut Page, operand: &Expr) {
+    page.put(" ");
+    put_expr(page, operand);
+    page.put(")");
+}
+
+// Adds operands in brackets, with their word before them.
 #[cycle(shown)]
 fn put_all(page: &mut Page, word: &str, operands: &Exprs) {
+    page.put("(");
     page.put(word);
     for operand in operands.items.as_slice() {
         page.put(" ");

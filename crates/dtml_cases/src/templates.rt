@@ -48,8 +48,17 @@ fn put_value(page: &mut Page, word: &str, value: &Option<Text>) {
     }
 }
 
-// Adds what a `var` has behind its argument.
-fn put_marks(page: &mut Page, tag: &VarTag) {
+// Adds the line of a text.
+fn put_plain(page: &mut Page, steps: u64, text: &str) {
+    page.begin(steps, "plain '");
+    page.put_text(text);
+    page.put("'");
+    page.end();
+}
+
+// Adds the line of a `var`.
+fn put_var(page: &mut Page, steps: u64, at: u32, tag: &VarTag) {
+    put_head(page, steps, "var", at, &tag.arg);
     put_flag(page, tag.html_quote, "html_quote");
     put_flag(page, tag.url_quote, "url_quote");
     put_flag(page, tag.newline_to_br, "newline_to_br");
@@ -63,10 +72,18 @@ fn put_marks(page: &mut Page, tag: &VarTag) {
         page.put(")");
     }
     put_value(page, "etc", &tag.etc);
+    page.end();
 }
 
-// Adds the bindings of a `let`.
-fn put_bindings(page: &mut Page, bindings: &Bindings) {
+// Adds the line of a `call`.
+fn put_call(page: &mut Page, steps: u64, at: u32, arg: &Arg) {
+    put_head(page, steps, "call", at, arg);
+    page.end();
+}
+
+// Begins the line of a `let` with its bindings.
+fn put_bindings(page: &mut Page, steps: u64, at: u32, bindings: &Bindings) {
+    put_tag(page, steps, "let", at);
     for binding in bindings.as_slice() {
         page.put(" ");
         page.put_text(binding.name.as_str());
@@ -80,8 +97,7 @@ fn put_bindings(page: &mut Page, bindings: &Bindings) {
 fn put_else(page: &mut Page, steps: u64, block: &Option<Tree>) {
     if let Some(block) = block {
         page.begin(steps, "else");
-        page.end();
-        put_tree(page, steps.saturating_add(1), block);
+        put_block(page, steps, block);
     }
 }
 
@@ -91,40 +107,32 @@ fn put_arms(page: &mut Page, steps: u64, arms: &Arms) {
     let mut name = "if";
     for arm in arms.items.as_slice() {
         put_head(page, steps, name, arm.at, &arm.arg);
-        page.end();
-        put_tree(page, steps.saturating_add(1), &arm.block);
+        put_block(page, steps, &arm.block);
         name = "elif";
     }
+}
+
+// Ends the line of a tag, and adds its block a step to the right.
+#[cycle(shown)]
+fn put_block(page: &mut Page, steps: u64, block: &Tree) {
+    page.end();
+    put_tree(page, steps.saturating_add(1), block);
 }
 
 // Adds a node.
 #[cycle(shown)]
 fn put_node(page: &mut Page, steps: u64, node: &Node) {
-    let inside = steps.saturating_add(1);
     match node {
-        Node::Plain(text) => {
-            page.begin(steps, "plain '");
-            page.put_text(text.as_str());
-            page.put("'");
-            page.end();
-        }
-        Node::Var(at, tag) => {
-            put_head(page, steps, "var", *at, &tag.arg);
-            put_marks(page, tag);
-            page.end();
-        }
-        Node::Call(at, arg) => {
-            put_head(page, steps, "call", *at, arg);
-            page.end();
-        }
+        Node::Plain(text) => put_plain(page, steps, text.as_str()),
+        Node::Var(at, tag) => put_var(page, steps, *at, tag),
+        Node::Call(at, arg) => put_call(page, steps, *at, arg),
         Node::If(arms, otherwise) => {
             put_arms(page, steps, arms);
             put_else(page, steps, otherwise);
         }
         Node::Unless(at, arg, block) => {
             put_head(page, steps, "unless", *at, arg);
-            page.end();
-            put_tree(page, inside, block);
+            put_block(page, steps, block);
         }
         Node::Loop {
             at,
@@ -137,25 +145,20 @@ fn put_node(page: &mut Page, steps: u64, node: &Node) {
             put_head(page, steps, "in", *at, arg);
             put_flag(page, *reverse, "reverse");
             put_flag(page, *skip_unauthorized, "skip_unauthorized");
-            page.end();
-            put_tree(page, inside, block);
+            put_block(page, steps, block);
             put_else(page, steps, otherwise);
         }
         Node::With(at, arg, block) => {
             put_head(page, steps, "with", *at, arg);
-            page.end();
-            put_tree(page, inside, block);
+            put_block(page, steps, block);
         }
         Node::Let(at, bindings, block) => {
-            put_tag(page, steps, "let", *at);
-            put_bindings(page, bindings);
-            page.end();
-            put_tree(page, inside, block);
+            put_bindings(page, steps, *at, bindings);
+            put_block(page, steps, block);
         }
         Node::Comment(at, block) => {
             put_tag(page, steps, "comment", *at);
-            page.end();
-            put_tree(page, inside, block);
+            put_block(page, steps, block);
         }
     }
 }
