@@ -1,7 +1,6 @@
 pub mod Clashes
 pub mod Counted
 pub mod CutOff
-pub mod Drafting
 pub mod Loadings
 pub mod PartSteps
 pub mod Files

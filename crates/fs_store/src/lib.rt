@@ -29,8 +29,3 @@ pub use reads::{Loaded, Seen};
 pub use refusal::{AbortRefusal, FinishRefusal, LoadRefusal, VoteRefusal};
 pub use store::Store;
 pub use voted::Voted;
-
-#[cfg(test)]
-mod opening_tests;
-#[cfg(test)]
-mod tests;

@@ -1,4 +1,4 @@
--- Drafts of one entry, as the tests make them, keep the rules.
+-- Drafts of one entry keep the rules of a change.
 use Rattle.std.proofs.Common.{◌≡◌, ◌≢◌, ℕ, arith, ◌<◌, ◌≤◌, List, [], ◌∷◌, Option, Some, None, refl, sym, ap, subst, ◌∙◌, map, length, inr}
 use Rattle.std.specs.Prelude.{count_by, AllPairs, Contains}
 use Rattle.std.specs.List.{AllByRecursion}
