@@ -45,6 +45,7 @@ pub fn outcome_over<E: Evaluator, S: Snapshot>(
 ) -> Result<Evaluated, Memory>
     ensures whole { IfOk result (λ it. it.outcome ≡ exec E.meaning (S.history snapshot.now) request.now) }
     ensures decided { IfOk result (λ it. IsDecided it.outcome) }
+    ensures told { IfOk result (λ it. it.outcome ≡ E.meaning (look it.facts) request.now) }
     ensures trail { IfOk result (λ it. IsTrail (λ known. E.meaning (look known) request.now) it.facts) }
     ensures true_facts { IfOk result (λ it. TrueOf it.facts (S.history snapshot.now)) }
     ensures few { IfOk result (λ it. length it.facts ≤ most_asks) }

@@ -67,35 +67,3 @@ pub fn look(known: &Facts, ask: Ask) -> Option<&Fact>
 {
     known.as_slice().iter().find(|fact| answers(fact, ask))
 }
-
-#[cfg(test)]
-mod tests {
-    use super::*;
-    use std::test::Fail;
-
-    #[test]
-    fn facts_are_found_by_their_ask(rt: HostRuntime) -> Result<(), Fail> {
-        let mut known = Facts::new(rt.alloc());
-        known.push(Fact::Object {
-            oid: Oid(1),
-            value: None,
-            serial: Tid(7),
-        })?;
-        known.push(Fact::Transaction {
-            tid: Tid(1),
-            parts: None,
-        })?;
-        for (ask, is_known) in [
-            (Ask::Object(Oid(1)), true),
-            (Ask::Object(Oid(7)), false),
-            (Ask::Transaction(Tid(1)), true),
-            (Ask::Transaction(Tid(2)), false),
-            (Ask::Log, false),
-        ] {
-            assert_eq!(rt; look(&known, ask).is_some(), is_known, "{ask:?}");
-        }
-        known.push(Fact::Log(LogRows::new(rt.alloc())))?;
-        assert!(rt; look(&known, Ask::Log).is_some());
-        Ok(())
-    }
-}

@@ -35,6 +35,3 @@ pub use meaning::Evaluator;
 pub use outcome::Outcome;
 pub use permission::permission_name;
 pub use reply::{Denial, Kind, Mark, Reply, Shown, ShownList};
-
-#[cfg(test)]
-mod tests;

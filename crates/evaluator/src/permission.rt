@@ -22,30 +22,3 @@ pub fn permission_name(permission: u8) -> &'static str
         _ => "",
     }
 }
-
-#[cfg(test)]
-mod tests {
-    use super::*;
-
-    #[test]
-    fn permissions_have_their_names(rt: HostRuntime) {
-        for (permission, name) in [
-            (0, ""),
-            (1, "View"),
-            (2, "Access contents information"),
-            (3, "Add Folders"),
-            (4, "Add Documents, Images, and Files"),
-            (5, "Change DTML Methods"),
-            (6, "Change DTML Documents"),
-            (7, "Delete objects"),
-            (8, "Manage properties"),
-            (9, "Change permissions"),
-            (10, "Manage users"),
-            (11, "Add User Folders"),
-            (12, "Undo changes"),
-            (13, ""),
-        ] {
-            assert_eq!(rt; permission_name(permission), name);
-        }
-    }
-}

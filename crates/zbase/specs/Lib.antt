@@ -9,3 +9,4 @@ pub mod NumberLaws
 pub mod Roles
 pub mod Query
 pub mod QueryLaws
+pub mod Worked

@@ -112,28 +112,3 @@ impl Default for FaultCount {
         FaultCount::new()
     }
 }
-
-#[cfg(test)]
-mod tests {
-    use super::*;
-    use std::test::Fail;
-
-    #[test]
-    fn the_calls_of_the_plan_fail_and_no_other(rt: HostRuntime) -> Result<(), Fail> {
-        let mut plan = FaultPlan::new(Vec::from_slice(rt.alloc(), &[4, 2])?);
-        for failing in [false, true, false, true, false] {
-            assert_eq!(rt; plan.call().is_err(), failing);
-        }
-        let mut sound = FaultPlan::none(rt.alloc());
-        assert_eq!(rt; sound.call(), Ok(()));
-        Ok(())
-    }
-
-    #[test]
-    fn faults_are_counted(rt: HostRuntime) {
-        let mut faults = FaultCount::default();
-        assert_eq!(rt; faults.fault(), Failed);
-        assert_eq!(rt; faults.fault(), Failed);
-        assert_eq!(rt; faults.count, 2);
-    }
-}

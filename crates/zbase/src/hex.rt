@@ -61,36 +61,3 @@ pub fn read_hex16(text: &[u8]) -> Option<u64>
     }
     Some(n)
 }
-
-#[cfg(test)]
-mod tests {
-    use super::*;
-
-    #[test]
-    fn ids_are_printed_and_read(rt: HostRuntime) {
-        for (n, text) in [
-            (0, "0000000000000000"),
-            (230_072_808_112_128_000, "0331620000000000"),
-            (u64::MAX, "ffffffffffffffff"),
-        ] {
-            assert_eq!(rt; hex16(n).as_slice(), text.as_bytes());
-            assert_eq!(rt; read_hex16(text.as_bytes()), Some(n));
-        }
-        for text in [
-            "",
-            "331620000000000",
-            "0331620000000000 ",
-            "033162000000000A",
-            "033162000000000g",
-        ] {
-            assert_eq!(rt; read_hex16(text.as_bytes()), None, "{text}");
-        }
-    }
-
-    #[test]
-    fn bytes_are_printed(rt: HostRuntime) {
-        for (byte, text) in [(0, "00"), (9, "09"), (160, "a0"), (255, "ff")] {
-            assert_eq!(rt; hex_digits(byte).as_slice(), text.as_bytes());
-        }
-    }
-}

@@ -122,36 +122,3 @@ impl Items<u8> {
         self.items.as_slice() == other.items.as_slice()
     }
 }
-
-#[cfg(test)]
-mod tests {
-    use super::*;
-    use std::test::Fail;
-
-    #[test]
-    fn bytes_are_kept_in_order(rt: HostRuntime) -> Result<(), Fail> {
-        let mut bytes = Bytes::new(rt.alloc());
-        assert!(rt; bytes.is_empty());
-        bytes.push(1)?;
-        bytes.append(&[2, 3])?;
-        assert_eq!(rt; bytes.as_slice(), [1, 2, 3].as_slice());
-        assert_eq!(rt; bytes.len(), 3);
-        assert!(rt; bytes.same(&bytes.copy()?));
-        assert!(rt; !bytes.same(&Bytes::from_slice(rt.alloc(), &[1, 2])?));
-        Ok(())
-    }
-
-    #[test]
-    fn lists_come_from_vectors_and_go_back(rt: HostRuntime) -> Result<(), Fail> {
-        let mut rows = Rows::from_vec(Vec::new(rt.alloc()));
-        rows.push(Row {
-            oid: Oid(1),
-            place: 4,
-        })?;
-        assert!(rt; !rows.is_empty());
-        let rows = rows.into_vec();
-        assert_eq!(rt; rows.len(), 1);
-        assert_eq!(rt; rows.last().map(|row| row.place), Some(4));
-        Ok(())
-    }
-}

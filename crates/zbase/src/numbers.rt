@@ -18,15 +18,3 @@ pub fn u16_at(bytes: &[u8], at: usize) -> u16
     let b = &bytes[at..at + 2];
     u16::from_be_bytes([b[0], b[1]])
 }
-
-#[cfg(test)]
-mod tests {
-    use super::*;
-
-    #[test]
-    fn numbers_stand_high_byte_first(rt: HostRuntime) {
-        let bytes = b"\xff\x01\x02\x03\x04\x05\x06\x07\x08";
-        assert_eq!(rt; u64_at(bytes, 1), 0x0102_0304_0506_0708);
-        assert_eq!(rt; u16_at(bytes, 0), 0xff01);
-    }
-}

@@ -101,24 +101,3 @@ impl Text {
         self.text.as_str() == other.text.as_str()
     }
 }
-
-#[cfg(test)]
-mod tests {
-    use super::*;
-    use std::test::Fail;
-
-    #[test]
-    fn texts_are_kept(rt: HostRuntime) -> Result<(), Fail> {
-        let mut text = Text::new(rt.alloc());
-        assert!(rt; text.is_empty());
-        text.push_str("Zopé")?;
-        assert_eq!(rt; text.as_str(), "Zopé");
-        assert_eq!(rt; text.as_bytes(), b"Zop\xc3\xa9".as_slice());
-        assert_eq!(rt; text.len(), 5);
-        assert!(rt; text.same(&text.copy()?));
-        assert!(rt; !text.same(&Text::from_str(rt.alloc(), "Zope")?));
-        text.push_hex16(0xab)?;
-        assert_eq!(rt; text.as_str(), "Zopé00000000000000ab");
-        Ok(())
-    }
-}

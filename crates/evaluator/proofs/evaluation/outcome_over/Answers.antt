@@ -30,6 +30,7 @@ returns-in_default g c =
     record {
       whole = value ∙ sym (g.met.E.Evaluator.lawful.whole facts h request asked.true_facts (subst IsDecided value decided));
       decided = decided;
+      told = value;
       trail = asked.trail;
       true_facts = asked.true_facts;
       few = g.met.E.Evaluator.few_asks facts request asked.trail;
