@@ -5,7 +5,5 @@
 #![tactic(auto)]
 
 mod index;
-#[cfg(test)]
-mod tests;
 
 pub use index::Index;
