@@ -13,6 +13,3 @@ mod site;
 pub use laws::{edited_pages_are_shown, edits_have_one_text, site_asks_two_objects};
 pub use message::{Action, Message};
 pub use site::Site;
-
-#[cfg(test)]
-mod tests;

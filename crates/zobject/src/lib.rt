@@ -23,6 +23,3 @@ pub use object::{
 };
 pub use texts::{id_text, source_text};
 pub use writing::write_object;
-
-#[cfg(test)]
-mod tests;
