@@ -3,6 +3,8 @@
 #![tactic(auto)]
 
 #[cfg(test)]
+mod counts;
+#[cfg(test)]
 mod files;
 #[cfg(test)]
 mod streams;
