@@ -5,3 +5,5 @@ pub mod FileCauses
 pub mod LastLines
 pub mod Commands
 pub mod NoCauses
+pub mod Endings
+pub mod GivingUp

@@ -14,6 +14,7 @@ use Rattle.schedule.specs.Items.{ArmNothing, IsSchedule}
 use Rattle.zope.specs.declared.refusal.Refusal.{Refusal}
 use Rattle.fs_store.specs.Stores.{most_length}
 use Rattle.zope.specs.Causes.{Cause, NoCause}
+use Rattle.zope.specs.Outside.{DiskFailed, OutsideView, SinkFailed, SourceFailed, outside}
 use Rattle.zope.specs.CheckCauses.{CheckCause, PrintCause, ScanCause}
 use Rattle.zope.specs.DumpCauses.{DumpCause}
 use Rattle.zope.specs.Given.{IfKept, IsSound, most_file, most_input}
@@ -188,39 +189,30 @@ dump_over : (words : List (List ℕ)) (a b : List ℕ) → IsDumpOf words a → 
 dump_over words a b p (inl q) = (let both = sym p ∙ q in cc)
 dump_over words a b p (inr q) = (let both = sym p ∙ q in cc)
 
-pub only_memory : (words : List (List ℕ)) (files : Option (List Entry)) (input : Option (List ℕ)) (source sink more disk : Type 0) (old new : Option (List ℕ)) (e : Refusal) → OneSchedule → NotBoth → NotDamaged → (sink → more) → Cause words files input source sink disk old new e → NoCause words files input source more disk → e ≡ Refusal.Memory
-only_memory words files input source sink more disk old new e one both law wider (inl usage) (inl meets) = absurd (usage.1 (meets.0, inl (meets.1, meets.2)))
-only_memory words files input source sink more disk old new e one both law wider (inl usage) (inr meets) = absurd (usage.1 (meets.0, inr meets.1))
-only_memory words files input source sink more disk old new e one both law wider (inr (inl c)) (inr meets) = absurd (not_over words c.0 meets.0 c.1 c.2 meets.1)
-only_memory words files input source sink more disk old new e one both law wider (inr (inr (inl c))) (inl meets) = absurd (not_check words meets.0 c.0 meets.1 meets.2 c.1)
-only_memory words files input source sink more disk old new e one both law wider (inr (inr (inr c))) (inl meets) = absurd (not_dump words meets.0 c.0 meets.1 meets.2 c.1)
-only_memory words files input source sink more disk old new e one both law wider (inr (inl c)) (inl meets) =
-    let same = same_words words c.0 meets.0 c.1 meets.1 c.2 meets.2 in
-    replay_memory meets.0 meets.1 files input source sink more disk old new e one both law wider (subst (λ k. ReplayCause meets.0 k files input source sink disk old new e) same.1 (subst (λ (n : List ℕ). ReplayCause n c.1 files input source sink disk old new e) same.0 c.3)) meets.3
-only_memory words files input source sink more disk old new e one both law wider (inr (inr (inl c))) (inr meets) = check_memory meets.0 files sink more disk old new e law wider (subst (λ (n : List ℕ). CheckCause n files sink disk old new e) (check_over words c.0 meets.0 c.1 meets.1) c.2) meets.2
-only_memory words files input source sink more disk old new e one both law wider (inr (inr (inr c))) (inr meets) = dump_memory meets.0 files sink more disk old new e law wider (subst (λ (n : List ℕ). DumpCause n files sink disk old new e) (dump_over words c.0 meets.0 c.1 meets.1) c.2) meets.2
+-- a moment after which a last line was written
+abbrev pub told : OutsideView → Option (List ℕ) → Counter → OutsideView
+told at written sink = outside at.files at.sound_disks at.shelf at.input at.source written sink
 
-pub sink_is_calm : (words : List (List ℕ)) (files : Option (List Entry)) (input : Option (List ℕ)) (source sink disk : Type 0) → NoCause words files input source sink disk → sink → ⊥
-sink_is_calm words files input source sink disk (inl meets) = meets.3.sink_calm
-sink_is_calm words files input source sink disk (inr meets) = meets.2.sink_calm
-
-pub rose_after : (a b c : Counter) → b.count ≤ c.count → Rose a b → Rose a c
+rose_after : (a b c : Counter) → b.count ≤ c.count → Rose a b → Rose a c
 rose_after a b c le rose = omega (arith, rose)
 
-pub rose_before : (a b c : Counter) → a.count ≤ b.count → Rose b c → Rose a c
-rose_before a b c le rose = omega (arith, rose)
+pub only_memory : (words : List (List ℕ)) (old mid : OutsideView) (written line : Option (List ℕ)) (sink : Counter) (e : Refusal) → OneSchedule → NotBoth → NotDamaged → mid.sink.count ≤ sink.count → Cause words old mid written e → NoCause words old (told mid line sink) → e ≡ Refusal.Memory
+only_memory words old mid written line sink e one both law later (inl usage) (inl meets) = absurd (usage.1 (meets.0, inl (meets.1, meets.2)))
+only_memory words old mid written line sink e one both law later (inl usage) (inr meets) = absurd (usage.1 (meets.0, inr meets.1))
+only_memory words old mid written line sink e one both law later (inr (inl c)) (inr meets) = absurd (not_over words c.0 meets.0 c.1 c.2 meets.1)
+only_memory words old mid written line sink e one both law later (inr (inr (inl c))) (inl meets) = absurd (not_check words meets.0 c.0 meets.1 meets.2 c.1)
+only_memory words old mid written line sink e one both law later (inr (inr (inr c))) (inl meets) = absurd (not_dump words meets.0 c.0 meets.1 meets.2 c.1)
+only_memory words old mid written line sink e one both law later (inr (inl c)) (inl meets) =
+    let same = same_words words c.0 meets.0 c.1 meets.1 c.2 meets.2 in
+    let Of : List ℕ → ℕ → Type 0 = λ name limit. ReplayCause name limit old.files old.input (SourceFailed old mid) (SinkFailed old mid) (DiskFailed old mid) old.written written e in
+    replay_memory meets.0 meets.1 old.files old.input (SourceFailed old mid) (SinkFailed old mid) (Rose old.sink sink) (DiskFailed old mid) old.written written e one both law (rose_after old.sink mid.sink sink later) (subst (Of meets.0) same.1 (subst (λ (n : List ℕ). Of n c.1) same.0 c.3)) meets.3
+only_memory words old mid written line sink e one both law later (inr (inr (inl c))) (inr meets) =
+    let Of : List ℕ → Type 0 = λ name. CheckCause name old.files (SinkFailed old mid) (DiskFailed old mid) old.written written e in
+    check_memory meets.0 old.files (SinkFailed old mid) (Rose old.sink sink) (DiskFailed old mid) old.written written e law (rose_after old.sink mid.sink sink later) (subst Of (check_over words c.0 meets.0 c.1 meets.1) c.2) meets.2
+only_memory words old mid written line sink e one both law later (inr (inr (inr c))) (inr meets) =
+    let Of : List ℕ → Type 0 = λ name. DumpCause name old.files (SinkFailed old mid) (DiskFailed old mid) old.written written e in
+    dump_memory meets.0 old.files (SinkFailed old mid) (Rose old.sink sink) (DiskFailed old mid) old.written written e law (rose_after old.sink mid.sink sink later) (subst Of (dump_over words c.0 meets.0 c.1 meets.1) c.2) meets.2
 
--- words that name no command are refused for that alone
-pub only_usage : (words : List (List ℕ)) (files : Option (List Entry)) (input : Option (List ℕ)) (source sink disk : Type 0) (old new : Option (List ℕ)) (e : Refusal) → Cause words files input source sink disk old new e → (IsCommand words → ⊥) → e ≡ Refusal.Usage
-only_usage words files input source sink disk old new e (inl usage) other = usage.0
-only_usage words files input source sink disk old new e (inr (inl c)) other = absurd (other (c.0, inl (c.1, c.2)))
-only_usage words files input source sink disk old new e (inr (inr (inl c))) other = absurd (other (c.0, inr (inl c.1)))
-only_usage words files input source sink disk old new e (inr (inr (inr c))) other = absurd (other (c.0, inr (inr c.1)))
-
--- a count that rose did so before or behind any moment between
-pub rose_either : (a b c : ℕ) → a < c → (a < b) ⊎ (b < c)
-rose_either a b c lt = go (nat_lt a b) refl
-  where
-    go : (k : Bool) → nat_lt a b ≡ k → (a < b) ⊎ (b < c)
-    go true e = inl (grind (arith, nat_tests, e))
-    go false e = inr (grind (arith, nat_tests, e, lt))
+pub sink_is_calm : (words : List (List ℕ)) (old new : OutsideView) → NoCause words old new → SinkFailed old new → ⊥
+sink_is_calm words old new (inl meets) = meets.3.sink_calm
+sink_is_calm words old new (inr meets) = meets.2.sink_calm

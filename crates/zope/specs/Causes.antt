@@ -1,31 +1,31 @@
 -- What a command did, or why it did not end well, and its last line.
 use Rattle.std.specs.Prelude.{◌≡◌, ◌⊎◌, ℕ, List, [], ◌∷◌, ◌++◌, Option, codes, decimal}
 use Rattle.std.specs.Io.KnownBytes.{append_known}
-use Rattle.zio.specs.Shelves.{Entry}
 use Rattle.fs_record.specs.declared.damage.Damage.{Damage}
 use Rattle.zope.specs.declared.refusal.Refusal.{Refusal}
 use Rattle.zope.specs.CheckCauses.{CheckCause}
 use Rattle.zope.specs.DumpCauses.{DumpCause, Dumped}
 use Rattle.zope.specs.Given.{IsSound}
 use Rattle.zope.specs.Numbers.{NumbersPrinted}
+use Rattle.zope.specs.Outside.{DiskFailed, OutsideView, SinkFailed, SourceFailed}
 use Rattle.zope.specs.ReplayCauses.{NoReplayCause, ReplayCause}
 use Rattle.zope.specs.Replayed.{Replayed}
 use Rattle.zope.specs.Words.{IsCheckOf, IsCommand, IsDumpOf, IsOf, IsReplayWith}
 
 -- what a command that ended well did
-abbrev pub Did : (words : List (List ℕ)) (files : Option (List Entry)) (input old new : Option (List ℕ)) → Type 0
-Did words files input old new =
-    ((name : List ℕ) × (limit : ℕ) × IsReplayWith words name limit × Replayed name limit files input old new)
-    ⊎ (((name : List ℕ) × IsCheckOf words name × NumbersPrinted name files old new)
-    ⊎ ((name : List ℕ) × IsDumpOf words name × Dumped name files old new))
+abbrev pub Did : List (List ℕ) → OutsideView → OutsideView → Type 0
+Did words old new =
+    ((name : List ℕ) × (limit : ℕ) × IsReplayWith words name limit × Replayed name limit old.files old.input old.written new.written)
+    ⊎ (((name : List ℕ) × IsCheckOf words name × NumbersPrinted name old.files old.written new.written)
+    ⊎ ((name : List ℕ) × IsDumpOf words name × Dumped name old.files old.written new.written))
 
--- the cause of a refusal: of the words, or of the command that they name
-abbrev pub Cause : (words : List (List ℕ)) (files : Option (List Entry)) (input : Option (List ℕ)) (source sink disk : Type 0) (old new : Option (List ℕ)) → Refusal → Type 0
-Cause words files input source sink disk old new e =
-    ((e ≡ Refusal.Usage) × (IsCommand words → ⊥) × (new ≡ old))
-    ⊎ (((name : List ℕ) × (limit : ℕ) × IsReplayWith words name limit × ReplayCause name limit files input source sink disk old new e)
-    ⊎ (((name : List ℕ) × IsCheckOf words name × CheckCause name files sink disk old new e)
-    ⊎ ((name : List ℕ) × IsDumpOf words name × DumpCause name files sink disk old new e)))
+-- the cause of a refusal, which the last line doesn't name yet: of the words, or of the command that they name
+abbrev pub Cause : List (List ℕ) → OutsideView → OutsideView → Option (List ℕ) → Refusal → Type 0
+Cause words old new written e =
+    ((e ≡ Refusal.Usage) × (IsCommand words → ⊥) × (written ≡ old.written))
+    ⊎ (((name : List ℕ) × (limit : ℕ) × IsReplayWith words name limit × ReplayCause name limit old.files old.input (SourceFailed old new) (SinkFailed old new) (DiskFailed old new) old.written written e)
+    ⊎ (((name : List ℕ) × IsCheckOf words name × CheckCause name old.files (SinkFailed old new) (DiskFailed old new) old.written written e)
+    ⊎ ((name : List ℕ) × IsDumpOf words name × DumpCause name old.files (SinkFailed old new) (DiskFailed old new) old.written written e)))
 
 -- the number of a damage
 abbrev pub kind_number : Damage → ℕ
@@ -57,11 +57,11 @@ abbrev pub Names : List (List ℕ) → Refusal → Option (List ℕ) → Option 
 Names words e mid new = (name : List ℕ) × (IsOf words name ⊎ (IsCommand words → ⊥)) × (new ≡ append_known mid (last_line name e))
 
 -- the refusal has its cause, and was named in the last line
-abbrev pub Comes : (words : List (List ℕ)) (files : Option (List Entry)) (input : Option (List ℕ)) (source sink disk : Type 0) (old new : Option (List ℕ)) → Refusal → Type 0
-Comes words files input source sink disk old new e = (mid : Option (List ℕ)) × Cause words files input source sink disk old mid e × Names words e mid new
+abbrev pub Comes : List (List ℕ) → OutsideView → OutsideView → Refusal → Type 0
+Comes words old new e = (written : Option (List ℕ)) × Cause words old new written e × Names words e written new.written
 
 -- nothing that the command looks at is a cause, and no count rose
-abbrev pub NoCause : (words : List (List ℕ)) (files : Option (List Entry)) (input : Option (List ℕ)) (source sink disk : Type 0) → Type 0
-NoCause words files input source sink disk =
-    ((name : List ℕ) × (limit : ℕ) × IsReplayWith words name limit × NoReplayCause name limit files input source sink disk)
-    ⊎ ((name : List ℕ) × (IsCheckOf words name ⊎ IsDumpOf words name) × IsSound name files sink disk)
+abbrev pub NoCause : List (List ℕ) → OutsideView → OutsideView → Type 0
+NoCause words old new =
+    ((name : List ℕ) × (limit : ℕ) × IsReplayWith words name limit × NoReplayCause name limit old.files old.input (SourceFailed old new) (SinkFailed old new) (DiskFailed old new))
+    ⊎ ((name : List ℕ) × (IsCheckOf words name ⊎ IsDumpOf words name) × IsSound name old.files (SinkFailed old new) (DiskFailed old new))

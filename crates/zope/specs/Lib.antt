@@ -8,3 +8,7 @@ pub mod ReplayCauses
 pub mod CheckCauses
 pub mod DumpCauses
 pub mod Causes
+pub mod Ends
+pub mod Worked
+pub mod EndLaws
+pub mod Outside

@@ -1,6 +1,8 @@
-ghost use Rattle.std.specs.Prelude.{◌≡◌, ◌⊎◌, IfErr, OnOk, IsErrOf, map, string_bytes};
-ghost use Rattle.zbase.specs.Faults.{Counts, Rose};
+ghost use Rattle.std.specs.Prelude.{◌≡◌, IfErr, OnOk, IsErrOf, map, string_bytes};
+ghost use Rattle.zbase.specs.Faults.{Counts};
 ghost use Rattle.zope.specs.Causes.{Cause, Did};
+ghost use Rattle.zope.specs.Outside.{outside};
+ghost use Rattle.zope.specs.Words.{IsReplay};
 
 use crate::checking::check_file;
 use crate::dumping::dump_file;
@@ -18,9 +20,18 @@ pub fn run_command<F: Shelf, S: Source, K: Sink>(
     input: &mut S,
     out: &mut K,
 ) -> Result<(), Refusal>
-    ensures ok { OnOk result (Did (map string_bytes words.now) (F.files files.old) (S.left input.old) (K.written out.old) (K.written out.new)) }
-    ensures cause { IfErr result (Cause (map string_bytes words.now) (F.files files.old) (S.left input.old) (Rose (S.counter input.old) (S.counter input.new)) (Rose (K.counter out.old) (K.counter out.new)) (Rose (F.counter files.old) (F.counter files.new) ⊎ (F.sound_disks files.old → ⊥)) (K.written out.old) (K.written out.new)) }
+    ensures ok { let old = outside (F.files files.old) (F.sound_disks files.old) (F.counter files.old)
+        (S.left input.old) (S.counter input.old) (K.written out.old) (K.counter out.old) in
+        let new = outside (F.files files.new) (F.sound_disks files.new) (F.counter files.new)
+        (S.left input.new) (S.counter input.new) (K.written out.new) (K.counter out.new) in
+        OnOk result (Did (map string_bytes words.now) old new) }
+    ensures cause { let old = outside (F.files files.old) (F.sound_disks files.old) (F.counter files.old)
+        (S.left input.old) (S.counter input.old) (K.written out.old) (K.counter out.old) in
+        let new = outside (F.files files.new) (F.sound_disks files.new) (F.counter files.new)
+        (S.left input.new) (S.counter input.new) (K.written out.new) (K.counter out.new) in
+        IfErr result (Cause (map string_bytes words.now) old new new.written) }
     ensures counts { Counts (K.counter out.old) (K.counter out.new) (IsErrOf result Refusal.Output) }
+    ensures unread { (IsReplay (map string_bytes words.now) → ⊥) → input.new ≡ input.old }
 {
     if let Some((name, limit)) = replay_words(words) {
         return replay_file(alloc, name, limit, files, input, out);

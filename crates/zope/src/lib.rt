@@ -6,9 +6,11 @@ mod command;
 mod dumping;
 mod inputs;
 mod last_lines;
+mod laws;
 mod refusal;
 mod replaying;
 mod top;
 mod words;
 
+pub use laws::giving_up_is_refuted;
 pub use top::{Status, run};

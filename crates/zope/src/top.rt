@@ -1,8 +1,9 @@
-ghost use Rattle.std.specs.Prelude.{◌≡◌, ◌<◌, ◌≤◌, ◌⊎◌, ℕ, map, string_bytes};
+ghost use Rattle.std.specs.Prelude.{◌≡◌, ◌<◌, ◌≤◌, ◌⊎◌, map, string_bytes};
 ghost use Rattle.zbase.specs.Faults.{Rose};
-ghost use Rattle.fs_record.specs.declared.damage.Damage.{Damage};
-ghost use Rattle.zope.specs.Causes.{Comes, Did, Names, NoCause};
-ghost use Rattle.zope.specs.Words.{IsCommand};
+ghost use Rattle.zope.specs.Causes.{Names, NoCause};
+ghost use Rattle.zope.specs.Ends.{Ends, IsStatus, status_of};
+ghost use Rattle.zope.specs.Outside.{outside};
+ghost use Rattle.zope.specs.Words.{IsCommand, IsReplay};
 
 use crate::command::run_command;
 use crate::last_lines::put_cause;
@@ -18,19 +19,7 @@ pub struct Status(pub u8);
 
 // The status of a refusal.
 fn status_of(refusal: Refusal) -> Status
-    ensures ended { result.0 ≡ 0 → ⊥ }
-    ensures usage { result.0 ≡ 2 → refusal ≡ Refusal.Usage }
-    ensures used { refusal ≡ Refusal.Usage → result.0 ≡ 2 }
-    ensures damaged { result.0 ≡ 3 → (kind : Damage) × (place : ℕ) × (refusal ≡ Refusal.Damaged kind place) }
-    ensures bad_line { result.0 ≡ 4 → (n : ℕ) × (refusal ≡ Refusal.BadLine n) }
-    ensures disk { result.0 ≡ 5 → refusal ≡ Refusal.Disk }
-    ensures input_output { result.0 ≡ 6 → (refusal ≡ Refusal.Input) ⊎ (refusal ≡ Refusal.Output) }
-    ensures output { refusal ≡ Refusal.Output → result.0 ≡ 6 }
-    ensures missing { result.0 ≡ 8 → refusal ≡ Refusal.Missing }
-    ensures too_large { result.0 ≡ 9 → (refusal ≡ Refusal.InputTooLarge) ⊎ ((n : ℕ) × (refusal ≡ Refusal.FileTooLarge n)) }
-    ensures too_long { result.0 ≡ 12 → (n : ℕ) × (refusal ≡ Refusal.TooLong n) }
-    ensures memory { refusal ≡ Refusal.Memory → result.0 ≡ 7 }
-    ensures known { (result.0 ≡ 0) ⊎ ((2 ≤ result.0) × (result.0 ≤ 9)) ⊎ (result.0 ≡ 12) }
+    ensures { result.0 ≡ status_of refusal }
 {
     match refusal {
         Refusal::Usage => Status(2),
@@ -47,21 +36,11 @@ fn status_of(refusal: Refusal) -> Status
     }
 }
 
-// The status of a refusal that was named: where the sink fails in this, that is the status.
+// The status of a refusal, which the last line names, but for one of the sink itself. Where the sink fails in this, that
+// is the status; where memory is wanting, that.
 fn refuse<K: Sink>(alloc: Global, refusal: Refusal, words: &[String], out: &mut K) -> Status
-    ensures ended { result.0 ≡ 0 → ⊥ }
-    ensures usage { result.0 ≡ 2 → (refusal ≡ Refusal.Usage) × Names (map string_bytes words.now) refusal (K.written out.old) (K.written out.new) }
-    ensures used { refusal ≡ Refusal.Usage → (result.0 ≡ 2) ⊎ (result.0 ≡ 6) ⊎ (result.0 ≡ 7) }
-    ensures damaged { result.0 ≡ 3 → ((kind : Damage) × (place : ℕ) × (refusal ≡ Refusal.Damaged kind place)) × Names (map string_bytes words.now) refusal (K.written out.old) (K.written out.new) }
-    ensures bad_line { result.0 ≡ 4 → ((n : ℕ) × (refusal ≡ Refusal.BadLine n)) × Names (map string_bytes words.now) refusal (K.written out.old) (K.written out.new) }
-    ensures disk { result.0 ≡ 5 → (refusal ≡ Refusal.Disk) × Names (map string_bytes words.now) refusal (K.written out.old) (K.written out.new) }
-    ensures input_output { result.0 ≡ 6 → ((refusal ≡ Refusal.Input) × Names (map string_bytes words.now) refusal (K.written out.old) (K.written out.new)) ⊎ (refusal ≡ Refusal.Output) ⊎ Rose (K.counter out.old) (K.counter out.new) }
-    ensures missing { result.0 ≡ 8 → (refusal ≡ Refusal.Missing) × Names (map string_bytes words.now) refusal (K.written out.old) (K.written out.new) }
-    ensures too_large { result.0 ≡ 9 → ((refusal ≡ Refusal.InputTooLarge) ⊎ ((n : ℕ) × (refusal ≡ Refusal.FileTooLarge n))) × Names (map string_bytes words.now) refusal (K.written out.old) (K.written out.new) }
-    ensures too_long { result.0 ≡ 12 → ((n : ℕ) × (refusal ≡ Refusal.TooLong n)) × Names (map string_bytes words.now) refusal (K.written out.old) (K.written out.new) }
-    ensures memory { refusal ≡ Refusal.Memory → (result.0 ≡ 7) ⊎ Rose (K.counter out.old) (K.counter out.new) }
-    ensures known { (result.0 ≡ 0) ⊎ ((2 ≤ result.0) × (result.0 ≤ 9)) ⊎ (result.0 ≡ 12) }
-    ensures output { refusal ≡ Refusal.Output → result.0 ≡ 6 }
+    ensures sink { refusal ≡ Refusal.Output → result.0 ≡ 6 }
+    ensures named { (refusal ≡ Refusal.Output → ⊥) → ((result.0 ≡ status_of refusal) × Names (map string_bytes words.now) refusal (K.written out.old) (K.written out.new)) ⊎ ((result.0 ≡ 6) × Rose (K.counter out.old) (K.counter out.new)) ⊎ (result.0 ≡ 7) }
     ensures sink_failed { (K.counter out.old).count < (K.counter out.new).count → result.0 ≡ 6 }
     ensures count { (K.counter out.old).count ≤ (K.counter out.new).count }
 {
@@ -89,30 +68,23 @@ pub fn run<F: Shelf, S: Source, K: Sink, H: Hub, C: Clock>(
     _hub: &mut H,
     _clock: &mut C,
 ) -> Status
-    // The words are `replay FILE`, maybe with a limit, and the report that was written explains the schedule; or they
-    // are `check FILE`, and the file's numbers were written; or they are `dump FILE`, and its history was.
-    ensures did { result.0 ≡ 0 → Did (map string_bytes words.now) (F.files files.old) (S.left input.old) (K.written out.old) (K.written out.new) }
-    // The words are none of the program's; and there always, but for a fault of the sink and want of memory.
-    ensures usage { result.0 ≡ 2 → Comes (map string_bytes words.now) (F.files files.old) (S.left input.old) (Rose (S.counter input.old) (S.counter input.new)) (Rose (K.counter out.old) (K.counter out.new)) (Rose (F.counter files.old) (F.counter files.new) ⊎ (F.sound_disks files.old → ⊥)) (K.written out.old) (K.written out.new) Refusal.Usage }
-    ensures used { (IsCommand (map string_bytes words.now) → ⊥) → (result.0 ≡ 2) ⊎ (result.0 ≡ 6) ⊎ (result.0 ≡ 7) }
-    // The file has this damage there.
-    ensures damaged { result.0 ≡ 3 → (kind : Damage) × (place : ℕ) × Comes (map string_bytes words.now) (F.files files.old) (S.left input.old) (Rose (S.counter input.old) (S.counter input.new)) (Rose (K.counter out.old) (K.counter out.new)) (Rose (F.counter files.old) (F.counter files.new) ⊎ (F.sound_disks files.old → ⊥)) (K.written out.old) (K.written out.new) (Refusal.Damaged kind place) }
-    ensures bad_line { result.0 ≡ 4 → (n : ℕ) × Comes (map string_bytes words.now) (F.files files.old) (S.left input.old) (Rose (S.counter input.old) (S.counter input.new)) (Rose (K.counter out.old) (K.counter out.new)) (Rose (F.counter files.old) (F.counter files.new) ⊎ (F.sound_disks files.old → ⊥)) (K.written out.old) (K.written out.new) (Refusal.BadLine n) }
-    // The shelf's count rose, or that of the disk which it handed out.
-    ensures disk { result.0 ≡ 5 → Comes (map string_bytes words.now) (F.files files.old) (S.left input.old) (Rose (S.counter input.old) (S.counter input.new)) (Rose (K.counter out.old) (K.counter out.new)) (Rose (F.counter files.old) (F.counter files.new) ⊎ (F.sound_disks files.old → ⊥)) (K.written out.old) (K.written out.new) Refusal.Disk }
-    // The source failed, or the sink did.
-    ensures input_output { result.0 ≡ 6 → Comes (map string_bytes words.now) (F.files files.old) (S.left input.old) (Rose (S.counter input.old) (S.counter input.new)) (Rose (K.counter out.old) (K.counter out.new)) (Rose (F.counter files.old) (F.counter files.new) ⊎ (F.sound_disks files.old → ⊥)) (K.written out.old) (K.written out.new) Refusal.Input ⊎ Rose (K.counter out.old) (K.counter out.new) }
-    // There whenever the sink failed, also in a last line.
+    // With 0 the words' command did what it says: a replay wrote a report that explains the schedule, a check the file's
+    // numbers, a dump its history. Each other status is that of a refusal with its cause, which the last line names.
+    ensures ends { let old = outside (F.files files.old) (F.sound_disks files.old) (F.counter files.old)
+        (S.left input.old) (S.counter input.old) (K.written out.old) (K.counter out.old) in
+        let new = outside (F.files files.new) (F.sound_disks files.new) (F.counter files.new)
+        (S.left input.new) (S.counter input.new) (K.written out.new) (K.counter out.new) in
+        Ends (map string_bytes words.now) old new result.0 }
+    // 6 comes whenever the sink failed, also in a last line.
     ensures sink_failed { (K.counter out.old).count < (K.counter out.new).count → result.0 ≡ 6 }
-    // The shelf has no such file.
-    ensures missing { result.0 ≡ 8 → Comes (map string_bytes words.now) (F.files files.old) (S.left input.old) (Rose (S.counter input.old) (S.counter input.new)) (Rose (K.counter out.old) (K.counter out.new)) (Rose (F.counter files.old) (F.counter files.new) ⊎ (F.sound_disks files.old → ⊥)) (K.written out.old) (K.written out.new) Refusal.Missing }
-    // The schedule of a replay is longer than its limit, or the file than its own.
-    ensures too_large { result.0 ≡ 9 → Comes (map string_bytes words.now) (F.files files.old) (S.left input.old) (Rose (S.counter input.old) (S.counter input.new)) (Rose (K.counter out.old) (K.counter out.new)) (Rose (F.counter files.old) (F.counter files.new) ⊎ (F.sound_disks files.old → ⊥)) (K.written out.old) (K.written out.new) Refusal.InputTooLarge ⊎ ((n : ℕ) × Comes (map string_bytes words.now) (F.files files.old) (S.left input.old) (Rose (S.counter input.old) (S.counter input.new)) (Rose (K.counter out.old) (K.counter out.new)) (Rose (F.counter files.old) (F.counter files.new) ⊎ (F.sound_disks files.old → ⊥)) (K.written out.old) (K.written out.new) (Refusal.FileTooLarge n)) }
-    // The file of a check or a dump is longer than any file may be.
-    ensures too_long { result.0 ≡ 12 → (n : ℕ) × Comes (map string_bytes words.now) (F.files files.old) (S.left input.old) (Rose (S.counter input.old) (S.counter input.new)) (Rose (K.counter out.old) (K.counter out.new)) (Rose (F.counter files.old) (F.counter files.new) ⊎ (F.sound_disks files.old → ⊥)) (K.written out.old) (K.written out.new) (Refusal.TooLong n) }
-    ensures known { (result.0 ≡ 0) ⊎ ((2 ≤ result.0) × (result.0 ≤ 9)) ⊎ (result.0 ≡ 12) }
     // Where there is no cause, the run ends well, or for want of memory.
-    ensures complete { NoCause (map string_bytes words.now) (F.files files.old) (S.left input.old) (Rose (S.counter input.old) (S.counter input.new)) (Rose (K.counter out.old) (K.counter out.new)) (Rose (F.counter files.old) (F.counter files.new) ⊎ (F.sound_disks files.old → ⊥)) → (result.0 ≡ 0) ⊎ (result.0 ≡ 7) }
+    ensures complete { let old = outside (F.files files.old) (F.sound_disks files.old) (F.counter files.old)
+        (S.left input.old) (S.counter input.old) (K.written out.old) (K.counter out.old) in
+        let new = outside (F.files files.new) (F.sound_disks files.new) (F.counter files.new)
+        (S.left input.new) (S.counter input.new) (K.written out.new) (K.counter out.new) in
+        NoCause (map string_bytes words.now) old new → (result.0 ≡ 0) ⊎ (result.0 ≡ 7) }
+    // No command of today asks a hub or a clock, and only a replay reads its input.
+    ensures alone { (_hub.new ≡ _hub.old) × (_clock.new ≡ _clock.old) × ((IsReplay (map string_bytes words.now) → ⊥) → input.new ≡ input.old) }
 {
     one_schedule();
     one_bad_line();

@@ -1,0 +1,86 @@
+-- How a run ends whose command was refused.
+use Rattle.std.proofs.Common.{◌≡◌, ℕ, ◌≤◌, ◌<◌, List, Option, ◌⊎◌, Bool, true, false, nat_lt, arith, inl, inr, refl, ◌∙◌, ap}
+use Rattle.std.proofs.lemmas.Bool.Decides.{nat_tests}
+use Rattle.zbase.specs.Faults.{Counter, Rose}
+use Rattle.zope.specs.declared.refusal.Refusal.{Refusal}
+use Rattle.zope.specs.Causes.{Cause, Comes, Names, NoCause}
+use Rattle.zope.specs.Ends.{Ends, status_of}
+use Rattle.zope.specs.Outside.{DiskFailed, OutsideView, SinkFailed, SourceFailed}
+use Rattle.zope.proofs.NoCauses.{NotBoth, NotDamaged, OneSchedule, only_memory, sink_is_calm, told}
+
+-- a refusal for the sink has it that the sink failed
+sink_cause : (words : List (List ℕ)) (old mid : OutsideView) → Cause words old mid mid.written Refusal.Output → SinkFailed old mid
+sink_cause words old mid (inl usage) = (let is = usage.0 in absurd cc)
+sink_cause words old mid (inr (inl (name, limit, is, inl input))) = absurd input.0
+sink_cause words old mid (inr (inl (name, limit, is, inr (inl file)))) = absurd file.2
+sink_cause words old mid (inr (inl (name, limit, is, inr (inr run)))) = run.6
+sink_cause words old mid (inr (inr (inl (name, is, inl scan)))) = absurd scan.0
+sink_cause words old mid (inr (inr (inl (name, is, inr print)))) = print.2.0
+sink_cause words old mid (inr (inr (inr (name, is, dump)))) = dump
+
+-- every other cause doesn't speak of the sink's count, which a last line may raise
+still_causes : (words : List (List ℕ)) (old mid : OutsideView) (line : Option (List ℕ)) (sink : Counter) (e : Refusal) → (e ≡ Refusal.Output → ⊥) → Cause words old mid mid.written e → Cause words old (told mid line sink) mid.written e
+still_causes words old mid line sink Refusal.Output other c = absurd (other refl)
+still_causes words old mid line sink Refusal.Usage other c = c
+still_causes words old mid line sink (Refusal.Damaged kind place) other c = c
+still_causes words old mid line sink (Refusal.BadLine n) other c = c
+still_causes words old mid line sink Refusal.Disk other c = c
+still_causes words old mid line sink Refusal.Input other c = c
+still_causes words old mid line sink Refusal.Memory other c = c
+still_causes words old mid line sink Refusal.Missing other c = c
+still_causes words old mid line sink Refusal.InputTooLarge other c = c
+still_causes words old mid line sink (Refusal.FileTooLarge n) other c = c
+still_causes words old mid line sink (Refusal.TooLong n) other c = c
+
+rose_before : (a b c : Counter) → a.count ≤ b.count → Rose b c → Rose a c
+rose_before a b c le rose = omega (arith, rose)
+
+rose_after : (a b c : Counter) → b.count ≤ c.count → Rose a b → Rose a c
+rose_after a b c le rose = omega (arith, rose)
+
+-- what the last line tells of a refusal
+abbrev pub Refused : List (List ℕ) → OutsideView → Option (List ℕ) → Counter → Refusal → ℕ → Type 0
+Refused words mid line sink e status = ((status ≡ status_of e) × Names words e mid.written line) ⊎ ((status ≡ 6) × Rose mid.sink sink) ⊎ (status ≡ 7)
+
+abbrev pub OtherRefused : List (List ℕ) → OutsideView → Option (List ℕ) → Counter → Refusal → ℕ → Type 0
+OtherRefused words mid line sink e status = (e ≡ Refusal.Output → ⊥) → Refused words mid line sink e status
+
+other_ends : (words : List (List ℕ)) (old mid : OutsideView) (line : Option (List ℕ)) (sink : Counter) (e : Refusal) (status : ℕ) → (e ≡ Refusal.Output → ⊥) → Cause words old mid mid.written e → old.sink.count ≤ mid.sink.count → Refused words mid line sink e status → Ends words old (told mid line sink) status
+other_ends words old mid line sink e status other c le (inl named) = inr (inl (e, named.0, (mid.written, still_causes words old mid line sink e other c, named.1)))
+other_ends words old mid line sink e status other c le (inr (inl six)) = inr (inr (inl (six.0, rose_before old.sink mid.sink sink le six.1)))
+other_ends words old mid line sink e status other c le (inr (inr seven)) = inr (inr (inr seven))
+
+-- a command that was refused, and whose cause the last line told or not, ends as it should
+pub refused_ends : (words : List (List ℕ)) (old mid : OutsideView) (line : Option (List ℕ)) (sink : Counter) (e : Refusal) (status : ℕ) → Cause words old mid mid.written e → old.sink.count ≤ mid.sink.count → mid.sink.count ≤ sink.count → (e ≡ Refusal.Output → status ≡ 6) → OtherRefused words mid line sink e status → Ends words old (told mid line sink) status
+refused_ends words old mid line sink Refusal.Output status c le later six named = inr (inr (inl (six refl, rose_after old.sink mid.sink sink later (sink_cause words old mid c))))
+refused_ends words old mid line sink Refusal.Usage status c le later six named = let other : Refusal.Usage ≡ Refusal.Output → ⊥ = λ is. let bad = is in cc in other_ends words old mid line sink Refusal.Usage status other c le (named other)
+refused_ends words old mid line sink (Refusal.Damaged kind place) status c le later six named = let other : (Refusal.Damaged kind place) ≡ Refusal.Output → ⊥ = λ is. let bad = is in cc in other_ends words old mid line sink (Refusal.Damaged kind place) status other c le (named other)
+refused_ends words old mid line sink (Refusal.BadLine n) status c le later six named = let other : (Refusal.BadLine n) ≡ Refusal.Output → ⊥ = λ is. let bad = is in cc in other_ends words old mid line sink (Refusal.BadLine n) status other c le (named other)
+refused_ends words old mid line sink Refusal.Disk status c le later six named = let other : Refusal.Disk ≡ Refusal.Output → ⊥ = λ is. let bad = is in cc in other_ends words old mid line sink Refusal.Disk status other c le (named other)
+refused_ends words old mid line sink Refusal.Input status c le later six named = let other : Refusal.Input ≡ Refusal.Output → ⊥ = λ is. let bad = is in cc in other_ends words old mid line sink Refusal.Input status other c le (named other)
+refused_ends words old mid line sink Refusal.Memory status c le later six named = let other : Refusal.Memory ≡ Refusal.Output → ⊥ = λ is. let bad = is in cc in other_ends words old mid line sink Refusal.Memory status other c le (named other)
+refused_ends words old mid line sink Refusal.Missing status c le later six named = let other : Refusal.Missing ≡ Refusal.Output → ⊥ = λ is. let bad = is in cc in other_ends words old mid line sink Refusal.Missing status other c le (named other)
+refused_ends words old mid line sink Refusal.InputTooLarge status c le later six named = let other : Refusal.InputTooLarge ≡ Refusal.Output → ⊥ = λ is. let bad = is in cc in other_ends words old mid line sink Refusal.InputTooLarge status other c le (named other)
+refused_ends words old mid line sink (Refusal.FileTooLarge n) status c le later six named = let other : (Refusal.FileTooLarge n) ≡ Refusal.Output → ⊥ = λ is. let bad = is in cc in other_ends words old mid line sink (Refusal.FileTooLarge n) status other c le (named other)
+refused_ends words old mid line sink (Refusal.TooLong n) status c le later six named = let other : (Refusal.TooLong n) ≡ Refusal.Output → ⊥ = λ is. let bad = is in cc in other_ends words old mid line sink (Refusal.TooLong n) status other c le (named other)
+
+other_than_output : (e : Refusal) → e ≡ Refusal.Memory → e ≡ Refusal.Output → ⊥
+other_than_output e a b = cc
+
+-- where there was no cause, memory was wanting
+pub calm_ends : (words : List (List ℕ)) (old mid : OutsideView) (line : Option (List ℕ)) (sink : Counter) (e : Refusal) (status : ℕ) → OneSchedule → NotBoth → NotDamaged → Cause words old mid mid.written e → old.sink.count ≤ mid.sink.count → mid.sink.count ≤ sink.count → OtherRefused words mid line sink e status → NoCause words old (told mid line sink) → (status ≡ 0) ⊎ (status ≡ 7)
+calm_ends words old mid line sink e status one both law c le later named meets =
+    let memory = only_memory words old mid mid.written line sink e one both law later c meets in
+    elim (named (other_than_output e memory)) [
+      | inl told_so ↦ inr (told_so.0 ∙ ap status_of memory)
+      | inr (inl six) ↦ absurd (sink_is_calm words old (told mid line sink) meets (rose_before old.sink mid.sink sink le six.1))
+      | inr (inr seven) ↦ inr seven
+    ]
+
+-- a count that rose did so before or behind any moment between
+pub rose_either : (a b c : ℕ) → a < c → (a < b) ⊎ (b < c)
+rose_either a b c lt = go (nat_lt a b) refl
+  where
+    go : (k : Bool) → nat_lt a b ≡ k → (a < b) ⊎ (b < c)
+    go true e = inl (grind (arith, nat_tests, e))
+    go false e = inr (grind (arith, nat_tests, e, lt))
