@@ -7,6 +7,3 @@
 mod reply;
 
 pub use reply::reply_bytes;
-
-#[cfg(test)]
-mod tests;

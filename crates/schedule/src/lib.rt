@@ -12,8 +12,6 @@ mod laws;
 mod line;
 mod reader;
 mod row;
-#[cfg(test)]
-mod tests;
 mod worked;
 mod writer;
 
