@@ -6,7 +6,7 @@ use evaluator::{
 };
 use publisher::{Action, Message, Site};
 use std::alloc::Global;
-use zbase::Bytes;
+use zbase::{Bytes, Memory};
 
 // The message that was taken.
 fn taken(alloc: Global, message: &Message) -> Result<Part, CasesRefusal> {
@@ -38,16 +38,8 @@ fn asked(alloc: Global, facts: &Facts) -> Result<Part, CasesRefusal> {
     Ok(Part::new(alloc, 0, words.as_str())?)
 }
 
-// A reply: a line, those of what it shows and of what was denied, an empty one, and the body.
-fn reply_part(alloc: Global, sort: &str, reply: &Reply) -> Result<Part, CasesRefusal> {
-    let status = reply.status;
-    let form = match reply.kind {
-        Kind::Html => "html",
-        Kind::Plain => "plain",
-    };
-    let sent = if reply.head_only { "head" } else { "whole" };
-    let line = format!(in alloc; "{sort} {status} {form} {sent}\n")?;
-    let mut out = Bytes::from_slice(alloc, line.as_bytes())?;
+// Adds the lines of what a reply shows, and of what was denied.
+fn put_shown(alloc: Global, out: &mut Bytes, reply: &Reply) -> Result<(), CasesRefusal> {
     for shown in reply.shown.as_slice() {
         let oid = shown.oid.0;
         let role = shown.role.as_str();
@@ -58,6 +50,20 @@ fn reply_part(alloc: Global, sort: &str, reply: &Reply) -> Result<Part, CasesRef
         let permission = denied.permission;
         out.append(format!(in alloc; "denied {oid:016x} {permission}\n")?.as_bytes())?;
     }
+    Ok(())
+}
+
+// A reply: a line, those of what it shows and of what was denied, an empty one, and the body.
+fn reply_part(alloc: Global, sort: &str, reply: &Reply) -> Result<Part, CasesRefusal> {
+    let status = reply.status;
+    let form = match reply.kind {
+        Kind::Html => "html",
+        Kind::Plain => "plain",
+    };
+    let sent = if reply.head_only { "head" } else { "whole" };
+    let mut out = Bytes::new(alloc);
+    out.append(format!(in alloc; "{sort} {status} {form} {sent}\n")?.as_bytes())?;
+    put_shown(alloc, &mut out, reply)?;
     out.push(b'\n')?;
     out.append(reply.body.as_bytes())?;
     Ok(Part::with(alloc, "reply", out)?)
@@ -99,21 +105,41 @@ fn change_part(alloc: Global, draft: &Draft) -> Result<Part, CasesRefusal> {
     Ok(Part::with(alloc, "change", out)?)
 }
 
-// Adds what the message comes to.
-fn put_outcome(
-    alloc: Global,
-    outcome: &Outcome,
-    parts: &mut Vec<Part>,
-) -> Result<(), CasesRefusal> {
-    match outcome {
-        Outcome::Need(_) => {}
-        Outcome::Answer(reply) => parts.push(reply_part(alloc, "answer", reply)?)?,
+// Adds the objects that were asked for, the reply and the change.
+fn put_evaluated(alloc: Global, it: &Evaluated, parts: &mut Vec<Part>) -> Result<(), CasesRefusal> {
+    parts.push(asked(alloc, &it.facts)?)?;
+    match &it.outcome {
+        Outcome::Need(_) => Ok(()),
+        Outcome::Answer(reply) => Ok(parts.push(reply_part(alloc, "answer", reply)?)?),
         Outcome::Change(reply, draft) => {
             parts.push(reply_part(alloc, "change", reply)?)?;
-            parts.push(change_part(alloc, draft)?)?;
+            Ok(parts.push(change_part(alloc, draft)?)?)
         }
     }
-    Ok(())
+}
+
+// What the message comes to over the objects of the case.
+fn evaluated(
+    alloc: Global,
+    case: &Case,
+    site: &mut Site,
+    request: &Message,
+) -> Result<Evaluated, Memory> {
+    let past = Past::of(case)?;
+    outcome_over(alloc, site, &past, request)
+}
+
+// Adds what comes of a message that was taken.
+fn put_taken(
+    alloc: Global,
+    case: &Case,
+    site: &mut Site,
+    request: &Message,
+    parts: &mut Vec<Part>,
+) -> Result<(), CasesRefusal> {
+    parts.push(taken(alloc, request)?)?;
+    let it = evaluated(alloc, case, site, request)?;
+    put_evaluated(alloc, &it, parts)
 }
 
 /// Adds what comes of a message.
@@ -124,12 +150,8 @@ pub fn put_message(
     parts: &mut Vec<Part>,
 ) -> Result<(), CasesRefusal> {
     let mut site = Site::new(alloc);
-    let Some(request) = site.take(part.bytes.as_slice())? else {
-        return Ok(parts.push(Part::new(alloc, 0, "taken none")?)?);
-    };
-    parts.push(taken(alloc, &request)?)?;
-    let past = Past::of(case)?;
-    let Evaluated { facts, outcome } = outcome_over(alloc, &mut site, &past, &request)?;
-    parts.push(asked(alloc, &facts)?)?;
-    put_outcome(alloc, &outcome, parts)
+    match site.take(part.bytes.as_slice())? {
+        Some(request) => put_taken(alloc, case, &mut site, &request, parts),
+        None => Ok(parts.push(Part::new(alloc, 0, "taken none")?)?),
+    }
 }

@@ -65,33 +65,74 @@ fn found(alloc: Global, object: &Object, name: &[u8]) -> Result<Part, CasesRefus
     }
 }
 
-// Adds what comes of an object that was read.
-fn put_object(
+// The record of the document with another source.
+fn edited(alloc: Global, object: Object, source: Text) -> Result<Bytes, Memory> {
+    write_object(alloc, &document_with(object, source))
+}
+
+// Adds the record of the document with the source of the part.
+fn put_edited(
     alloc: Global,
-    case: &Case,
+    source: &Part,
     record: &Bytes,
-    object: Object,
     parts: &mut Vec<Part>,
 ) -> Result<(), CasesRefusal> {
-    let again = write_object(alloc, &object)?;
+    let source = text_of(alloc, source)?;
+    match read_bare(alloc, record.as_slice())? {
+        Some(object) => {
+            let bytes = edited(alloc, object, source)?;
+            Ok(parts.push(Part::with(alloc, "edited", bytes)?)?)
+        }
+        None => Ok(()),
+    }
+}
+
+// Adds the object, and whether its record is the one that was read.
+fn put_read(
+    alloc: Global,
+    record: &Bytes,
+    object: &Object,
+    parts: &mut Vec<Part>,
+) -> Result<(), CasesRefusal> {
+    let again = write_object(alloc, object)?;
     let said = if again.same(record) {
         "again same"
     } else {
         "again other"
     };
-    parts.push(Part::with(alloc, "read", shown(alloc, &object)?)?)?;
-    parts.push(Part::new(alloc, 0, said)?)?;
+    parts.push(Part::with(alloc, "read", shown(alloc, object)?)?)?;
+    Ok(parts.push(Part::new(alloc, 0, said)?)?)
+}
+
+// Adds the child of each name that the case looks for.
+fn put_found(
+    alloc: Global,
+    case: &Case,
+    object: &Object,
+    parts: &mut Vec<Part>,
+) -> Result<(), CasesRefusal> {
     for part in &case.parts {
         if part.key() == "find" {
-            parts.push(found(alloc, &object, part.bytes.as_slice())?)?;
+            parts.push(found(alloc, object, part.bytes.as_slice())?)?;
         }
     }
-    if let Some(source) = case.part("source") {
-        let other = document_with(object, text_of(alloc, source)?);
-        let edited = write_object(alloc, &other)?;
-        parts.push(Part::with(alloc, "edited", edited)?)?;
-    }
     Ok(())
+}
+
+// Adds what comes of an object that was read.
+fn put_object(
+    alloc: Global,
+    case: &Case,
+    record: &Bytes,
+    object: &Object,
+    parts: &mut Vec<Part>,
+) -> Result<(), CasesRefusal> {
+    put_read(alloc, record, object, parts)?;
+    put_found(alloc, case, object, parts)?;
+    match case.part("source") {
+        Some(source) => put_edited(alloc, source, record, parts),
+        None => Ok(()),
+    }
 }
 
 /// Adds what comes of reading a record.
@@ -102,7 +143,7 @@ pub fn put_record(
     parts: &mut Vec<Part>,
 ) -> Result<(), CasesRefusal> {
     match read_bare(alloc, part.bytes.as_slice())? {
-        Some(object) => put_object(alloc, case, &part.bytes, object, parts),
+        Some(object) => put_object(alloc, case, &part.bytes, &object, parts),
         None => Ok(parts.push(Part::new(alloc, 0, "read none")?)?),
     }
 }
