@@ -12,8 +12,9 @@ use zbase::Bytes;
 /// there. The word says what the bytes are:
 ///
 /// - `parts`: a source, whose parts are read one after another from place N on. `parts` comes of it, with a line a part,
-///   `START..END KIND`, and last `refused WORD PLACE` where one is refused. A KIND is `plain 'TEXT'`, `entity NAME`, or
-///   `open TAG` or `close TAG` with a form for each attribute: `word(A)`, `bare(A,B)`, `quoted(A,B)` or `text(A)`.
+///   `START..END KIND`, and last `refused WORD PLACE` where one is refused, or `no place` where N is between the bytes of
+///   a character. A KIND is `plain 'TEXT'`, `entity NAME`, or `open TAG` or `close TAG` with a form for each attribute:
+///   `word(A)`, `bare(A,B)`, `quoted(A,B)` or `text(A)`.
 /// - `expression`: an expression, in a tag at place N. `tree` comes of it, with one line: a number, a text in its quotes
 ///   and a name stand for themselves; all else is a sign or a word with the operands behind it, in brackets, as
 ///   `(or a (+ 1 'b'))`; `(. a b)` is a name behind a dot.
