@@ -33,8 +33,9 @@ use zdisk::{Disk, MemoryDisk};
 /// | `close` | `closed`: the store hands its disk back |
 ///
 /// A call that reads may answer `unread disk` or `unread memory`. A value stands between quotation marks, `none` for none.
-/// Behind a vote that is refused no `finish` and no `abort` stands. A line without an open store answers `not open`, and
-/// one over a stale store `stale`.
+/// A line without an open store answers `not open`, and one over a stale store `stale`. Behind a vote that stands open comes
+/// its `finish` or `abort`, with other calls between, also votes, which are made without reads and are refused as busy; behind
+/// one that is refused comes none. A script that breaks this, or has another line, isn't run.
 ///
 /// STAMP is the clock's stamp, or `+N` for N more than the last transaction's id. CHANGE is `write OID VALUE`, `restore
 /// OID TID` or `new VALUE`, a new object in whose value the id takes the bytes 1 to 8. A VALUE is a word; `@` is the stamp's
