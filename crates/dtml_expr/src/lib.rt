@@ -25,5 +25,5 @@ mod token;
 mod unread;
 
 pub use expr::{Expr, Exprs, Order};
-pub use laws::one_expression;
+pub use laws::{one_expression, reader_agrees};
 pub use reading::parse_expr;
