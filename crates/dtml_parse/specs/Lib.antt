@@ -4,5 +4,6 @@ pub mod Pieces
 pub mod Grammar
 pub mod Refusals
 pub mod Views
+pub mod ViewLaws
 pub mod Parsing
 pub mod Laws
