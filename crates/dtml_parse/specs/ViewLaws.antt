@@ -4,7 +4,7 @@ use Rattle.dtml_parse.specs.Trees as trees
 use Rattle.dtml_parse.specs.Views.{arg_view, bounds_view, node_view, row_view, list_view, view, arms_view, arm_row_view, arm_list_view, otherwise_view}
 use Rattle.dtml_parse.specs.declared.tree.Tree.{Tree}
 use Rattle.dtml_parse.specs.declared.tree.Arg.{Arg}
-use Rattle.dtml_parse.specs.declared.tree.Arms.{Arms, Arms', Row_of-Arm, end_of-Arm, more_of-Arm, items-the_row-Arm, items_hidden-the_row-Arm-1, roll-Arms}
+use Rattle.dtml_parse.specs.declared.tree.Arms.{Arms, Arms', Row_of-Arm, end_of-Arm, more_of-Arm, items-the_row-Arm, items_hidden-the_row-Arm-1, roll-Arms, out-Arms, roll-out-Arms}
 use Rattle.dtml_parse.specs.declared.tree.Binding.{Binding}
 use Rattle.dtml_parse.specs.declared.tree.Node as node
 use Rattle.dtml_parse.specs.declared.tree.Node.{Node, If', Unless', Loop', With', Let', Comment', Row_of-Node, end_of-Node, more_of-Node, items-the_row-Node, items_hidden-the_row-Node-0, items_shown-the_row-Node-0, Held-Node-If-1}
@@ -101,3 +101,7 @@ let_view at bindings block = ap (trees.Let at (bounds_view bindings)) (let_rows 
 
 pub comment_view : (at : ℕ) (block : Tree) → node_view (Comment at block) ≡ trees.Comment at (view block)
 comment_view at block = ap (trees.Comment at) (comment_rows at block)
+
+-- the arms of an `if`, as code finds them
+pub arms_are : (arms : Arms) → arms_view arms ≡ arm_list_view (out-Arms arms).items.items
+arms_are arms = ap arms_view (sym (roll-out-Arms arms)) ∙ arms_made (out-Arms arms).items
