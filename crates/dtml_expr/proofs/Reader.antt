@@ -1,5 +1,5 @@
 -- What reads expressions by a fuel reads them as the grammar says, both ways.
-use Rattle.std.proofs.Common.{◌≡◌, ◌∙◌, ℕ, zero, suc, ◌≤◌, ◌<◌, Bool, true, false, List, [], ◌∷◌, length, Option, Some, None, refl, sym, ap, subst, append-nil, arith, if◌then◌else◌}
+use Rattle.std.proofs.Common.{◌≡◌, ◌∙◌, ℕ, zero, suc, ◌≤◌, Bool, true, false, List, [], ◌∷◌, length, Option, Some, None, refl, sym, ap, subst, append-nil, arith, if◌then◌else◌}
 use Rattle.dtml_expr.specs.Trees.{Tree}
 use Rattle.dtml_expr.specs.Tokens.{Token, Front, token_at, is_blank, AreTokens, end, blank, token}
 use Rattle.dtml_expr.specs.Grammar.{IsOr, IsNot, IsExpr}

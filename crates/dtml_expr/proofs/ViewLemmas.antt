@@ -1,5 +1,5 @@
 -- Lists of expressions as contracts see them.
-use Rattle.std.proofs.Common.{◌≡◌, ◌∙◌, ◌<◌, ◌≤◌, List, [], ◌∷◌, ◌++◌, length, refl, ap, arith}
+use Rattle.std.proofs.Common.{◌≡◌, ◌<◌, ◌≤◌, List, [], ◌∷◌, ◌++◌, length, refl, ap, arith}
 use Rattle.dtml_expr.specs.Trees.{Tree, Trees, more, snoc}
 use Rattle.dtml_expr.specs.Grammar.{joined}
 use Rattle.dtml_expr.specs.Views.{view, list_view}

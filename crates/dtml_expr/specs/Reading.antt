@@ -1,5 +1,5 @@
--- Reading an expression from its tokens, from left to right. Only private functions cite this; what it means is said
--- by the grammar, and is proved of it.
+-- Reading an expression from its tokens, from left to right. What it means is said by the grammar, and is proved of it;
+-- of this only what reads a whole text is for crates above.
 use Rattle.std.specs.Prelude.{◌≡◌, ◌↔◌, ℕ, zero, suc, ◌≤◌, ◌^◌, nat_lt, nat_le, if◌then◌else◌, pos, neg_ℤ, List, [], ◌∷◌, length, Option, Some, None, Result, Ok, Err}
 use Rattle.std.specs.Borrow.{Bor}
 use Rattle.dtml_expr.specs.Trees as trees

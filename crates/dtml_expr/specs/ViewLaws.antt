@@ -1,5 +1,5 @@
 -- What the views of the expressions are that have a list of operands: a crate above sees these as lists.
-use Rattle.std.proofs.Common.{◌≡◌, ◌∙◌, ap, refl, List}
+use Rattle.std.proofs.Common.{◌≡◌, ◌∙◌, ap, refl}
 use Rattle.dtml_expr.specs.Trees as trees
 use Rattle.dtml_expr.specs.Trees.{Trees, more}
 use Rattle.dtml_expr.specs.Views.{view, row_view, list_view}

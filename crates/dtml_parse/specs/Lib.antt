@@ -1,6 +1,7 @@
 pub mod Trees
 pub mod Table
 pub mod Pieces
+pub mod PieceReading
 pub mod Grammar
 pub mod Refusals
 pub mod Views
