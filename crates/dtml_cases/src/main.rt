@@ -1,9 +1,10 @@
-//! Reads sources of DTML, in whole or in part, for each case of the files that its words name, and tells which are wrong.
+//! Reads sources of DTML, in whole or in part, and shapes texts, for each case of the files that its words name, and tells which are wrong.
 #![tactic(auto)]
 
 mod expressions;
 mod page;
 mod running;
+mod shapes;
 mod sources;
 mod templates;
 

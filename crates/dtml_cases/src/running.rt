@@ -1,14 +1,16 @@
 use crate::expressions::{outline, put_expr};
 use crate::page::Page;
+use crate::shapes::marks_of;
 use crate::sources::{put_parts, put_refusal};
 use crate::templates::put_tree;
 use cases::{Case, CasesRefusal, Part, Runner};
 use dtml_expr::parse_expr;
+use dtml_format::shape;
 use dtml_parse::parse;
 use std::alloc::Global;
 use zbase::Bytes;
 
-/// Readings of DTML. Given are `source WORD` with its bytes, any number of them, and `from N`, which is 0 where it isn't
+/// Readings of DTML, and texts that are shaped. Given are `source WORD` with its bytes, any number of them, and `from N`, which is 0 where it isn't
 /// there. The word says what the bytes are:
 ///
 /// - `parts`: a source, whose parts are read one after another from place N on. `parts` comes of it, with a line a part,
@@ -34,6 +36,10 @@ use zbase::Bytes;
 ///
 /// `rows WORD` holds many sources, in lines `SOURCE => LINE`, each with the line that has to come of it, which may be that
 /// of a refusal. It comes with the same sources, and behind them what came.
+///
+/// Given are `shape WORDS` too, with the bytes of a text: it is shaped by the marks that the words name, which are those
+/// of `dtml-var`; `size=N` is the size, and `etc` stands for the bytes of the case's part `etc`, which are none where it
+/// has no such part. `shaped` comes of each, with its bytes.
 #[derive(Drop)]
 pub struct Readings;
 
@@ -163,9 +169,27 @@ fn take_rows(
     Ok(())
 }
 
+// Adds the text of a part, shaped by its marks.
+fn take_shape(
+    alloc: Global,
+    parts: &mut Vec<Part>,
+    case: &Case,
+    part: &Part,
+) -> Result<(), CasesRefusal> {
+    let etc = match case.part("etc") {
+        Some(etc) => text_of(etc)?,
+        None => "",
+    };
+    let marks = marks_of(alloc, part, etc)?;
+    let shaped = shape(alloc, text_of(part)?, &marks)?;
+    let bytes = Bytes::from_slice(alloc, shaped.as_bytes())?;
+    parts.push(Part::with(alloc, "shaped", bytes)?)?;
+    Ok(())
+}
+
 impl Runner for Readings {
     fn knows(&self, key: &str) -> bool {
-        key == "source" || key == "from"
+        matches!(key, "source" | "from" | "shape" | "etc")
     }
 
     fn run(&self, alloc: Global, case: &Case) -> Result<Vec<Part>, CasesRefusal> {
@@ -176,6 +200,8 @@ impl Runner for Readings {
                 take_source(alloc, &mut parts, part, from)?;
             } else if part.key() == "rows" {
                 take_rows(alloc, &mut parts, part, from)?;
+            } else if part.key() == "shape" {
+                take_shape(alloc, &mut parts, case, part)?;
             }
         }
         Ok(parts)

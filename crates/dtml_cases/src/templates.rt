@@ -101,17 +101,17 @@ fn put_else(page: &mut Page, steps: u64, block: &Option<Tree>) {
     }
 }
 
-// How the tag of an arm is called.
-fn arm_text(is_first: bool) -> &'static str {
+// The word with which an arm of an `if` begins.
+fn arm_word(is_first: bool) -> &'static str {
     if is_first { "if" } else { "elif" }
 }
 
-// Adds the arms of an `if`.
+// Adds the arms of an `if`, the first by that word and the others as `elif`.
 #[cycle(shown)]
 fn put_arms(page: &mut Page, steps: u64, arms: &Arms) {
     let mut is_first = true;
     for arm in arms.items.as_slice() {
-        put_head(page, steps, arm_text(is_first), arm.at, &arm.arg);
+        put_head(page, steps, arm_word(is_first), arm.at, &arm.arg);
         put_block(page, steps, &arm.block);
         is_first = false;
     }

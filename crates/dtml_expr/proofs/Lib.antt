@@ -2,6 +2,7 @@ pub mod Chains
 pub mod Complete
 pub mod Cuts
 pub mod Digits
+pub mod Reader
 pub mod Rules
 pub mod Sound
 pub mod TokenSteps

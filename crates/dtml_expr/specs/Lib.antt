@@ -1,5 +1,6 @@
 pub mod Trees
 pub mod Views
+pub mod ViewLaws
 pub mod Tokens
 pub mod Grammar
 pub mod Reading

@@ -1,10 +1,10 @@
--- Reading an expression from its tokens, from left to right. Only private functions cite this; what it means is said
--- by the grammar, and is proved of it.
-use Rattle.std.specs.Prelude.{◌≡◌, ℕ, zero, suc, ◌≤◌, ◌^◌, nat_lt, nat_le, if◌then◌else◌, pos, neg_ℤ, List, [], ◌∷◌, length, Option, Some, None, Result, Ok, Err}
+-- Reading an expression from its tokens, from left to right. What it means is said by the grammar, and is proved of it;
+-- of this only what reads a whole text is for crates above.
+use Rattle.std.specs.Prelude.{◌≡◌, ◌↔◌, ℕ, zero, suc, ◌≤◌, ◌^◌, nat_lt, nat_le, if◌then◌else◌, pos, neg_ℤ, List, [], ◌∷◌, length, Option, Some, None, Result, Ok, Err}
 use Rattle.std.specs.Borrow.{Bor}
 use Rattle.dtml_expr.specs.Trees as trees
 use Rattle.dtml_expr.specs.Trees.{Tree, Trees}
-use Rattle.dtml_expr.specs.Tokens.{Token, Number, Quoted, Name, Compared, Not, Plus, Minus, Dot, Open, Close, AreTokens}
+use Rattle.dtml_expr.specs.Tokens.{Token, Number, Quoted, Name, Compared, Not, Plus, Minus, Dot, Open, Close, AreTokens, is_blank, token_at}
 use Rattle.dtml_expr.specs.Grammar.{Joins, times, adds, ands, ors, only, joined, IsExpr}
 use Rattle.dtml_expr.specs.Views.{view, token_views}
 use Rattle.dtml_expr.specs.declared.expr.Expr.{Expr}
@@ -187,3 +187,29 @@ ParsesNot unread.Refused text = (tree : Tree) → IsExpr text tree → ⊥
 abbrev pub Parses : Result Expr Unread → List ℕ → Type 0
 Parses (Ok expr) text = IsExpr text (view expr)
 Parses (Err e) text = ParsesNot e text
+
+-- ---- the expression of a text
+
+-- a token, and the tokens of what follows it
+abbrev pub with_token : (List ℕ → Option (List Token)) → Option (Token × List ℕ) → Option (List Token)
+with_token again None = None
+with_token again (Some x) = again x.1 >>= λ ts. Some (x.0 ∷ ts)
+
+-- the tokens of a text; fuel is any number from the text's length on
+unfoldable pub tokens_at : ℕ → List ℕ → Option (List Token)
+tokens_at fuel [] = Some []
+tokens_at zero (b ∷ bs) = None
+tokens_at (suc fuel) (b ∷ bs) = if is_blank b then tokens_at fuel bs else with_token (tokens_at fuel) (token_at (b ∷ bs))
+
+-- an expression behind which no token stands
+abbrev pub all_read : Tree × List Token → Option Tree
+all_read (t, []) = Some t
+all_read (t, x ∷ ts) = None
+
+-- the expression that all of a text is
+unfoldable pub expression_at : ℕ → List ℕ → Option Tree
+expression_at fuel text = tokens_at fuel text >>= λ ts. or_at (not_at fuel 64) fuel ts >>= all_read
+
+-- What this reads is what the grammar says, both ways.
+abbrev pub ReadsExpressions : Type 0
+ReadsExpressions = (text : List ℕ) (fuel : ℕ) (tree : Tree) → length text ≤ fuel → (expression_at fuel text ≡ Some tree) ↔ IsExpr text tree

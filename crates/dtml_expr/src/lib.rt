@@ -13,7 +13,8 @@
 //! - A level of brackets or `not` is counted where it is open: `not a and not b` has one level at either place.
 //!
 //! `specs/Trees` has expressions as data, `specs/Views` how contracts see an `Expr` as such, and `specs/Refusals`
-//! what else is answered. `specs/Reading` is how the code gets there; only private functions cite it.
+//! what else is answered. `specs/Reading` is how the code gets there, and at its end the same as one function of the text
+//! (`expression_at`), which agrees with the grammar (`reader_agrees`). `specs/ViewLaws` has what `or` and `and` are seen as.
 #![tactic(auto)]
 
 mod expr;
@@ -25,5 +26,5 @@ mod token;
 mod unread;
 
 pub use expr::{Expr, Exprs, Order};
-pub use laws::one_expression;
+pub use laws::{one_expression, reader_agrees};
 pub use reading::parse_expr;

@@ -3,6 +3,7 @@ pub mod Bindings
 pub mod Names
 pub mod Once
 pub mod OneRefusal
+pub mod PieceReader
 pub mod Refused
 pub mod Sizes
 pub mod Steps

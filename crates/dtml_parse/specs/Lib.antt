@@ -1,8 +1,10 @@
 pub mod Trees
 pub mod Table
 pub mod Pieces
+pub mod PieceReading
 pub mod Grammar
 pub mod Refusals
 pub mod Views
+pub mod ViewLaws
 pub mod Parsing
 pub mod Laws

@@ -3,6 +3,7 @@
 //! DTML is Zope's Document Template Markup Language (Zope Book, "Basic DTML" and its appendix "DTML Reference").
 //! `specs/Table` says which attributes a tag may have, `specs/Pieces` what a part of a source says by itself,
 //! `specs/Grammar` which tree a source is, and `specs/Refusals` which refusal comes first where it is none.
+//! `specs/PieceReading` has what a part says as a function of it, and `specs/ViewLaws` what nodes with blocks are seen as.
 #![tactic(auto)]
 
 mod block;
@@ -12,5 +13,5 @@ mod table;
 mod tree;
 
 pub use block::parse;
-pub use laws::one_tree;
+pub use laws::{one_tree, part_reader_agrees};
 pub use tree::{Arg, Arm, Arms, Binding, Bindings, Node, Nodes, Tree, VarTag};

@@ -1,6 +1,7 @@
 use Rattle.std.proofs.Common.{◌<◌, ◌≤◌, ◌≡◌, ◌∙◌, length, sym, arith}
 use Rattle.dtml_expr.specs.Trees as trees
-use Rattle.dtml_expr.proofs.ViewLemmas.{view_or, joined_many, joined_one, joined_none}
+use Rattle.dtml_expr.specs.ViewLaws.{view_or}
+use Rattle.dtml_expr.proofs.ViewLemmas.{joined_many, joined_one, joined_none}
 use Rattle.dtml_expr.proofs.making.one_or.Goals as goal
 
 pub returns-then-len-gt1 : goal.returns-then-len-gt1

@@ -13,7 +13,8 @@ use Rattle.dtml_parse.specs.Views.{arg_view, bounds_view, list_view, view, arm_l
 use Rattle.dtml_parse.specs.declared.piece.Piece.{Piece}
 use Rattle.dtml_parse.specs.declared.tree.Arms.{roll-Arms}
 use Rattle.dtml_parse.proofs.Steps.{inner, not_lexed, no_stray, no_piece, one_more, snoc, snoc_arm, stands_forward, item_forward, block_forward, memory_first, in_arm, behind_block, done_arms, next_tag, in_single, in_loop, too_deep, encloses}
-use Rattle.dtml_parse.proofs.ViewLemmas.{list_view_push, arm_list_push, arms_made, if_view, loop_view, unless_view, with_view, let_view, comment_view, closes_if, closes_in}
+use Rattle.dtml_parse.specs.ViewLaws.{arms_made, if_view, loop_view, unless_view, with_view, let_view, comment_view}
+use Rattle.dtml_parse.proofs.ViewLemmas.{list_view_push, arm_list_push, closes_if, closes_in}
 use Rattle.dtml_parse.proofs.block.+parse.Goals as goal
 
 pub block_of-parts-init : goal.block_of-parts-init

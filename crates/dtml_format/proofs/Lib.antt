@@ -1,0 +1,3 @@
+pub mod Escapes
+pub mod Runs
+pub mod Sizes
