@@ -4,13 +4,13 @@ use Rattle.std.specs.List.{list_all}
 use Rattle.std.proofs.lemmas.Bool.Decides.{nat_tests}
 use Rattle.zbase.specs.Query.{Done}
 use Rattle.evaluator.specs.Questions.{Reads}
-use Rattle.zobject.specs.declared.object.Object.{Object}
-use Rattle.zobject.specs.declared.object.Part2.{Part2}
-use Rattle.zobject.specs.declared.object.Part2.TheVariants.{Folder, Method, Document, UserFolder}
-use Rattle.zobject.specs.Documents.{document_with}
-use Rattle.zobject.specs.Reading.{bare}
-use Rattle.zobject.specs.Record.{record_text}
-use Rattle.zobject.specs.Texts.{is_source}
+use Rattle.plain_object.specs.declared.object.Object.{Object}
+use Rattle.plain_object.specs.declared.object.Part2.{Part2}
+use Rattle.plain_object.specs.declared.object.Part2.TheVariants.{Folder, Method, Document, UserFolder}
+use Rattle.plain_object.specs.Documents.{document_with}
+use Rattle.plain_object.specs.Reading.{bare}
+use Rattle.plain_object.specs.Record.{record_text}
+use Rattle.plain_object.specs.Texts.{is_source}
 use Rattle.publisher.specs.Messages.{is_plain_source, page}
 use Rattle.publisher.specs.Site.{at_child, at_object, has_markup, page_of, plain_source}
 use Rattle.publisher.proofs.Sources.{both, is_plain_byte, plain_is_source}

@@ -9,7 +9,7 @@ use Rattle.std.specs.Str.Parse.{AllDigits}
 use Rattle.std.proofs.lemmas.Bool.Decides.{nat_tests}
 use Rattle.std.proofs.lemmas.Fmt.{decimal_is_IsNumeral}
 use Rattle.std.proofs.lemmas.Slice.Eq.{bytes_eq-Decides}
-use Rattle.zobject.specs.Texts.{is_id, is_id_byte, is_spelled}
+use Rattle.plain_object.specs.Texts.{is_id, is_id_byte, is_spelled}
 use Rattle.publisher.specs.declared.message.Action.{Action}
 use Rattle.publisher.specs.declared.message.Message.{Message}
 use Rattle.publisher.specs.Messages.{Lacks, before, behind, crlf, edit, edit_ending, edit_if, edit_message, edit_text, ending, form, front, is_plain_source, length_header, message_of, name_before, name_in, name_within, named, page_message, request_line, source_in}

@@ -7,8 +7,8 @@ use Rattle.std.specs.Prelude.{ℕ, ◌-◌, ◌==◌, ◌&&◌, ◌||◌, ◌≢
 use Rattle.std.specs.List.{list_all, before_first, after_first, AllByRecursion}
 use Rattle.std.specs.Option.{option_or}
 use Rattle.std.specs.Str.{bytes_eq}
-use Rattle.zobject.specs.Reading.{kept}
-use Rattle.zobject.specs.Texts.{is_digit, is_id, is_letter}
+use Rattle.plain_object.specs.Reading.{kept}
+use Rattle.plain_object.specs.Texts.{is_digit, is_id, is_letter}
 use Rattle.publisher.specs.declared.message.Action.{Action}
 use Rattle.publisher.specs.declared.message.Message.{Message}
 

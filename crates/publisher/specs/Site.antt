@@ -17,13 +17,13 @@ use Rattle.evaluator.specs.declared.reply.Shown.{Shown}
 use Rattle.evaluator.specs.Exec.{Eval}
 use Rattle.evaluator.specs.Questions.{Evaluation, Reads, Changes, meaning_of}
 use Rattle.evaluator.specs.Replies.{one_line}
-use Rattle.zobject.specs.declared.object.Object.{Object}
-use Rattle.zobject.specs.declared.object.Part2.{Part2}
-use Rattle.zobject.specs.declared.object.Part2.TheVariants.{Folder, Method, Document, UserFolder}
-use Rattle.zobject.specs.Documents.{document_with}
-use Rattle.zobject.specs.Folders.{child_of}
-use Rattle.zobject.specs.Reading.{bare}
-use Rattle.zobject.specs.Record.{record_text}
+use Rattle.plain_object.specs.declared.object.Object.{Object}
+use Rattle.plain_object.specs.declared.object.Part2.{Part2}
+use Rattle.plain_object.specs.declared.object.Part2.TheVariants.{Folder, Method, Document, UserFolder}
+use Rattle.plain_object.specs.Documents.{document_with}
+use Rattle.plain_object.specs.Folders.{child_of}
+use Rattle.plain_object.specs.Reading.{bare}
+use Rattle.plain_object.specs.Record.{record_text}
 use Rattle.publisher.specs.declared.message.Action.{Action}
 use Rattle.publisher.specs.declared.message.Message.{Message}
 

@@ -17,14 +17,14 @@ use Rattle.evaluator.specs.Exec.{IsLawful, IsTrail, most_asks}
 use Rattle.evaluator.specs.Facts.{look}
 use Rattle.evaluator.specs.Questions.{Evaluation, IsCareful, outcome}
 use Rattle.evaluator.specs.QuestionLaws.{lawful, object_lasts, trail_short}
-use Rattle.zobject.specs.declared.object.Object.{Object}
-use Rattle.zobject.specs.declared.object.Part2.{Part2}
-use Rattle.zobject.specs.declared.object.Part2.TheVariants.{Folder, Method, Document, UserFolder}
-use Rattle.zobject.specs.Documents.{document_with}
-use Rattle.zobject.specs.Folders.{child_of}
-use Rattle.zobject.specs.Reading.{bare}
-use Rattle.zobject.specs.ReadingLaws.{child_is_named, child_name_is_short}
-use Rattle.zobject.specs.Record.{record_text}
+use Rattle.plain_object.specs.declared.object.Object.{Object}
+use Rattle.plain_object.specs.declared.object.Part2.{Part2}
+use Rattle.plain_object.specs.declared.object.Part2.TheVariants.{Folder, Method, Document, UserFolder}
+use Rattle.plain_object.specs.Documents.{document_with}
+use Rattle.plain_object.specs.Folders.{child_of}
+use Rattle.plain_object.specs.Reading.{bare}
+use Rattle.plain_object.specs.ReadingLaws.{child_is_named, child_name_is_short}
+use Rattle.plain_object.specs.Record.{record_text}
 use Rattle.publisher.specs.declared.message.Action.{Action}
 use Rattle.publisher.specs.declared.message.Message.{Message}
 use Rattle.publisher.specs.Site.{acted, at_child, at_object, at_root, done, edit_path, edited, in_folder, in_root, not_found, not_yet, page_of, plain_source, question, site, to_child, value_in}

@@ -1,14 +1,14 @@
 ghost use Rattle.std.specs.Prelude.{◌≡◌, ◌==◌, ◌||◌, ◌++◌, ◌∷◌, IfOk, IfSome, MatchOption, OnOk, Some};
 ghost use Rattle.std.specs.List.{before_first, after_first, list_all};
 ghost use Rattle.std.specs.Option.{option_map};
-ghost use Rattle.zobject.specs.Reading.{kept};
-ghost use Rattle.zobject.specs.Texts.{is_digit, is_letter};
+ghost use Rattle.plain_object.specs.Reading.{kept};
+ghost use Rattle.plain_object.specs.Texts.{is_digit, is_letter};
 ghost use Rattle.publisher.specs.Messages as messages;
 
 use crate::message::{Action, Message};
+use plain_object::{id_text, source_text};
 use std::alloc::Global;
 use zbase::{Bytes, Memory, Text};
-use zobject::{id_text, source_text};
 
 /// The most bytes of a source that is sent.
 const MOST_SOURCE: usize = 1000;

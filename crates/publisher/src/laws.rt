@@ -6,17 +6,17 @@ ghost use Rattle.evaluator.specs.declared.outcome.Outcome.{Outcome};
 ghost use Rattle.evaluator.specs.Exec.{IsTrail};
 ghost use Rattle.evaluator.specs.Facts.{look};
 ghost use Rattle.evaluator.specs.Questions.{IsCareful, Reads};
-ghost use Rattle.zobject.specs.declared.object.Object.{Object};
-ghost use Rattle.zobject.specs.Documents.{document_with};
-ghost use Rattle.zobject.specs.Reading.{bare};
-ghost use Rattle.zobject.specs.Record.{record_text};
-ghost use Rattle.zobject.specs.Texts.{is_id};
+ghost use Rattle.plain_object.specs.declared.object.Object.{Object};
+ghost use Rattle.plain_object.specs.Documents.{document_with};
+ghost use Rattle.plain_object.specs.Reading.{bare};
+ghost use Rattle.plain_object.specs.Record.{record_text};
+ghost use Rattle.plain_object.specs.Texts.{is_id};
 ghost use Rattle.publisher.specs.declared.message.Action.{Action};
 ghost use Rattle.publisher.specs.declared.message.Message.{Message};
 ghost use Rattle.publisher.specs.Messages.{edit, edit_text, is_plain_source, message_of, page};
 ghost use Rattle.publisher.specs.Site.{at_child, page_of, plain_source, question, site};
 
-use zobject::documents_are_read_again;
+use plain_object::documents_are_read_again;
 
 /// A request asks for two objects at most, and for nothing else, so that what it changes rests on what lasts.
 pub fn site_asks_two_objects()

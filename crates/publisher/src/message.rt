@@ -3,9 +3,9 @@ ghost use Rattle.std.specs.Option.{option_map};
 ghost use Rattle.publisher.specs.Messages as messages;
 
 use crate::edit::read_edit;
+use plain_object::id_text;
 use std::alloc::Global;
 use zbase::{Memory, Text};
-use zobject::id_text;
 
 /// What a request does with the document of its name.
 #[derive(Debug, Drop)]

@@ -6,8 +6,8 @@ ghost use Rattle.evaluator.specs.declared.fact.Fact.{Fact};
 ghost use Rattle.evaluator.specs.declared.outcome.Outcome.{Outcome};
 ghost use Rattle.evaluator.specs.Facts.{look};
 ghost use Rattle.evaluator.specs.Questions.{outcome};
-ghost use Rattle.zobject.specs.Documents.{document_with};
-ghost use Rattle.zobject.specs.Record.{record_text};
+ghost use Rattle.plain_object.specs.Documents.{document_with};
+ghost use Rattle.plain_object.specs.Record.{record_text};
 ghost use Rattle.publisher.specs.Messages.{message_of};
 ghost use Rattle.publisher.specs.Site as question;
 ghost use Rattle.publisher.specs.SiteLaws.{site_asks_few, site_changes, site_is_lawful, site_replies};
@@ -15,9 +15,9 @@ ghost use Rattle.publisher.specs.SiteLaws.{site_asks_few, site_changes, site_is_
 use crate::message::{Action, Message, read_message};
 use crate::replies::{edited, not_found, not_yet, one_line, page_of};
 use evaluator::{Ask, Evaluator, Fact, Facts, Outcome, look};
+use plain_object::{Object, Part2, document_with, find_child, read_bare, write_object};
 use std::alloc::Global;
 use zbase::{Bytes, Memory, Oid, Text};
-use zobject::{Object, Part2, document_with, find_child, read_bare, write_object};
 
 const ROOT: Oid = Oid(0);
 

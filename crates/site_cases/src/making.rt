@@ -1,10 +1,10 @@
 use cases::{Case, CasesRefusal, Part};
-use std::alloc::Global;
-use zbase::{Bytes, Oid, Text};
-use zobject::{
+use plain_object::{
     Child, Children, Local, Locals, Object, Part2, Properties, Property, Roles, Setting, Settings,
     User, Users, write_object,
 };
+use std::alloc::Global;
+use zbase::{Bytes, Oid, Text};
 
 /// The part's bytes as a text.
 pub fn text_of(alloc: Global, part: &Part) -> Result<Text, CasesRefusal> {

@@ -1,10 +1,10 @@
 use crate::making::text_of;
 use cases::{Case, CasesRefusal, Part};
-use std::alloc::Global;
-use zbase::{Bytes, Memory, Oid, Text};
-use zobject::{
+use plain_object::{
     Children, Object, Part2, document_with, find_child, id_text, read_bare, write_object,
 };
+use std::alloc::Global;
+use zbase::{Bytes, Memory, Oid, Text};
 
 /// Adds a line: a word and a text in brackets.
 pub fn put_text(out: &mut Bytes, word: &[u8], text: &Text) -> Result<(), Memory> {

@@ -1,8 +1,4 @@
 pub mod Utf8
-pub mod Ids
-pub mod Names
-pub mod Children
-pub mod Fields
-pub mod Parts
-pub mod Whole
-pub mod Again
+pub mod Rising
+pub mod Listed
+pub mod Changed

@@ -1,8 +1,7 @@
 pub mod Texts
-pub mod Record
-pub mod Reading
-pub mod Kinds
-pub mod Given
+pub mod Rules
 pub mod Folders
-pub mod Documents
-pub mod ReadingLaws
+pub mod Shapes
+pub mod Changes
+pub mod TextLaws
+pub mod Worked

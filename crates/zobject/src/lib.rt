@@ -1,25 +1,27 @@
-//! The objects of a site, and their records.
+//! The objects of a site: their types, the rules of their texts and lists, and what may be seen of them.
 //!
-//! `specs/Record` says which objects have a record and how it is spelled, `specs/Texts` the rules of their texts,
-//! `specs/Reading` how the plain ones are read, `specs/Folders` what a folder lists, and `specs/Documents` what a
-//! document with another source is. `specs/ReadingLaws` says what is true of every object that is read.
+//! `specs/Texts` has the rules of texts, `specs/Rules` says which objects keep the rules of a version of the record,
+//! `specs/Folders` what a folder lists, `specs/Shapes` which parts of an object decide where it is found and who may see
+//! it, and `specs/Changes` what an object is of which one part is another. How an object is spelled is said by `zcodec`.
 #![tactic(auto)]
 
-mod bare;
-mod document;
+mod folder;
 mod laws;
 mod object;
-mod reading;
+mod refusal;
 mod texts;
-mod unread;
-mod writing;
+mod version;
 
-pub use bare::{find_child, read_bare};
-pub use document::document_with;
-pub use laws::{bare_is_record, children_have_names, documents_are_read_again};
-pub use object::{
-    Child, Children, Local, Locals, Object, Part2, Properties, Property, Roles, Setting, Settings,
-    User, Users,
+pub use folder::{child_in, find_child};
+pub use laws::{
+    children_may_change, local_roles_may_change, names_may_change, new_objects_keep_the_rules,
+    properties_may_change, proxy_roles_may_change, roles_may_be_added, roles_may_be_shown,
+    settings_may_change, sources_may_change, users_may_be_added,
 };
-pub use texts::{id_text, source_text};
-pub use writing::write_object;
+pub use object::{
+    Child, Children, Local, Locals, Object, Part2, PropValue, Properties, Property, Roles, Setting,
+    Settings, User, Users,
+};
+pub use refusal::CodecRefusal;
+pub use texts::keeps;
+pub use version::{Kind, Rule, Version};

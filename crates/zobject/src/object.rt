@@ -1,15 +1,20 @@
 use zbase::{Items, Oid, Text, Texts};
 
 /// Names of roles, by bytes and each once.
+///
+/// Zope Developer's Guide, "Security": a role is a name that users have and permissions are given to.
 pub type Roles = Texts;
 
 /// Which roles a permission is given to, in a container and below it.
+///
+/// Zope Developer's Guide, "Security": permissions are mapped to roles by object, with or without those acquired.
 #[derive(Debug, Drop)]
 pub struct Setting {
-    /// The permission's number, 1 to 12.
+    /// The permission's number, 1 to 13.
     pub permission: u8,
     /// Whether the roles of the containers above count too.
     pub acquire: bool,
+    /// The roles that have it here; at least one where it acquires.
     pub roles: Roles,
 }
 
@@ -17,20 +22,41 @@ pub struct Setting {
 pub type Settings = Items<Setting>;
 
 /// The roles that a user has in a container and below it.
+///
+/// Zope Book, "Users and Security": local roles.
 #[derive(Debug, Drop)]
 pub struct Local {
+    /// The user's name.
     pub user: Text,
+    /// The roles that the user has here, at least one.
     pub roles: Roles,
 }
 
 /// The local roles of an object, by user.
 pub type Locals = Items<Local>;
 
+/// The value of a property, by its type.
+///
+/// Zope Book, "Basic Zope Objects": properties of the types `string`, `int` and `lines`.
+#[derive(Debug, Drop)]
+pub enum PropValue {
+    /// A text of one line.
+    Line(Text),
+    /// A whole number of 64 bits.
+    Int(i64),
+    /// Texts, one a line.
+    Lines(Texts),
+}
+
 /// A property of an object.
+///
+/// Zope Book, "Basic Zope Objects": a value under a name, which pages show.
 #[derive(Debug, Drop)]
 pub struct Property {
+    /// The name under which pages find it.
     pub name: Text,
-    pub value: Text,
+    /// Its value.
+    pub value: PropValue,
 }
 
 /// The properties of an object, by name.
@@ -39,7 +65,9 @@ pub type Properties = Items<Property>;
 /// An object in a folder, under a name.
 #[derive(Debug, Drop)]
 pub struct Child {
+    /// The name under which the folder lists it.
     pub name: Text,
+    /// Its id in the storage.
     pub oid: Oid,
 }
 
@@ -47,11 +75,15 @@ pub struct Child {
 pub type Children = Items<Child>;
 
 /// A user of a user folder.
+///
+/// Zope Book, "Users and Security": user folders.
 #[derive(Debug, Drop)]
 pub struct User {
+    /// The name that the user gives.
     pub name: Text,
     /// What is kept of the password.
     pub password: Text,
+    /// The roles that the user has wherever the folder of the user folder is above.
     pub roles: Roles,
 }
 
@@ -59,13 +91,17 @@ pub struct User {
 pub type Users = Items<User>;
 
 /// What an object is, with the part that only its kind has.
+///
+/// Zope Book, "Basic Zope Objects": folders, DTML methods, DTML documents and user folders.
 #[derive(Debug, Drop)]
 pub enum Part2 {
+    /// A folder, with its children.
     Folder(Children),
-    /// A method, with its source.
-    Method(Text),
-    /// A document, with its source.
-    Document(Text),
+    /// A method, with its source and its proxy roles, which it runs with in place of the user's.
+    Method { source: Text, proxy: Roles },
+    /// A document, with its source and its proxy roles.
+    Document { source: Text, proxy: Roles },
+    /// A user folder, with its users.
     UserFolder(Users),
 }
 
@@ -78,9 +114,14 @@ pub struct Object {
     pub id: Text,
     /// The folder that holds it.
     pub parent: Oid,
+    /// What pages show as its title.
     pub title: Text,
+    /// Which roles have which permissions here.
     pub settings: Settings,
+    /// Which users have which roles here.
     pub locals: Locals,
+    /// What pages find here besides children.
     pub properties: Properties,
+    /// What only its kind has.
     pub part: Part2,
 }

@@ -1,26 +1,9 @@
-ghost use Rattle.std.specs.Prelude.{◌≡◌, Bool, option_map, IfSome, IfNone};
+ghost use Rattle.std.specs.Prelude.{◌≡◌, ◌&&◌, ◌||◌, ◌==◌, nat_le, not, take};
 ghost use Rattle.std.specs.List.{list_all, list_any};
 ghost use Rattle.std.specs.Str.{is_utf8, bytes_eq};
-ghost use Rattle.zobject.specs.Texts.{is_id_byte, is_of_length, is_spelled, is_hidden, is_id, is_reserved, is_acl_users, is_child_name, is_title, is_source};
-ghost use Rattle.zobject.specs.Record.{is_stored_id};
-ghost use Rattle.zobject.specs.Reading.{kept};
-ghost use Rattle.zobject.specs.Kinds.{letter};
+ghost use Rattle.zobject.specs.Texts as rules;
 
-/// The kinds of object that are read without settings, local roles and properties.
-#[derive(Clone, Copy, Debug, PartialEq, Eq)]
-pub(crate) enum Kind {
-    Folder,
-    Document,
-}
-
-/// The most bytes of an id.
-const MOST_ID: usize = 100;
-
-/// The most bytes of a title.
-const MOST_TITLE: usize = 1000;
-
-/// The most bytes of a source.
-const MOST_SOURCE: usize = 262_144;
+use crate::{Kind, Rule};
 
 /// Names that mean something else in every object.
 const RESERVED: [&str; 10] = [
@@ -36,10 +19,52 @@ const RESERVED: [&str; 10] = [
     "undoable_transactions",
 ];
 
-fn is_id_letter(byte: u8) -> bool
-    ensures { result ≡ is_id_byte byte }
+fn is_id_byte(byte: u8) -> bool
+    ensures { result ≡ rules.is_id_byte byte }
 {
     matches!(byte, b'A'..=b'Z' | b'a'..=b'z' | b'0'..=b'9' | b'_' | b'-' | b'.' | b',' | b'~')
+}
+
+fn is_name_byte(byte: u8) -> bool
+    ensures { result ≡ (rules.is_letter byte || rules.is_digit byte || (byte == 95)) }
+{
+    matches!(byte, b'A'..=b'Z' | b'a'..=b'z' | b'0'..=b'9' | b'_')
+}
+
+fn is_user_byte(byte: u8) -> bool
+    ensures { result ≡ (nat_le 32 byte && not (byte == 58)) }
+{
+    32 <= byte && byte != b':'
+}
+
+fn is_role_byte(byte: u8) -> bool
+    ensures { result ≡ (rules.is_between 32 126 byte && not (byte == 44)) }
+{
+    matches!(byte, b' '..=b'~') && byte != b','
+}
+
+fn has_id_bytes(text: &[u8]) -> bool
+    ensures { result ≡ list_all rules.is_id_byte text.now }
+{
+    text.iter().all(|byte| is_id_byte(*byte))
+}
+
+fn has_name_bytes(text: &[u8]) -> bool
+    ensures { result ≡ list_all (λ b. rules.is_letter b || rules.is_digit b || (b == 95)) text.now }
+{
+    text.iter().all(|byte| is_name_byte(*byte))
+}
+
+fn has_user_bytes(text: &[u8]) -> bool
+    ensures { result ≡ list_all (λ b. nat_le 32 b && not (b == 58)) text.now }
+{
+    text.iter().all(|byte| is_user_byte(*byte))
+}
+
+fn has_role_bytes(text: &[u8]) -> bool
+    ensures { result ≡ list_all (λ b. rules.is_between 32 126 b && not (b == 44)) text.now }
+{
+    text.iter().all(|byte| is_role_byte(*byte))
 }
 
 fn is_one_of(names: &[&str], text: &[u8]) -> bool
@@ -49,32 +74,26 @@ fn is_one_of(names: &[&str], text: &[u8]) -> bool
 }
 
 fn is_reserved(text: &[u8]) -> bool
-    ensures { result ≡ is_reserved text.now }
+    ensures { result ≡ rules.is_reserved text.now }
 {
     let names: [&str; 10] = RESERVED;
     is_one_of(names.as_slice(), text)
 }
 
 fn is_of_length(most: usize, text: &[u8]) -> bool
-    ensures { result ≡ is_of_length most text.now }
+    ensures { result ≡ rules.is_of_length most text.now }
 {
     1 <= text.len() && text.len() <= most
 }
 
-fn has_id_bytes(text: &[u8]) -> bool
-    ensures { result ≡ list_all is_id_byte text.now }
-{
-    text.iter().all(|byte| is_id_letter(*byte))
-}
-
 fn is_spelled(text: &[u8]) -> bool
-    ensures { result ≡ is_spelled text.now }
+    ensures { result ≡ rules.is_spelled text.now }
 {
-    is_of_length(MOST_ID, text) && has_id_bytes(text)
+    is_of_length(100, text) && has_id_bytes(text)
 }
 
 fn is_hidden(text: &[u8]) -> bool
-    ensures { result ≡ is_hidden text.now }
+    ensures { result ≡ rules.is_hidden text.now }
 {
     text.starts_with(b"_") || text.starts_with(b"aq_") || text.starts_with(b"manage_")
 }
@@ -82,93 +101,86 @@ fn is_hidden(text: &[u8]) -> bool
 // Whether a text may name an object in its folder.
 #[tactic(auto, unfolding(crate::specs::Texts::is_id))]
 fn is_id(text: &[u8]) -> bool
-    ensures { result ≡ is_id text.now }
+    ensures { result ≡ rules.is_id text.now }
 {
     is_spelled(text) && !is_hidden(text) && !is_reserved(text)
 }
 
 fn is_acl_users(text: &[u8]) -> bool
-    ensures { result ≡ is_acl_users text.now }
+    ensures { result ≡ rules.is_acl_users text.now }
 {
     b"acl_users".as_slice() == text
 }
 
-#[tactic(auto, using(crate::proofs::Utf8::utf8_yes, crate::proofs::Utf8::utf8_no))]
-fn as_utf8(bytes: &[u8]) -> Option<&str>
-    ensures some { IfSome result (λ t. (t.now ≡ bytes.now) × (is_utf8 bytes.now ≡ Bool.true)) }
-    ensures none { IfNone result (is_utf8 bytes.now ≡ Bool.false) }
+fn begins_with_letter(text: &[u8]) -> bool
+    ensures { result ≡ list_any rules.is_letter (take 1 text.now) }
 {
-    match str::from_utf8(bytes) {
-        Ok(text) => Some(text),
-        Err(_) => None,
+    match text {
+        [] => false,
+        [byte, ..] => matches!(*byte, b'A'..=b'Z' | b'a'..=b'z'),
     }
 }
 
-fn is_child_name(text: &[u8]) -> bool
-    ensures { result ≡ is_child_name text.now }
+fn is_property_name(text: &[u8]) -> bool
+    ensures { result ≡ rules.is_property_name text.now }
 {
-    is_id(text) || is_acl_users(text)
+    is_of_length(100, text)
+        && has_name_bytes(text)
+        && begins_with_letter(text)
+        && !is_reserved(text)
+}
+
+fn is_user_name(text: &[u8]) -> bool
+    ensures { result ≡ rules.is_user_name text.now }
+{
+    is_of_length(100, text) && has_user_bytes(text)
+}
+
+fn is_role(text: &[u8]) -> bool
+    ensures { result ≡ rules.is_role text.now }
+{
+    is_of_length(64, text) && has_role_bytes(text)
 }
 
 fn is_stored_id(kind: Kind, text: &[u8]) -> bool
-    ensures { result ≡ is_stored_id (letter kind) text.now }
+    ensures { result ≡ rules.is_stored_id kind text.now }
 {
     match kind {
         Kind::Folder => text.is_empty() || is_id(text),
-        Kind::Document => is_id(text),
+        Kind::UserFolder => is_acl_users(text) || is_id(text),
+        Kind::Method | Kind::Document => is_id(text),
     }
 }
 
-/// The text, where it is the id of an object of that kind.
-#[tactic(auto, using(crate::proofs::Ids::stored_id_is_utf8))]
-pub(crate) fn stored_id(kind: Kind, bytes: &[u8]) -> Option<&str>
-    ensures { option_map (λ t. t.now) result ≡ kept (is_stored_id (letter kind)) bytes.now }
+fn fits(rule: Rule, text: &[u8]) -> bool
+    ensures { result ≡ rules.fits rule text.now }
 {
-    if is_stored_id(kind, bytes) {
-        as_utf8(bytes)
-    } else {
-        None
+    match rule {
+        Rule::StoredId(kind) => is_stored_id(kind, text),
+        Rule::ChildName => is_id(text) || is_acl_users(text),
+        Rule::PropertyName => is_property_name(text),
+        Rule::Value => text.len() <= 10_000,
+        Rule::Role => is_role(text),
+        Rule::UserName => is_user_name(text),
+        Rule::Password => text.len() <= 100,
+        Rule::Title => text.len() <= 1000,
+        Rule::Source => text.len() <= 262_144,
     }
 }
 
-/// The text, where it may name an object in its folder. Takes no memory.
-#[tactic(auto, using(crate::proofs::Ids::id_is_utf8))]
-pub fn id_text(bytes: &[u8]) -> Option<&str>
-    ensures { option_map (λ t. t.now) result ≡ kept is_id bytes.now }
+#[tactic(auto, using(crate::proofs::Utf8::utf8_yes, crate::proofs::Utf8::utf8_no))]
+fn is_utf8(bytes: &[u8]) -> bool
+    ensures { result ≡ is_utf8 bytes.now }
 {
-    if is_id(bytes) { as_utf8(bytes) } else { None }
-}
-
-/// The text, where a folder may list a child under it.
-#[tactic(auto, using(crate::proofs::Ids::child_name_is_utf8))]
-pub(crate) fn child_name(bytes: &[u8]) -> Option<&str>
-    ensures { option_map (λ t. t.now) result ≡ kept is_child_name bytes.now }
-{
-    if is_child_name(bytes) {
-        as_utf8(bytes)
-    } else {
-        None
+    match str::from_utf8(bytes) {
+        Ok(_) => true,
+        Err(_) => false,
     }
 }
 
-/// The text, where it is a title.
-pub(crate) fn title(bytes: &[u8]) -> Option<&str>
-    ensures { option_map (λ t. t.now) result ≡ kept is_title bytes.now }
+/// Whether a text keeps the rule of what it is; every text is UTF-8. Takes no memory.
+pub fn keeps(rule: Rule, text: &[u8]) -> bool
+    ensures { result ≡ rules.keeps rule text.now }
 {
-    if bytes.len() <= MOST_TITLE {
-        as_utf8(bytes)
-    } else {
-        None
-    }
-}
-
-/// The text, where it is a source: UTF-8 of at most 262,144 bytes. Takes no memory.
-pub fn source_text(bytes: &[u8]) -> Option<&str>
-    ensures { option_map (λ t. t.now) result ≡ kept is_source bytes.now }
-{
-    if bytes.len() <= MOST_SOURCE {
-        as_utf8(bytes)
-    } else {
-        None
-    }
+    fits(rule, text) && is_utf8(text)
 }

@@ -1,0 +1,4 @@
+pub mod Record
+pub mod Reading
+pub mod Given
+pub mod Worked

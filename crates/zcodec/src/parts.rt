@@ -1,0 +1,127 @@
+ghost use Rattle.std.specs.Prelude.{◌∷◌, [], ℕ, List, IfOk};
+ghost use Rattle.zcodec.specs.Reading.{Gives, and_name, child_at, children_at, document_at, folder_at, items_at, method_at, new_name_at, part_at, user_folder_at};
+ghost use Rattle.zcodec.specs.Given.{Knows};
+
+use crate::fields::{count_of, source_of, text_of, u64_of};
+use crate::lists::list_of;
+use crate::reading::proxy_of;
+use crate::rows::UserRow;
+use crate::unread::Unread;
+use std::alloc::Global;
+use std::collections::BTreeSet;
+use zbase::{Items, Oid, Text};
+use zobject::{Child, Children, Kind, Part2, Rule, Version};
+
+/// The most children that a folder lists.
+const MOST_CHILDREN: u16 = 10_000;
+
+/// The most users of a user folder.
+const MOST_USERS: u16 = 1000;
+
+/// The name of a child, which is none of the names, and which they then have.
+#[tactic(auto, unfolding(crate::specs::Reading::new_name_at))]
+fn new_name_of<'a>(
+    names: &mut BTreeSet<&'a str>,
+    bytes: &'a [u8],
+) -> Result<(&'a str, &'a [u8]), Unread>
+    ensures gives { (earlier : List (List ℕ)) → Knows names.old earlier → Gives (λ x. (x.0.now, x.1.now)) result (new_name_at earlier bytes.now) }
+    ensures knows { (earlier : List (List ℕ)) → Knows names.old earlier → IfOk result (λ x. Knows names.new (x.0.now ∷ earlier)) }
+{
+    let (name, rest) = text_of(Rule::ChildName, bytes)?;
+    if names.insert(name)? {
+        Ok((name, rest))
+    } else {
+        Err(Unread::Bad(bytes.len()))
+    }
+}
+
+/// A child under a new name.
+#[tactic(auto, unfolding(crate::specs::Reading::child_at))]
+fn child_of<'a>(
+    alloc: Global,
+    names: &mut BTreeSet<&'a str>,
+    bytes: &'a [u8],
+) -> Result<(Child, &'a [u8]), Unread>
+    ensures gives { (earlier : List (List ℕ)) → Knows names.old earlier → Gives (λ x. (x.0, x.1.now)) result (child_at earlier bytes.now) }
+    ensures knows { (earlier : List (List ℕ)) → Knows names.old earlier → IfOk result (λ x. Knows names.new (x.0.name ∷ earlier)) }
+{
+    let (name, rest) = new_name_of(names, bytes)?;
+    let (oid, rest) = u64_of(rest)?;
+    let name = Text::from_str(alloc, name)?;
+    let oid = Oid(oid);
+    Ok((Child { name, oid }, rest))
+}
+
+/// So many children, each name once.
+fn each_child_of(alloc: Global, count: u16, bytes: &[u8]) -> Result<(Children, &[u8]), Unread>
+    ensures { Gives (λ x. (x.0, x.1.now)) result (items_at child_at and_name count [] bytes.now) }
+{
+    let mut children = Items::new(alloc);
+    let mut names = BTreeSet::new(alloc);
+    let mut rest = bytes;
+    for _ in 0..count {
+        let (child, after) = child_of(alloc, &mut names, rest)?;
+        children.push(child)?;
+        rest = after;
+    }
+    Ok((children, rest))
+}
+
+#[tactic(auto, unfolding(crate::specs::Reading::children_at))]
+fn children_of(alloc: Global, bytes: &[u8]) -> Result<(Children, &[u8]), Unread>
+    ensures { Gives (λ x. (x.0, x.1.now)) result (children_at bytes.now) }
+{
+    let (count, rest) = count_of(0, MOST_CHILDREN, bytes)?;
+    each_child_of(alloc, count, rest)
+}
+
+#[tactic(auto, unfolding(crate::specs::Reading::folder_at))]
+fn folder_of(alloc: Global, bytes: &[u8]) -> Result<(Part2, &[u8]), Unread>
+    ensures { Gives (λ x. (x.0, x.1.now)) result (folder_at bytes.now) }
+{
+    let (children, rest) = children_of(alloc, bytes)?;
+    Ok((Part2::Folder(children), rest))
+}
+
+#[tactic(auto, unfolding(crate::specs::Reading::method_at))]
+fn method_of(alloc: Global, version: Version, bytes: &[u8]) -> Result<(Part2, &[u8]), Unread>
+    ensures { Gives (λ x. (x.0, x.1.now)) result (method_at version bytes.now) }
+{
+    let (source, rest) = source_of(alloc, bytes)?;
+    let (proxy, rest) = proxy_of(alloc, version, rest)?;
+    Ok((Part2::Method { source, proxy }, rest))
+}
+
+#[tactic(auto, unfolding(crate::specs::Reading::document_at))]
+fn document_of(alloc: Global, version: Version, bytes: &[u8]) -> Result<(Part2, &[u8]), Unread>
+    ensures { Gives (λ x. (x.0, x.1.now)) result (document_at version bytes.now) }
+{
+    let (source, rest) = source_of(alloc, bytes)?;
+    let (proxy, rest) = proxy_of(alloc, version, rest)?;
+    Ok((Part2::Document { source, proxy }, rest))
+}
+
+#[tactic(auto, unfolding(crate::specs::Reading::user_folder_at))]
+fn user_folder_of(alloc: Global, bytes: &[u8]) -> Result<(Part2, &[u8]), Unread>
+    ensures { Gives (λ x. (x.0, x.1.now)) result (user_folder_at bytes.now) }
+{
+    let (users, rest) = list_of(alloc, &UserRow, 0, MOST_USERS, bytes)?;
+    Ok((Part2::UserFolder(users), rest))
+}
+
+/// The part of an object that only its kind has.
+pub(crate) fn part_of(
+    alloc: Global,
+    version: Version,
+    kind: Kind,
+    bytes: &[u8],
+) -> Result<(Part2, &[u8]), Unread>
+    ensures { Gives (λ x. (x.0, x.1.now)) result (part_at version kind bytes.now) }
+{
+    match kind {
+        Kind::Folder => folder_of(alloc, bytes),
+        Kind::Method => method_of(alloc, version, bytes),
+        Kind::Document => document_of(alloc, version, bytes),
+        Kind::UserFolder => user_folder_of(alloc, bytes),
+    }
+}
