@@ -4,8 +4,10 @@ pub mod Names
 pub mod Once
 pub mod OneRefusal
 pub mod PieceReader
+pub mod Places
 pub mod Refused
 pub mod Sizes
 pub mod Steps
+pub mod TreeReader
 pub mod Trees
 pub mod ViewLemmas

@@ -19,7 +19,7 @@ use Rattle.dtml_parse.specs.Grammar.{Stands}
 abbrev pub OneExpr : Type 0
 OneExpr = (text : List ℕ) (a b : exprs.Tree) → IsExpr text a → IsExpr text b → a ≡ b
 
-abbrev found : PartKind × List ℕ → Option (PartKind × List ℕ)
+abbrev pub found : PartKind × List ℕ → Option (PartKind × List ℕ)
 found x = Some x
 
 found_is : (x y : PartKind × List ℕ) → found x ≡ found y → x ≡ y

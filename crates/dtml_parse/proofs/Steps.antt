@@ -173,7 +173,7 @@ same_name tags.Let tags.Let e = refl
 same_name tags.Comment tags.Comment e = refl
 same_name _ _ e = absurd cc
 
-not_false : (b : Bool) → not b ≡ false → b ≡ true
+pub not_false : (b : Bool) → not b ≡ false → b ≡ true
 not_false true e = refl
 not_false false e = absurd cc
 

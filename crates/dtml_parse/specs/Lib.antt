@@ -7,4 +7,6 @@ pub mod Refusals
 pub mod Views
 pub mod ViewLaws
 pub mod Parsing
+pub mod TreeReading
 pub mod Laws
+pub mod Worked

@@ -13,5 +13,5 @@ mod table;
 mod tree;
 
 pub use block::parse;
-pub use laws::{one_tree, part_reader_agrees};
+pub use laws::{one_tree, part_reader_agrees, template_reader_agrees};
 pub use tree::{Arg, Arm, Arms, Binding, Bindings, Node, Nodes, Tree, VarTag};
