@@ -1,5 +1,5 @@
 -- What reads a whole source reads what the grammar and the refusals say.
-use Rattle.std.proofs.Common.{◌≡◌, ◌∙◌, ◌⊎◌, inl, inr, ℕ, zero, suc, ◌+◌, ◌≤◌, ◌<◌, nat_lt, Bool, true, false, not, ◌&&◌, List, length, drop, Option, Some, None, Result, Ok, Err, refl, sym, ap, subst, arith, if◌then◌else◌}
+use Rattle.std.proofs.Common.{◌≡◌, ◌∙◌, ◌⊎◌, inl, inr, ℕ, zero, suc, ◌+◌, ◌≤◌, ◌<◌, nat_lt, Bool, true, false, List, length, drop, Option, Some, None, Ok, Err, refl, sym, ap, subst, arith, if◌then◌else◌}
 use Rattle.std.specs.Prelude.{MatchOption, MatchResult}
 use Rattle.std.specs.Str.{IsUtf8}
 use Rattle.std.proofs.lemmas.Bool.Decides.{nat_tests}
@@ -13,7 +13,7 @@ use Rattle.dtml_lex.specs.declared.refusal.DtmlRefusal.TheVariants as refusals
 use Rattle.dtml_lex.specs.Laws.{ReadIsSpelled}
 use Rattle.dtml_lex.specs.Reading.{part_at}
 use Rattle.dtml_lex.specs.Source.{IsPartAt}
-use Rattle.dtml_parse.specs.Trees.{Arg, Item, Items, Arms, Otherwise, If, Unless, Loop, With, Let, Comment, none, more, last, arm, absent, present}
+use Rattle.dtml_parse.specs.Trees.{Arg, Item, Items, Arms, Otherwise, If, Unless, Loop, With, Let, Comment, none, more, last, arm, present}
 use Rattle.dtml_parse.specs.Pieces as pieces
 use Rattle.dtml_parse.specs.Pieces.{Piece, IsPiece, Means, MeansNothing, is_lawful}
 use Rattle.dtml_parse.specs.PieceReading.{piece_at, ReadsParts}
@@ -110,10 +110,10 @@ module _ (spelled : ReadIsSpelled) (says : ReadsParts) (source : List ℕ) (text
   turn_part : (levels : ℕ) (outer : Open) (at : ℕ) (part : SourcePart) → IsPartAt source at part → ends_block part.kind ≡ true → MatchResult (turn_from outer at (Some part)) (Turned outer at) (Unturned levels outer at)
   turn_part levels outer at part is ends = (elim (strays (Some outer) part.kind) as (λ t. strays (Some outer) part.kind ≡ t
       → MatchResult (if t then Err (refusals.Stray at) else (said at part.kind >>= λ piece. Ok (piece, part.end))) (Turned outer at) (Unturned levels outer at)) [
-    | true ↦ λ e. (λ r. cc, (refl, part, is, e))
-    | false ↦ λ e. then_match (IsPiece part.kind) (IsUnsaid at part.kind) (Turned outer at) (Unturned levels outer at) (said at part.kind) (λ piece. Ok (piece, part.end)) (said_is at part.kind)
-        (λ piece m. (part, is, ends, e, m, refl)) (λ refusal m. (m.0, no_piece source levels (Some outer) part at refusal is e m.1))
-  ]) refl
+        | true ↦ λ e. (λ r. cc, (refl, part, is, e))
+        | false ↦ λ e. then_match (IsPiece part.kind) (IsUnsaid at part.kind) (Turned outer at) (Unturned levels outer at) (said at part.kind) (λ piece. Ok (piece, part.end)) (said_is at part.kind)
+            (λ piece m. (part, is, ends, e, m, refl)) (λ refusal m. (m.0, no_piece source levels (Some outer) part at refusal is e m.1))
+      ]) refl
 
   turn_next : (levels : ℕ) (outer : Open) (at : ℕ) → Ended at → (o : Option SourcePart) → IsNextPart at o → MatchResult (turn_from outer at o) (Turned outer at) (Unturned levels outer at)
   turn_next levels outer at ended None e = (λ r. cc, (refl, e))
@@ -158,8 +158,8 @@ module _ (spelled : ReadIsSpelled) (says : ReadsParts) (source : List ℕ) (text
         let outer = closing at name in
         then_match (IsNodes levels start) (IsNodesRefused levels start) (IsLast levels name start) (IsFirstIn levels outer start) (nodes start) _ (reads start le left)
         (λ block n. then_match (Turned outer block.1) (Unturned levels outer block.1) (IsLast levels name start) (IsFirstIn levels outer start) (turn_at source outer block.1) (λ turn. Ok (block.0, turn.1)) (turn_is levels outer block.1 n.1)
-          (λ turn t. (block.1, n.0, turn_closes at name block.1 turn t))
-          (λ refusal u. (u.0, behind_block source levels (Some outer) block.0 start block.1 refusal n.0 u.1)))
+        (λ turn t. (block.1, n.0, turn_closes at name block.1 turn t))
+        (λ refusal u. (u.0, behind_block source levels (Some outer) block.0 start block.1 refusal n.0 u.1)))
         (λ refusal r. (r.0, r.1 (Some outer)))
 
     abbrev IsOther : TagName → ℕ → Otherwise × ℕ → Type 0
@@ -191,14 +191,14 @@ module _ (spelled : ReadIsSpelled) (says : ReadsParts) (source : List ℕ) (text
         let outer = going_on at tags.In in
         then_match (IsNodes levels start) (IsNodesRefused levels start) (IsLoop start) (IsLoopRefused at start) (nodes start) _ (reads start le left)
         (λ block n. then_match (Turned outer block.1) (Unturned levels outer block.1) (IsLoop start) (IsLoopRefused at start) (turn_at source outer block.1) _ (turn_is levels outer block.1 n.1)
-          (λ turn t.
-            let further = block_forward source block.0 levels start block.1 n.0 in
-            let fits = turn_turns at tags.In block.1 turn t in
-            then_match (IsOther tags.In block.1) (IsOtherRefused at tags.In block.1) (IsLoop start) (IsLoopRefused at start) (else_at source nodes at tags.In turn.0 turn.1) (λ otherwise. Ok ((block.0, otherwise.0), otherwise.1))
-            (else_is at tags.In block.1 turn.0 turn.1 fits (λ arg. no_elif turn.0 arg fits) (turn_stands outer block.1 turn t) (omega (arith, left, further)))
-            (λ otherwise o. (block.1, o.0, n.0, o.1, o.2))
-            (λ refusal r. (r.0, inr (block.0, block.1, n.0, r.1))))
-          (λ refusal u. (u.0, inl (behind_block source levels (Some outer) block.0 start block.1 refusal n.0 u.1))))
+        (λ turn t.
+        let further = block_forward source block.0 levels start block.1 n.0 in
+        let fits = turn_turns at tags.In block.1 turn t in
+        then_match (IsOther tags.In block.1) (IsOtherRefused at tags.In block.1) (IsLoop start) (IsLoopRefused at start) (else_at source nodes at tags.In turn.0 turn.1) (λ otherwise. Ok ((block.0, otherwise.0), otherwise.1))
+        (else_is at tags.In block.1 turn.0 turn.1 fits (λ arg. no_elif turn.0 arg fits) (turn_stands outer block.1 turn t) (omega (arith, left, further)))
+        (λ otherwise o. (block.1, o.0, n.0, o.1, o.2))
+        (λ refusal r. (r.0, inr (block.0, block.1, n.0, r.1))))
+        (λ refusal u. (u.0, inl (behind_block source levels (Some outer) block.0 start block.1 refusal n.0 u.1))))
         (λ refusal r. (r.0, inl (r.1 (Some outer))))
 
     -- ---- arms
@@ -240,19 +240,19 @@ module _ (spelled : ReadIsSpelled) (says : ReadsParts) (source : List ℕ) (text
         let ahead = stands_forward source (head arg) place start h in
         then_match (IsNodes levels start) (IsNodesRefused levels start) (HaveArm head place) (IsInsideRefused at) (nodes start) _ (reads start ahead.1.0 left)
         (λ block n. then_match (Turned outer block.1) (Unturned levels outer block.1) (HaveArm head place) (IsInsideRefused at) (turn_at source outer block.1) _ (turn_is levels outer block.1 n.1)
-          (λ turn t.
-            let new = snoc_arm front place arg block.0 in
-            let done = done_arms source front new levels at place arg block.0 start block.1 refl are s n.0 in
-            let further = block_forward source block.0 levels start block.1 n.0 in
-            then_match (AreRead pieces.Elif block.1) (IsInsideRefused at) (HaveArm head place) (IsInsideRefused at) (rest_at source nodes at (arms_at source nodes at k block.1) turn.0 turn.1) (λ rest. Ok ((arm place arg block.0 rest.0.0, rest.0.1), rest.1))
-            (rest_is at block.1 new done.0 done.1 (arms_at source nodes at k block.1)
-              (λ own begin stand.
-                let beyond = stands_forward source (pieces.Elif own) block.1 begin stand in
-                arms_is at k new pieces.Elif block.1 own begin done.1 (next_tag source front new place arg block.0 own block.1 begin refl stand) stand (omega (arith, left, further, beyond.0)) (omega (arith, few, further, beyond.0)))
-              turn.0 turn.1 (turn_turns at tags.If block.1 turn t) (turn_stands outer block.1 turn t) (omega (arith, left, further)))
-            (λ rest r. (tt, (r.0, r.1, (refl, start, block.1, h, n.0, r.2), r.3, r.4)))
-            (λ refusal r. r))
-          (λ refusal u. (u.0, in_arm source levels at front arg place start refusal are s (behind_block source levels (Some outer) block.0 start block.1 refusal n.0 u.1))))
+        (λ turn t.
+        let new = snoc_arm front place arg block.0 in
+        let done = done_arms source front new levels at place arg block.0 start block.1 refl are s n.0 in
+        let further = block_forward source block.0 levels start block.1 n.0 in
+        then_match (AreRead pieces.Elif block.1) (IsInsideRefused at) (HaveArm head place) (IsInsideRefused at) (rest_at source nodes at (arms_at source nodes at k block.1) turn.0 turn.1) (λ rest. Ok ((arm place arg block.0 rest.0.0, rest.0.1), rest.1))
+        (rest_is at block.1 new done.0 done.1 (arms_at source nodes at k block.1)
+        (λ own begin stand.
+        let beyond = stands_forward source (pieces.Elif own) block.1 begin stand in
+        arms_is at k new pieces.Elif block.1 own begin done.1 (next_tag source front new place arg block.0 own block.1 begin refl stand) stand (omega (arith, left, further, beyond.0)) (omega (arith, few, further, beyond.0)))
+        turn.0 turn.1 (turn_turns at tags.If block.1 turn t) (turn_stands outer block.1 turn t) (omega (arith, left, further)))
+        (λ rest r. (tt, (r.0, r.1, (refl, start, block.1, h, n.0, r.2), r.3, r.4)))
+        (λ refusal r. r))
+        (λ refusal u. (u.0, in_arm source levels at front arg place start refusal are s (behind_block source levels (Some outer) block.0 start block.1 refusal n.0 u.1))))
         (λ refusal r. (r.0, in_arm source levels at front arg place start refusal are s (r.1 (Some outer))))
 
   -- ---- nodes
@@ -322,22 +322,22 @@ module _ (spelled : ReadIsSpelled) (says : ReadsParts) (source : List ℕ) (text
         then_match (IsNode levels at) (IsNodeRefused levels at) (IsNodes levels at) (IsNodesRefused levels at) (node_from source nodes fuel levels at piece part.end) (λ node. nodes levels node.1 >>= λ rest. Ok (more node.0 rest.0, rest.1))
         (node_is levels at piece part.end (part, is, p, refl) (begins_node part.kind piece p.1 e) (let forward = is.forward in omega (arith, left, forward)))
         (λ node i.
-          let forward = item_forward source node.0 levels at node.1 i in
-          then_match (IsNodes levels node.1) (IsNodesRefused levels node.1) (IsNodes levels at) (IsNodesRefused levels at) (nodes levels node.1) (λ rest. Ok (more node.0 rest.0, rest.1))
-          (rightly levels node.1 forward.1.0 (omega (arith, left, forward.0)))
-          (λ rest n. ((node.1, i, n.0), n.1))
-          (λ refusal r. (r.0, λ outer. let h = r.1 outer in (more node.0 h.0, h.1, (node.1, i, h.2), h.3))))
+        let forward = item_forward source node.0 levels at node.1 i in
+        then_match (IsNodes levels node.1) (IsNodesRefused levels node.1) (IsNodes levels at) (IsNodesRefused levels at) (nodes levels node.1) (λ rest. Ok (more node.0 rest.0, rest.1))
+        (rightly levels node.1 forward.1.0 (omega (arith, left, forward.0)))
+        (λ rest n. ((node.1, i, n.0), n.1))
+        (λ refusal r. (r.0, λ outer. let h = r.1 outer in (more node.0 h.0, h.1, (node.1, i, h.2), h.3))))
         (λ refusal r. (r.0, λ outer. (none, at, refl, r.1 outer)))
 
     nodes_next : (levels at : ℕ) → length source ≤ at + suc fuel → (o : Option SourcePart) → IsNextPart at o → MatchResult (nodes_from source nodes fuel levels at o) (IsNodes levels at) (IsNodesRefused levels at)
     nodes_next levels at left None e = (refl, inl e)
     nodes_next levels at left (Some part) is = (elim (ends_block part.kind) as (λ t. ends_block part.kind ≡ t
         → MatchResult (if t then Ok (none, at) else (said at part.kind >>= λ piece. node_from source nodes fuel levels at piece part.end >>= λ node. nodes levels node.1 >>= λ rest. Ok (more node.0 rest.0, rest.1))) (IsNodes levels at) (IsNodesRefused levels at)) [
-      | true ↦ λ e. (refl, inr (part, is, e))
-      | false ↦ λ e. then_match (IsPiece part.kind) (IsUnsaid at part.kind) (IsNodes levels at) (IsNodesRefused levels at) (said at part.kind) _ (said_is at part.kind)
-          (one_and_rest levels at part is e left)
-          (λ refusal u. (u.0, λ outer. (none, at, refl, now levels source outer refusal at (no_piece source levels outer part at refusal is (no_stray outer part.kind e) u.1))))
-    ]) refl
+          | true ↦ λ e. (refl, inr (part, is, e))
+          | false ↦ λ e. then_match (IsPiece part.kind) (IsUnsaid at part.kind) (IsNodes levels at) (IsNodesRefused levels at) (said at part.kind) _ (said_is at part.kind)
+              (one_and_rest levels at part is e left)
+              (λ refusal u. (u.0, λ outer. (none, at, refl, now levels source outer refusal at (no_piece source levels outer part at refusal is (no_stray outer part.kind e) u.1))))
+        ]) refl
 
   nodes_are : (fuel : ℕ) → Rightly fuel (nodes_at source fuel)
   unfolding nodes_at
@@ -370,13 +370,13 @@ module _ (spelled : ReadIsSpelled) (says : ReadsParts) (source : List ℕ) (text
   unfolding template_at
   template_is fuel le = (elim (nat_lt 262144 (length source)) as (λ t. nat_lt 262144 (length source) ≡ t
       → MatchResult (if t then Err (refusals.TooLarge 262144) else (nodes_at source fuel 64 0 >>= whole source)) (Reads source) IsRightRefusal) [
-    | true ↦ λ e. let large : 262144 < length source = grind (arith, nat_tests) in ((refl, large), λ r. cc)
-    | false ↦ λ e.
-        let small : length source ≤ 262144 = grind (arith, nat_tests) in
-        then_match (IsNodes 64 0) (IsNodesRefused 64 0) (Reads source) IsRightRefusal (nodes_at source fuel 64 0) (whole source) (nodes_are fuel 64 0 (omega arith) (omega (arith, le)))
-        (whole_is small)
-        (λ refusal r. (refuses source refusal small (r.1 None), r.0))
-  ]) refl
+        | true ↦ λ e. let large : 262144 < length source = grind (arith, nat_tests) in ((refl, large), λ r. cc)
+        | false ↦ λ e.
+            let small : length source ≤ 262144 = grind (arith, nat_tests) in
+            then_match (IsNodes 64 0) (IsNodesRefused 64 0) (Reads source) IsRightRefusal (nodes_at source fuel 64 0) (whole source) (nodes_are fuel 64 0 (omega arith) (omega (arith, le)))
+            (whole_is small)
+            (λ refusal r. (refuses source refusal small (r.1 None), r.0))
+      ]) refl
 
   tree_answered : OneTree → RefusedIsNoTree → (tree : Items) → Reads source tree → (answer : Answer Items) → MatchResult answer (Reads source) IsRightRefusal → answer ≡ Ok tree
   tree_answered one never tree h (Ok other) m = ap (λ (t : Items). let answer : Answer Items = Ok t in answer) (one source other tree m h)

@@ -3,7 +3,8 @@
 //! DTML is Zope's Document Template Markup Language (Zope Book, "Basic DTML" and its appendix "DTML Reference").
 //! `specs/Table` says which attributes a tag may have, `specs/Pieces` what a part of a source says by itself,
 //! `specs/Grammar` which tree a source is, and `specs/Refusals` which refusal comes first where it is none.
-//! `specs/PieceReading` has what a part says as a function of it, and `specs/ViewLaws` what nodes with blocks are seen as.
+//! `specs/TreeReading` has the template or the refusal as a function of the source, over `specs/PieceReading`, which has
+//! what a part says; `specs/ViewLaws` has what nodes with blocks are seen as.
 #![tactic(auto)]
 
 mod block;
