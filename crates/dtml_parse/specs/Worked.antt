@@ -7,7 +7,7 @@ use Rattle.dtml_expr.specs.Trees as exprs
 use Rattle.dtml_expr.specs.declared.expr.Order.TheVariants.{Lt}
 use Rattle.dtml_expr.specs.Tokens.{token_at}
 use Rattle.dtml_expr.specs.Reading.{head_at, dots_at, item_at, chain, chain_at, comparison_at, and_at, or_at, not_at, tokens_at, expression_at}
-use Rattle.dtml_parse.specs.Trees.{Arg, Name, Expression, Marks, Item, Items, Plain, Var, Call, If, Unless, Loop, With, Let, Comment, none, more, last, arm, absent, present}
+use Rattle.dtml_parse.specs.Trees.{Name, Expression, Marks, Item, Items, Plain, Var, Call, If, Unless, Loop, With, Let, Comment, none, more, last, arm, absent, present}
 use Rattle.dtml_parse.specs.Table.{only_html_quote}
 use Rattle.dtml_parse.specs.TreeReading.{◌>>=◌, arms_at, nodes_at, whole, template_at, template}
 
@@ -19,20 +19,17 @@ block (item ∷ rest) = more item (block rest)
 abbrev text : List ℕ → Items
 text bytes = block (Plain bytes ∷ [])
 
-abbrev name : List ℕ → Arg
-name bytes = Name bytes
-
 abbrev unmarked : Marks
 unmarked = record only_html_quote { html_quote = false }
 
 -- ---- templates
 
 variables : template (codes "Hi <dtml-var x>, &dtml-y.z;!") ≡ Ok (block (
-    Plain (codes "Hi ") ∷ Var 3 (name (codes "x")) unmarked ∷ Plain (codes ", ") ∷ Var 17 (name (codes "y.z")) only_html_quote ∷ Plain (codes "!") ∷ []))
+    Plain (codes "Hi ") ∷ Var 3 (Name (codes "x")) unmarked ∷ Plain (codes ", ") ∷ Var 17 (Name (codes "y.z")) only_html_quote ∷ Plain (codes "!") ∷ []))
 unfolding word_at quotation_at value_at attribute_at next_attribute tag_end attributes_at tag_named tag_at name_at entity_at begins_part plain_len part_at nodes_at template_at
 variables = refl
 
-shown : template (codes "<dtml-var x upper size=12 etc=\"..\">") ≡ Ok (block (Var 0 (name (codes "x")) (record unmarked { upper = true; size = Some 12; etc = Some (codes "..") }) ∷ []))
+shown : template (codes "<dtml-var x upper size=12 etc=\"..\">") ≡ Ok (block (Var 0 (Name (codes "x")) (record unmarked { upper = true; size = Some 12; etc = Some (codes "..") }) ∷ []))
 unfolding word_at quotation_at value_at attribute_at next_attribute tag_end attributes_at tag_named tag_at name_at entity_at begins_part plain_len part_at nodes_at template_at
 shown = refl
 
@@ -41,17 +38,17 @@ unfolding word_at quotation_at value_at attribute_at next_attribute tag_end attr
 expression = refl
 
 conditions : template (codes "<dtml-if a>x<dtml-elif b>y<dtml-else>z</dtml-if>")
-    ≡ Ok (block (If (arm 0 (name (codes "a")) (text (codes "x")) (arm 12 (name (codes "b")) (text (codes "y")) last)) (present (text (codes "z"))) ∷ []))
+    ≡ Ok (block (If (arm 0 (Name (codes "a")) (text (codes "x")) (arm 12 (Name (codes "b")) (text (codes "y")) last)) (present (text (codes "z"))) ∷ []))
 unfolding word_at quotation_at value_at attribute_at next_attribute tag_end attributes_at tag_named tag_at name_at entity_at begins_part plain_len part_at arms_at nodes_at template_at
 conditions = refl
 
 loops : template (codes "<dtml-in a reverse>x</dtml-in><dtml-in b>y<dtml-else></dtml-in>")
-    ≡ Ok (block (Loop 0 (name (codes "a")) true false (text (codes "x")) absent ∷ Loop 30 (name (codes "b")) false false (text (codes "y")) (present none) ∷ []))
+    ≡ Ok (block (Loop 0 (Name (codes "a")) true false (text (codes "x")) absent ∷ Loop 30 (Name (codes "b")) false false (text (codes "y")) (present none) ∷ []))
 unfolding word_at quotation_at value_at attribute_at next_attribute tag_end attributes_at tag_named tag_at name_at entity_at begins_part plain_len part_at nodes_at template_at
 loops = refl
 
 nested : template (codes "<dtml-with a><dtml-let b=c><dtml-unless b>x</dtml-unless></dtml-let></dtml-with><dtml-comment></dtml-comment>")
-    ≡ Ok (block (With 0 (name (codes "a")) (block (Let 13 (record { name = codes "b"; arg = name (codes "c") } ∷ []) (block (Unless 27 (name (codes "b")) (text (codes "x")) ∷ [])) ∷ [])) ∷ Comment 80 none ∷ []))
+    ≡ Ok (block (With 0 (Name (codes "a")) (block (Let 13 (record { name = codes "b"; arg = Name (codes "c") } ∷ []) (block (Unless 27 (Name (codes "b")) (text (codes "x")) ∷ [])) ∷ [])) ∷ Comment 80 none ∷ []))
 unfolding word_at quotation_at value_at attribute_at next_attribute tag_end attributes_at tag_named tag_at name_at entity_at begins_part plain_len part_at nodes_at template_at
 nested = refl
 
