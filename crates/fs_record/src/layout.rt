@@ -1,11 +1,12 @@
 //! The numbers of the format.
 //!
-//! FileStorage format notes, "transaction record" and "data record". Places and lengths are in bytes.
+//! FileStorage format notes, "transaction record" and "data record". Lengths are in bytes, places in bytes from the start
+//! of the head that has the field. Definitions in `specs/` have their own numbers, with which the contracts compare these.
 
-/// What a file begins with, `FS21`.
+/// The length of what a file begins with, `FS21`.
 pub const MAGIC_LEN: usize = 4;
 
-/// The most that a file may have.
+/// The greatest length of a file.
 pub const MAX_LENGTH: u64 = 281_474_976_710_655;
 
 /// Where the record's length stands in the head of a transaction record, behind the id.
@@ -23,13 +24,13 @@ pub(crate) const DESCRIPTION_AT: usize = 19;
 /// Where the length of the extension stands in the head of a transaction record.
 pub(crate) const EXTENSION_AT: usize = 21;
 
-/// The head of a transaction record, which ends before its texts.
+/// The length of the head of a transaction record, behind which its texts stand.
 pub const TXN_HEAD_LEN: usize = 23;
 
-/// The second length, which ends a transaction record and which the first doesn't count.
+/// The length of what ends a transaction record: its length once more, which doesn't count these bytes.
 pub const TAIL_LEN: usize = 8;
 
-/// What a transaction record has beside its texts and data records.
+/// The length of a transaction record without texts and data records.
 pub const BARE_TXN_LEN: usize = TXN_HEAD_LEN + TAIL_LEN;
 
 /// Where the transaction's id stands in the head of a data record, behind the object's.
@@ -47,11 +48,11 @@ pub(crate) const VERSION_AT: usize = 32;
 /// Where the length of the data stands in the head of a data record.
 pub const DATA_LENGTH_AT: usize = 34;
 
-/// The head of a data record, which ends before its data or back pointer.
+/// The length of the head of a data record, behind which its data or a back pointer stands.
 pub const DATA_HEAD_LEN: usize = 42;
 
-/// A back pointer.
+/// The length of a back pointer.
 pub const BACK_LEN: usize = 8;
 
-/// A data record that has a back pointer.
+/// The length of a data record that has a back pointer.
 pub const BACK_RECORD_LEN: usize = DATA_HEAD_LEN + BACK_LEN;
