@@ -1,13 +1,13 @@
 use zbase::{Oid, Tid};
 
-/// The head of a transaction record, 23 bytes.
+/// The head of a transaction record.
 ///
 /// FileStorage format notes, "transaction record".
 #[derive(Clone, Copy, Debug, PartialEq, Eq)]
 pub struct TxnHead {
     /// The transaction's id.
     pub tid: Tid,
-    /// The record's size in bytes less 8, which stands again at its end.
+    /// The record's size in bytes less its tail, which stands again at its end.
     pub length: u64,
     /// Space for committed, `p` for committed and packed, `u` for undone in the old manner, `c` for not
     /// finished.
@@ -20,7 +20,7 @@ pub struct TxnHead {
     pub extension: u16,
 }
 
-/// The head of a data record, 42 bytes.
+/// The head of a data record.
 ///
 /// FileStorage format notes, "data record".
 #[derive(Clone, Copy, Debug, PartialEq, Eq)]

@@ -11,7 +11,9 @@ mod body;
 mod damage;
 mod heads;
 mod laws;
+mod layout;
 mod reading;
+mod sizes;
 mod writing;
 
 pub use body::{Body, Item, TxnTexts};
@@ -21,5 +23,10 @@ pub use laws::{
     file_is_history, one_more, one_opening, one_spelling, reading_finds, records_are_revisions,
     records_lead_back, written_behind,
 };
+pub use layout::{
+    BACK_LEN, BACK_RECORD_LEN, BARE_TXN_LEN, DATA_HEAD_LEN, DATA_LENGTH_AT, MAGIC_LEN, MAX_LENGTH,
+    STATUS_AT, TAIL_LEN, TXN_HEAD_LEN,
+};
 pub use reading::{read_data_head, read_txn_head};
+pub use sizes::{record_size, texts_end, texts_size};
 pub use writing::write_txn;

@@ -5,6 +5,8 @@ ghost use Rattle.fs_record.specs.Sizes.{record_size, records_size, texts_size};
 ghost use Rattle.fs_record.specs.Spelling.{txn_head, data_head, data_spelling, texts_spelling, inside_spelling, block_spelling, Records};
 ghost use Rattle.fs_record.specs.Written.{data_of, records_of, transaction, HasBody, FitsItem, IsWritable};
 
+use crate::layout::{DATA_HEAD_LEN, TAIL_LEN, TXN_HEAD_LEN};
+use crate::sizes::txn_size;
 use crate::{Body, DataHead, Item, TxnHead, TxnTexts};
 use std::mem;
 use zbase::{Bytes, Memory, Tid};
@@ -47,9 +49,9 @@ fn put_u16(out: &mut Vec<u8>, n: u16)
 }
 
 fn put_txn_head(out: &mut Vec<u8>, h: &TxnHead)
-    requires { length out.old.items + 23 ≤ vec_capacity out.old }
+    requires { length out.old.items + TXN_HEAD_LEN ≤ vec_capacity out.old }
     ensures items { out.new.items ≡ out.old.items ++ txn_head h.now }
-    ensures len { length out.new.items ≡ length out.old.items + 23 }
+    ensures len { length out.new.items ≡ length out.old.items + TXN_HEAD_LEN }
     ensures fits { FitsTxnHead h.now }
     ensures capacity { vec_capacity out.old ≤ vec_capacity out.new }
 {
@@ -62,9 +64,9 @@ fn put_txn_head(out: &mut Vec<u8>, h: &TxnHead)
 }
 
 fn put_data_head(out: &mut Vec<u8>, h: &DataHead)
-    requires { length out.old.items + 42 ≤ vec_capacity out.old }
+    requires { length out.old.items + DATA_HEAD_LEN ≤ vec_capacity out.old }
     ensures items { out.new.items ≡ out.old.items ++ data_head h.now }
-    ensures len { length out.new.items ≡ length out.old.items + 42 }
+    ensures len { length out.new.items ≡ length out.old.items + DATA_HEAD_LEN }
     ensures fits { FitsDataHead h.now }
     ensures capacity { vec_capacity out.old ≤ vec_capacity out.new }
 {
@@ -128,35 +130,6 @@ fn put_texts(out: &mut Vec<u8>, texts: &TxnTexts)
     put(out, texts.extension.as_slice());
 }
 
-fn record_len(item: &Item) -> usize
-    requires { record_size item.now < 2 ^ 64 }
-    ensures { result ≡ record_size item.now }
-{
-    match &item.body {
-        Body::Full(bytes) => 42 + bytes.len(),
-        Body::Back(_) => 42 + 8,
-    }
-}
-
-fn records_len(items: &[Item]) -> usize
-    requires { records_size items.now < 2 ^ 64 }
-    ensures { result ≡ records_size items.now }
-{
-    let mut size = 0;
-    for item in items {
-        size += record_len(item);
-    }
-    size
-}
-
-fn txn_size(texts: &TxnTexts, items: &[Item]) -> usize
-    requires { 31 + texts_size texts.now + records_size items.now < 2 ^ 64 }
-    ensures { result ≡ 31 + texts_size texts.now + records_size items.now }
-{
-    let texts_len = texts.user.len() + texts.description.len() + texts.extension.len();
-    23 + texts_len + records_len(items) + 8
-}
-
 // The transaction behind the bytes. All its room is taken before the first byte.
 #[tactic(auto, unfolding(crate::specs::Spelling::block_spelling))]
 fn append_txn(
@@ -178,7 +151,7 @@ fn append_txn(
 {
     let size = txn_size(texts, items);
     out.reserve(size)?;
-    let length = (size - 8) as u64;
+    let length = (size - TAIL_LEN) as u64;
     let head = TxnHead {
         tid,
         length,

@@ -11,6 +11,7 @@ ghost use Rattle.fs_scan.specs.Checked.{Checks};
 ghost use Rattle.fs_scan.specs.Present.{AllStand, ArePlaces, back_in, means_value};
 
 use crate::opening::{ScanRefusal, read_whole, scan_bytes};
+use fs_record::{BACK_RECORD_LEN, DATA_HEAD_LEN, DATA_LENGTH_AT};
 use std::alloc::Global;
 use zbase::{Row, Tid, u64_at};
 use zdisk::Disk;
@@ -37,14 +38,14 @@ pub struct Checked {
 fn back_of(bytes: &[u8]) -> Option<u64>
     ensures { (d : Data) (more : List ℕ) → FitsData d → bytes.now ≡ data_spelling d ++ more → result ≡ back_in d.body }
 {
-    // a back pointer ends a record of 50 bytes, so one with less behind it has data
-    if bytes.len() < 50 {
+    // a back pointer ends a record of so many bytes, so one with less behind it has data
+    if bytes.len() < BACK_RECORD_LEN {
         return None;
     }
-    if u64_at(bytes, 34) != 0 {
+    if u64_at(bytes, DATA_LENGTH_AT) != 0 {
         return None;
     }
-    Some(u64_at(bytes, 42))
+    Some(u64_at(bytes, DATA_HEAD_LEN))
 }
 
 /// Whether the data record at this place means a value: it has data, or points back to a record that means one.

@@ -1,7 +1,7 @@
 ghost use Rattle.std.specs.Prelude.{◌≡◌, ◌+◌, ◌<◌, ◌≤◌, ◌==◌, ◌^◌, length, drop, if◌then◌else◌};
 ghost use Rattle.fs_scan.specs.Extent.{PartsSay};
 
-use fs_record::{RecordRefusal, TxnHead, read_txn_head};
+use fs_record::{RecordRefusal, TAIL_LEN, TxnHead, read_txn_head, texts_end};
 use zbase::{Tid, u64_at};
 
 /// A transaction whose texts lie within it, in bytes from its start.
@@ -14,6 +14,16 @@ pub struct Extent {
     pub long: usize,
     /// The second length.
     pub tail: u64,
+}
+
+impl Extent {
+    /// The transaction's size in bytes, with its second length.
+    pub fn size(&self) -> u64
+        requires { self.now.long + TAIL_LEN < 2 ^ 64 }
+        ensures { result ≡ self.now.long + TAIL_LEN }
+    {
+        self.long as u64 + TAIL_LEN as u64
+    }
 }
 
 /// What may stand behind a file's transactions.
@@ -45,11 +55,11 @@ pub fn whole_at(rest: &[u8]) -> Parts
     if head.status == 0 {
         return Parts::End;
     }
-    if head.length > (rest.len() - 8) as u64 {
+    if head.length > (rest.len() - TAIL_LEN) as u64 {
         return Parts::End;
     }
     let long = head.length as usize;
-    let from = 23 + head.user as usize + head.description as usize + head.extension as usize;
+    let from = texts_end(&head);
     if long < from {
         return Parts::Bad;
     }

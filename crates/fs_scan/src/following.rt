@@ -11,7 +11,7 @@ ghost use Rattle.fs_scan.specs.Present.{AllStand};
 
 use crate::ScanRefusal;
 use crate::window::read_range;
-use fs_record::{Body, DataHead, read_data_head};
+use fs_record::{BACK_LEN, Body, DATA_HEAD_LEN, DataHead, read_data_head};
 use std::alloc::Global;
 use zbase::{Bytes, Failed, Value, u64_at};
 use zdisk::Disk;
@@ -26,10 +26,10 @@ pub fn read_head<D: Disk>(disk: &mut D, len: u64, at: u64) -> Result<Option<Data
     ensures counts { Counts (D.counter disk.old) (D.counter disk.new) (IsErr result) }
 {
     let left = len.saturating_sub(at);
-    if left < 42 {
+    if left < DATA_HEAD_LEN as u64 {
         return Ok(None);
     }
-    let mut bytes = [0u8; 42];
+    let mut bytes = [0u8; DATA_HEAD_LEN];
     disk.read_at(at, &mut bytes)?;
     match read_data_head(&bytes) {
         Ok(head) => Ok(Some(head)),
@@ -54,14 +54,18 @@ fn body_behind<D: Disk>(
     ensures counts { Counts (D.counter disk.old) (D.counter disk.new) (IsErrOf result ScanRefusal.Disk) }
 {
     let left = len.saturating_sub(at);
-    if left < 42 {
+    if left < DATA_HEAD_LEN as u64 {
         return Ok(None);
     }
-    let size = if head.length == 0 { 8 } else { head.length };
-    if left - 42 < size {
+    let size = if head.length == 0 {
+        BACK_LEN as u64
+    } else {
+        head.length
+    };
+    if left - (DATA_HEAD_LEN as u64) < size {
         return Ok(None);
     }
-    let behind = read_range(alloc, disk, at + 42, size)?;
+    let behind = read_range(alloc, disk, at + DATA_HEAD_LEN as u64, size)?;
     if head.length == 0 {
         return Ok(Some(Body::Back(u64_at(&behind, 0))));
     }

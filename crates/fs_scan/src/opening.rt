@@ -12,7 +12,7 @@ use crate::places::Places;
 use crate::step::{Step, take_one};
 use crate::walk::Walk;
 use crate::window::{read_range, read_window};
-use fs_record::Damage;
+use fs_record::{Damage, MAGIC_LEN, TAIL_LEN};
 use std::alloc::{AllocError, Global};
 use zbase::{Failed, Memory, Oid, Rows, Tid};
 use zdisk::Disk;
@@ -87,10 +87,10 @@ struct Tally {
 impl Tally {
     /// That of no transaction: it ends behind the magic.
     fn new() -> Tally
-        ensures { result ≡ record { at = 4; last = 0; floor = 0; count = 0 } }
+        ensures { result ≡ record { at = MAGIC_LEN; last = 0; floor = 0; count = 0 } }
     {
         Tally {
-            at: 4,
+            at: MAGIC_LEN as u64,
             last: Tid(0),
             floor: Tid(0),
             count: 0,
@@ -99,9 +99,9 @@ impl Tally {
 
     /// That behind one transaction more. One undone in the old manner doesn't count, and its id isn't looked at.
     fn behind(self, extent: &Extent) -> Tally
-        requires place { self.at + extent.now.long + 8 < 2 ^ 64 }
+        requires place { self.at + extent.now.long + TAIL_LEN < 2 ^ 64 }
         requires few { self.count ≤ self.at }
-        ensures at { result.at ≡ self.at + (extent.now.long + 8) }
+        ensures at { result.at ≡ self.at + (extent.now.long + TAIL_LEN) }
         ensures last { result.last ≡ (if extent.now.head.status == 117 then self.last else extent.now.head.tid) }
         ensures floor { result.floor ≡ (if extent.now.head.status == 112 then extent.now.head.tid else self.floor) }
         ensures count { result.count ≡ (if extent.now.head.status == 117 then self.count else self.count + 1) }
@@ -110,7 +110,7 @@ impl Tally {
         let status = extent.head.status;
         let counts = if status == b'u' { 0 } else { 1 };
         Tally {
-            at: self.at + extent.long as u64 + 8,
+            at: self.at + extent.size(),
             last: last_behind(extent, self.last),
             floor: if status == b'p' {
                 extent.head.tid

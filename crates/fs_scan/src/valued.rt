@@ -16,6 +16,7 @@ use crate::extent::Extent;
 use crate::following::follow;
 use crate::texts::copy_texts;
 use crate::{OidValue, OidValues, ScanRefusal, Whole};
+use fs_record::DATA_HEAD_LEN;
 use std::alloc::Global;
 use zbase::{Bytes, Value};
 use zdisk::Disk;
@@ -28,8 +29,8 @@ fn value_at_front<D: Disk>(
     rest: &[u8],
     found: &Found,
 ) -> Result<Value, ScanRefusal>
-    requires within { (43 ≤ found.now.size) × (found.now.size ≤ length rest.now) }
-    requires full { 0 < found.now.head.length → found.now.size ≡ 42 + found.now.head.length }
+    requires within { (DATA_HEAD_LEN < found.now.size) × (found.now.size ≤ length rest.now) }
+    requires full { 0 < found.now.head.length → found.now.size ≡ DATA_HEAD_LEN + found.now.head.length }
     requires whole { ForSome (D.told disk.old) (λ told. len ≡ length (content told)) }
     ensures value { IfOk result (λ value. IfSome (D.told disk.old) (λ told. (records : List Earlier) → AllStand (content told) records → has_body (rows records) (data_in found.now rest.now) ≡ true → value ≡ value_of records (data_in found.now rest.now).body)) }
     ensures undamaged { (kind : Kind) (place : ℕ) → IsErrOf result (ScanRefusal.Damaged kind place) → ⊥ }
@@ -38,7 +39,7 @@ fn value_at_front<D: Disk>(
     ensures counts { Counts (D.counter disk.old) (D.counter disk.new) (IsErrOf result ScanRefusal.Disk) }
 {
     if found.head.length != 0 {
-        return Ok(Some(Bytes::from_slice(alloc, &rest[42..found.size])?));
+        return Ok(Some(Bytes::from_slice(alloc, &rest[DATA_HEAD_LEN..found.size])?));
     }
     if found.back == 0 {
         return Ok(None);

@@ -19,7 +19,7 @@ use crate::step::{Step, take_one};
 use crate::valued::read_whole_in;
 use crate::window::{read_range, read_window};
 use crate::{ScanRefusal, Whole};
-use fs_record::Damage;
+use fs_record::{Damage, MAGIC_LEN};
 use std::alloc::Global;
 use std::marker::Model;
 use zbase::{Memory, Oid, Rows, Tid};
@@ -68,7 +68,7 @@ impl Walk {
     pub(crate) fn enter<D: Disk>(&mut self, disk: &mut D, len: u64) -> Result<u64, ScanRefusal>
         requires { ForSome (D.told disk.old) (λ told. len ≡ length (content told)) }
         ensures entered { IfOk result (λ at. (at ≡ place_on self.old.place) × (self.new ≡ standing at self.old)) }
-        ensures magic { IfOk result (λ at. self.old.place ≡ None → IfSome (D.told disk.old) (λ told. content told ≡ magic ++ drop 4 (content told))) }
+        ensures magic { IfOk result (λ at. self.old.place ≡ None → IfSome (D.told disk.old) (λ told. content told ≡ magic ++ drop MAGIC_LEN (content told))) }
         ensures stays { IfErr result (λ _. self.new ≡ self.old) }
         ensures damaged { (kind : Kind) (place : ℕ) → IsErrOf result (ScanRefusal.Damaged kind place) → IfSome (D.told disk.old) (λ told. Damaged (content told) place kind) }
         ensures same { D.told disk.new ≡ D.told disk.old }
@@ -78,12 +78,13 @@ impl Walk {
         if let Some(at) = self.at {
             return Ok(at);
         }
-        let front = read_range(self.alloc(), disk, 0, len.min(4))?;
+        let front = read_range(self.alloc(), disk, 0, len.min(MAGIC_LEN as u64))?;
         if !has_magic(&front) {
             return Err(ScanRefusal::Damaged(Damage::BadMagic, 0));
         }
-        self.at = Some(4);
-        Ok(4)
+        let at = MAGIC_LEN as u64;
+        self.at = Some(at);
+        Ok(at)
     }
 
     /// Takes what the window shows at the walk's place, and goes behind it where it is a right transaction. For want of
@@ -103,7 +104,7 @@ impl Walk {
         };
         if let Step::Right(extent) = &step {
             self.last = last_behind(extent, self.last);
-            self.at = Some(at + extent.long as u64 + 8);
+            self.at = Some(at + extent.size());
         }
         Ok(step)
     }
@@ -177,7 +178,7 @@ impl Walk {
             if extent.head.status != b'u' {
                 return self.whole_in(disk, len, &window, at, &extent);
             }
-            at += extent.long as u64 + 8;
+            at += extent.size();
         }
     }
 }

@@ -7,7 +7,7 @@ ghost use Rattle.fs_record.specs.Opening.{is_end};
 ghost use Rattle.fs_scan.specs.Windows.{Shows};
 
 use crate::ScanRefusal;
-use fs_record::read_txn_head;
+use fs_record::{TAIL_LEN, TXN_HEAD_LEN, read_txn_head};
 use std::alloc::Global;
 use zdisk::Disk;
 
@@ -34,19 +34,19 @@ pub fn read_range<D: Disk>(
 // How many bytes show what stands behind this head of a transaction, where so many are left from its start on; none
 // where the head itself shows that it is a torn rest.
 fn window_size(head: &[u8], left: u64) -> Option<u64>
-    requires head { length head.now ≡ 23 }
-    requires left { 23 ≤ left }
-    ensures within { IfSome result (λ size. (23 ≤ size) × (size ≤ left)) }
-    ensures whole { IfSome result (λ size. (behind : List ℕ) → 23 + length behind ≡ size → is_end (head.now ++ behind) ≡ false) }
-    ensures torn { IfNone result ((behind : List ℕ) → 23 + length behind ≡ left → is_end (head.now ++ behind) ≡ true) }
+    requires head { length head.now ≡ TXN_HEAD_LEN }
+    requires left { TXN_HEAD_LEN ≤ left }
+    ensures within { IfSome result (λ size. (TXN_HEAD_LEN ≤ size) × (size ≤ left)) }
+    ensures whole { IfSome result (λ size. (behind : List ℕ) → TXN_HEAD_LEN + length behind ≡ size → is_end (head.now ++ behind) ≡ false) }
+    ensures torn { IfNone result ((behind : List ℕ) → TXN_HEAD_LEN + length behind ≡ left → is_end (head.now ++ behind) ≡ true) }
 {
     let Ok(head) = read_txn_head(head) else {
         unreachable!();
     };
-    if head.status == b'c' || head.status == 0 || head.length > left - 8 {
+    if head.status == b'c' || head.status == 0 || head.length > left - TAIL_LEN as u64 {
         return None;
     }
-    Some((head.length + 8).max(23))
+    Some((head.length + TAIL_LEN as u64).max(TXN_HEAD_LEN as u64))
 }
 
 /// What shows what stands at a place in a disk's file of this length: the transaction that stands there, or all that
@@ -66,10 +66,10 @@ pub fn read_window<D: Disk>(
     ensures counts { Counts (D.counter disk.old) (D.counter disk.new) (IsErrOf result ScanRefusal.Disk) }
 {
     let left = len.saturating_sub(at);
-    if left < 23 {
+    if left < TXN_HEAD_LEN as u64 {
         return read_range(alloc, disk, at, left);
     }
-    let head = read_range(alloc, disk, at, 23)?;
+    let head = read_range(alloc, disk, at, TXN_HEAD_LEN as u64)?;
     match window_size(&head, left) {
         Some(size) => read_range(alloc, disk, at, size),
         None => Ok(head),

@@ -34,7 +34,7 @@ use Rattle.fs_store.specs.Moments.{OpensTo}
 use Rattle.fs_store.specs.Placed.{first_at, item_rows, next_with}
 use Rattle.fs_store.specs.Seeing.{SeenIn, SeenOn}
 use Rattle.fs_store.specs.Stores.{most_length}
-use Rattle.fs_store.specs.Verdicts.{greatest_number}
+use Rattle.zbase.specs.Limits.{greatest_number}
 use Rattle.fs_store.proofs.Files.{file_front}
 use Rattle.fs_store.proofs.Images.{opens_before, opens_file, own_image, torn_is_end}
 

@@ -31,7 +31,8 @@ use Rattle.fs_store.specs.Moments.{OpensTo}
 use Rattle.fs_store.specs.Seeing.{SeenIn, SeenOn}
 use Rattle.fs_store.specs.Settled.{IsRight, IsSettled, SettlesAs}
 use Rattle.fs_store.specs.Stores.{Out, most_length}
-use Rattle.fs_store.specs.Verdicts.{IsFree, greatest_number, need_at}
+use Rattle.fs_store.specs.Verdicts.{IsFree, need_at}
+use Rattle.zbase.specs.Limits.{greatest_number}
 use Rattle.fs_store.proofs.Images.{one_image, opens_file, opens_torn, own_image, torn_front}
 
 -- ---- a file that stays

@@ -2,11 +2,12 @@ ghost use Rattle.std.specs.Prelude.{◌≡◌, ◌⊎◌, ◌++◌, ◌+◌, ◌
 ghost use Rattle.std.specs.Result.{is_ok};
 ghost use Rattle.std.specs.Option.{ForSome};
 ghost use Rattle.zbase.specs.Faults.{Counts};
+ghost use Rattle.zbase.specs.Limits.{greatest_number};
 ghost use Rattle.zdisk.specs.Crashes.{Becomes, IsSynced, IsTorn, LeavesFrom};
 ghost use Rattle.zdisk.specs.Disk.{content, counted};
 ghost use Rattle.fs_index.specs.Places.{HasRoom, place_of};
 ghost use Rattle.fs_record.specs.File.{last_place};
-ghost use Rattle.fs_record.specs.Sizes.{record_size, records_size};
+ghost use Rattle.fs_record.specs.Sizes.{records_size};
 ghost use Rattle.fs_record.specs.Spelling.{block_spelling};
 ghost use Rattle.fs_record.specs.Written.{HasBody, IsWritable, transaction};
 ghost use Rattle.fs_scan.specs.Newest.{place_in};
@@ -19,7 +20,7 @@ ghost use Rattle.fs_store.specs.Moments.{OpensTo};
 ghost use Rattle.fs_store.specs.Placed.{first_at, item_rows, next_with};
 ghost use Rattle.fs_store.specs.Seeing.{SeenOn};
 ghost use Rattle.fs_store.specs.Stores.{IsDraft, most_length};
-ghost use Rattle.fs_store.specs.Verdicts.{IsFree, clash_among, greatest_number, validation_at};
+ghost use Rattle.fs_store.specs.Verdicts.{IsFree, clash_among, validation_at};
 ghost use Rattle.fs_store.specs.declared.reads.Seen.{Seen};
 ghost use Rattle.fs_store.specs.declared.refusal.VoteRefusal.{VoteRefusal};
 
@@ -30,13 +31,10 @@ use crate::waiting::Waiting;
 use crate::{LoadRefusal, Seen, VoteRefusal};
 use evaluator::Draft;
 use fs_index::Index;
-use fs_record::{Body, Item, TxnTexts, write_txn};
+use fs_record::{Item, STATUS_AT, TXN_HEAD_LEN, TxnTexts, record_size, texts_size, write_txn};
 use std::alloc::Global;
 use zbase::{Bytes, Failed, Memory, Tid};
 use zdisk::{Disk, append_and_sync, cut_and_sync, overwrite_and_sync};
-
-/// Where the status stands in a transaction record, in bytes from its start.
-pub(crate) const STATUS_AT: u64 = 16;
 
 // Keeps room for each item's object.
 fn reserve_all(index: &mut Index, items: &[Item]) -> Result<(), Memory>
@@ -80,17 +78,6 @@ fn write_behind<D: Disk>(
     Ok(())
 }
 
-// The size of an item's data record.
-fn item_size(item: &Item) -> u64
-    requires { record_size item.now < 2 ^ 64 }
-    ensures { result ≡ record_size item.now }
-{
-    match &item.body {
-        Body::Full(bytes) => 42 + bytes.len() as u64,
-        Body::Back(_) => 50,
-    }
-}
-
 // Puts the places of the items' records, of which the first stands there. Takes no memory.
 fn put_all(index: &mut Index, first: u64, items: &[Item])
     requires room { All (λ item. HasRoom index.old item.oid) items.now }
@@ -100,7 +87,7 @@ fn put_all(index: &mut Index, first: u64, items: &[Item])
     let mut place = first;
     for item in items {
         index.put(item.oid, place);
-        place += item_size(item);
+        place += record_size(item) as u64;
     }
 }
 
@@ -215,7 +202,7 @@ pub(crate) fn finish_on<D: Disk>(
     ensures calls { OnOk result (D.device_calls disk.new ≡ counted (counted (D.device_calls disk.old))) }
     ensures counts { Counts (D.counter disk.old) (D.counter disk.new) (IsErr result) }
 {
-    overwrite_and_sync(disk, known.end + STATUS_AT, b' ')?;
+    overwrite_and_sync(disk, known.end + STATUS_AT as u64, b' ')?;
     know(known, &waiting);
     Ok(())
 }
@@ -228,9 +215,7 @@ fn know(known: &mut Known, waiting: &Waiting)
     ensures count { known.new.count ≡ min (known.old.count + 1) greatest_number }
     ensures index { (o : ℕ) → place_in (place_of known.new.index o) ≡ last_place o (place_in (place_of known.old.index o)) (item_rows (first_at known.old.end waiting.now.texts) waiting.now.items) }
 {
-    let texts = &waiting.texts;
-    let texts_len = texts.user.len() + texts.description.len() + texts.extension.len();
-    let first = known.end + 23 + texts_len as u64;
+    let first = known.end + (TXN_HEAD_LEN + texts_size(&waiting.texts)) as u64;
     put_all(&mut known.index, first, waiting.items.as_slice());
     known.next = next_with(known.next, waiting.items.as_slice());
     known.last = waiting.tid;

@@ -24,7 +24,7 @@ mod voted;
 mod voting;
 mod waiting;
 
-pub use opening::{MAX_LENGTH, OpenRefusal};
+pub use opening::OpenRefusal;
 pub use reads::{Loaded, Seen};
 pub use refusal::{AbortRefusal, FinishRefusal, LoadRefusal, VoteRefusal};
 pub use store::Store;

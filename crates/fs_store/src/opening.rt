@@ -12,20 +12,13 @@ ghost use Rattle.fs_store.specs.FileReads.{Reads, above, of_scan};
 ghost use Rattle.fs_store.specs.Stores.{most_length};
 ghost use Rattle.fs_store.specs.declared.opening.OpenRefusal.TheVariants as refusals;
 
-use crate::committing::STATUS_AT;
 use crate::known::Known;
 use fs_index::Index;
-use fs_record::Damage;
+use fs_record::{Damage, MAX_LENGTH, STATUS_AT, TXN_HEAD_LEN};
 use fs_scan::{ScanRefusal, Scanned, scan};
 use std::alloc::Global;
 use zbase::{Failed, Memory, Oid, Row};
 use zdisk::Disk;
-
-/// The most bytes that a file may have.
-pub const MAX_LENGTH: u64 = 281_474_976_710_655;
-
-/// The bytes of a transaction's head, up to its texts.
-const HEAD_LEN: u64 = 23;
 
 /// Why a store isn't opened.
 #[derive(Clone, Copy, Debug, PartialEq, Eq)]
@@ -136,16 +129,16 @@ fn read_file<D: Disk>(alloc: Global, disk: &mut D) -> Result<FileRead, ScanRefus
 fn stays_torn<D: Disk>(disk: &mut D, end: u64, torn: u64) -> Result<bool, Failed>
     requires rest { ForSome (D.told disk.old) (λ told. (end + torn ≡ length (content told)) × (length (content told) ≤ most_length)) }
     ensures stays { IfOk result (λ stays. IfSome (D.told disk.old) (λ told. (stays ≡ true) ↔ StaysTorn (drop end (content told)))) }
-    ensures long { IfOk result (λ stays. (stays ≡ false) → 23 ≤ torn) }
+    ensures long { IfOk result (λ stays. (stays ≡ false) → TXN_HEAD_LEN ≤ torn) }
     ensures same { D.told disk.new ≡ D.told disk.old }
     ensures spare { (D.spare_calls disk.new ≡ D.spare_calls disk.old) × (D.spare_bytes disk.new ≡ D.spare_bytes disk.old) }
     ensures counts { Counts (D.counter disk.old) (D.counter disk.new) (IsErr result) }
 {
-    if torn < HEAD_LEN {
+    if torn < TXN_HEAD_LEN as u64 {
         return Ok(true);
     }
     let mut status = [0];
-    disk.read_at(end.saturating_add(STATUS_AT), &mut status)?;
+    disk.read_at(end.saturating_add(STATUS_AT as u64), &mut status)?;
     Ok(status[0] == b'c' || status[0] == 0)
 }
 
@@ -162,7 +155,7 @@ fn ready<D: Disk>(disk: &mut D, end: u64, torn: u64) -> Result<(), Failed>
     if stays_torn(disk, end, torn)? {
         return Ok(());
     }
-    disk.write_at(end.saturating_add(STATUS_AT), b"c")?;
+    disk.write_at(end.saturating_add(STATUS_AT as u64), b"c")?;
     disk.sync()
 }
 

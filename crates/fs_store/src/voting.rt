@@ -1,5 +1,6 @@
 ghost use Rattle.std.specs.Prelude.{◌≡◌, ◌<◌, ◌≤◌, ◌^◌, ◌==◌, All, false, min, IfOk, IfSome, IsErr, None, Some};
 ghost use Rattle.zbase.specs.Faults.{Counts};
+ghost use Rattle.zbase.specs.Limits.{greatest_number};
 ghost use Rattle.evaluator.specs.Change.{is_new, made, named};
 ghost use Rattle.evaluator.specs.Settle.{size, size_of_entry};
 ghost use Rattle.fs_store.specs.Fronts.{history_at};
@@ -7,12 +8,13 @@ ghost use Rattle.fs_store.specs.Knowing.{IsKnown};
 ghost use Rattle.fs_store.specs.Seeing.{SeenOn};
 ghost use Rattle.fs_store.specs.Stores.{IsDraft};
 ghost use Rattle.fs_store.specs.declared.refusal.VoteRefusal.{VoteRefusal};
-ghost use Rattle.fs_store.specs.Verdicts.{IsFree, clash_among, clash_at, greatest_number, spent_at, tid_after, validation_at};
+ghost use Rattle.fs_store.specs.Verdicts.{IsFree, clash_among, clash_at, spent_at, tid_after, validation_at};
 
 use crate::VoteRefusal;
 use crate::known::Known;
 use crate::reads::Seen;
 use evaluator::{Draft, Entry, Name};
+use fs_record::{BACK_RECORD_LEN, BARE_TXN_LEN, DATA_HEAD_LEN};
 use fs_scan::read_head;
 use zbase::{Clash, Failed, Tid};
 use zdisk::Disk;
@@ -105,8 +107,8 @@ fn size_of_entry(entry: &Entry) -> u64
     ensures { result ≡ min (size_of_entry entry.now) greatest_number }
 {
     match entry {
-        Entry::Write { bytes, .. } => 42_u64.saturating_add(bytes.len() as u64),
-        Entry::Restore { .. } => 50,
+        Entry::Write { bytes, .. } => (DATA_HEAD_LEN as u64).saturating_add(bytes.len() as u64),
+        Entry::Restore { .. } => BACK_RECORD_LEN as u64,
     }
 }
 
@@ -114,7 +116,7 @@ fn size_of_entry(entry: &Entry) -> u64
 pub(crate) fn size_of(draft: &Draft) -> u64
     ensures { result ≡ min (size draft.now) greatest_number }
 {
-    let mut size = 31_u64
+    let mut size = (BARE_TXN_LEN as u64)
         .saturating_add(draft.user.len() as u64)
         .saturating_add(draft.description.len() as u64);
     for entry in draft.entries.as_slice() {

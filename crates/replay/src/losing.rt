@@ -4,7 +4,7 @@ ghost use Rattle.replay.specs.Losing.{lost_mark, lost_marks, mark_lines};
 ghost use Rattle.replay.specs.Printed.{Prints};
 
 use crate::printing::put_line;
-use schedule::Line;
+use schedule::{Line, WORKERS};
 use std::alloc::Global;
 use zio::{OutsideRefusal, Sink};
 
@@ -30,7 +30,7 @@ pub(crate) fn put_lost<K: Sink>(
     taken: &[bool],
     out: &mut K,
 ) -> Result<(), OutsideRefusal>
-    requires { length taken.now ≡ 16 }
+    requires { length taken.now ≡ WORKERS }
     ensures ok { OnOk result (Prints (K.written out.old) (K.written out.new) (lost_marks taken.now)) }
     ensures counts { Counts (K.counter out.old) (K.counter out.new) (IsErrOf result OutsideRefusal.Failed) }
 {

@@ -20,15 +20,12 @@ use crate::printing::{put_line, put_step};
 use crate::refusal::RunRefusal;
 use evaluator::Evaluator;
 use fs_store::Store;
-use schedule::{Item2, Line, runs_are_serial};
+use schedule::{Item2, Line, WORKERS, runs_are_serial};
 use std::alloc::Global;
 use txn_core::Core;
 use zbase::{Bytes, Memory, Tid};
 use zdisk::Disk;
 use zio::{OutsideRefusal, Sink};
-
-/// There are workers 0 to 15.
-const WORKERS: u32 = 16;
 
 // Gives a worker a request; false where it isn't free, or the bytes aren't one message.
 fn give<D: Disk + Drop, E: Evaluator>(
@@ -42,7 +39,7 @@ fn give<D: Disk + Drop, E: Evaluator>(
         Happens (terms_of E.takes E.meaning limit end) (clocked (moment_of E.meaning core.old.store core.old.slots) now) (Item2.Request worker bytes.now) [] (clocked (moment_of E.meaning core.new.store core.new.slots) now)) }
 {
     core.is_sound();
-    if worker >= WORKERS {
+    if worker >= WORKERS as u32 {
         return Ok(false);
     }
     let Some(request) = core.take(bytes.as_slice())? else {
@@ -75,7 +72,7 @@ fn run_item<D: Disk + Drop, E: Evaluator, K: Sink>(
             Err(_) => Err(RunRefusal::Memory),
         },
         Item2::Step(worker) => {
-            if *worker >= WORKERS {
+            if *worker >= WORKERS as u32 {
                 return Err(RunRefusal::BadLine(number));
             }
             let line = core.step(*worker, *clock);
@@ -97,7 +94,7 @@ fn run_item<D: Disk + Drop, E: Evaluator, K: Sink>(
 fn put_closing<D: Disk + Drop, K: Sink>(
     alloc: Global,
     store: Store<D>,
-    taken: &[bool; 16],
+    taken: &[bool; WORKERS],
     out: &mut K,
 ) -> Result<D, OutsideRefusal>
     requires idle { store.out ≡ None }

@@ -3,6 +3,7 @@ ghost use Rattle.fs_store.specs.Stores.{IsSteady};
 
 use cases::{Case, CasesRefusal, Part, Runner};
 use evaluator::Cells;
+use fs_record::MAX_LENGTH;
 use fs_store::Store;
 use replay::{RunRefusal, replay};
 use schedule::read_schedule;
@@ -17,14 +18,14 @@ use zio::MemorySink;
 #[derive(Drop)]
 pub struct CellRuns;
 
-// The store of the case's file, which may have at most 2^48 - 1 bytes.
+// The store of the case's file, which may have no more bytes than a file.
 fn store_of(alloc: Global, case: &Case) -> Result<Store<MemoryDisk>, CasesRefusal>
     ensures idle { IfOk result (λ store. store.out ≡ None) }
     ensures steady { IfOk result IsSteady }
 {
     let limit = case.number("limit", 100_000)?;
     let disk = MemoryDisk::new(alloc, case.bytes(alloc, "file")?);
-    match Store::open(alloc, disk, limit.min(281_474_976_710_655)) {
+    match Store::open(alloc, disk, limit.min(MAX_LENGTH)) {
         Ok(store) => Ok(store),
         Err((_refusal, _disk)) => Err(CasesRefusal::Missing),
     }

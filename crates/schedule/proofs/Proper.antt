@@ -6,6 +6,7 @@ use Rattle.evaluator.specs.declared.fact.Fact.{Fact}
 use Rattle.evaluator.specs.declared.outcome.Outcome.{Outcome}
 use Rattle.evaluator.specs.declared.reply.Reply.{Reply}
 use Rattle.evaluator.specs.declared.draft.Draft.{Draft}
+use Rattle.zbase.specs.Limits.{greatest_number}
 use Rattle.zbase.specs.History.{History, IsHistory, added, IsPrefixOf}
 use Rattle.zbase.specs.Values.{last, next, upto, before}
 use Rattle.evaluator.specs.Facts.{fact, ask_of, look, TrueOf}
@@ -17,7 +18,7 @@ use Rattle.schedule.specs.declared.item.Item2.{Item2}
 use Rattle.schedule.specs.declared.line.Line.{Line}
 use Rattle.schedule.specs.Moments.{Terms, Attempt, Doing, Free, Waiting, Asking, Computed, Vote, Moment, doing, turned, stood, clocked, lost_lines}
 use Rattle.schedule.specs.Causes.{fault_reply, memory_reply, unknown_reply}
-use Rattle.schedule.specs.Stepping.{Told, max_u64, ended, first_clash, vote_tid, need, votes, conflicts, validated, commits, from_computed, from_asking, from_doing, Trouble, Wants_memory, Disk_fails, Is_unknown, Is_stopped, has_request, held_by, settled, restarted, fails, troubled, Steps}
+use Rattle.schedule.specs.Stepping.{Told, ended, first_clash, vote_tid, need, votes, conflicts, validated, commits, from_computed, from_asking, from_doing, Trouble, Wants_memory, Disk_fails, Is_unknown, Is_stopped, has_request, held_by, settled, restarted, fails, troubled, Steps}
 use Rattle.schedule.specs.Courses.{Happens, request_of, worker_of}
 use Rattle.schedule.specs.Right.{IsCommitted, RightReply, RightGrowth}
 use Rattle.zbase.specs.HistoryLaws.{prefix_refl, prefix_added, upto_stays, upto_is_prefix, before_next, transaction_next}
@@ -64,8 +65,8 @@ proper_votes terms m w a x d lawful good here none clear =
     let sound : Sound terms m.standing (Some (Computed a x d)) = subst (Sound terms m.standing) here (good.workers w) in
     let q = Some a.request in
     let done = λ (lines : List Line) (right : (h : History) → RightReply terms h q lines). proper_turned terms m q w Free lines good tt (no_vote m w none) right in
-    proper_cond terms m q (last m.standing == max_u64) _ _ (done _ (λ h. tt))
-    (proper_cond terms m q (nat_lt 0 (made d) && nat_lt max_u64 (next m.standing + made d)) _ _ (done _ (λ h. tt))
+    proper_cond terms m q (last m.standing == greatest_number) _ _ (done _ (λ h. tt))
+    (proper_cond terms m q (nat_lt 0 (made d) && nat_lt greatest_number (next m.standing + made d)) _ _ (done _ (λ h. tt))
     (proper_cond terms m q (nat_lt terms.limit (need m d)) _ _ (done _ (λ h. tt))
     (record {
       good = record {

@@ -4,6 +4,7 @@ use Rattle.evaluator.specs.declared.fact.Fact.{Fact}
 use Rattle.evaluator.specs.declared.reply.Reply.{Reply}
 use Rattle.evaluator.specs.declared.draft.Draft.{Draft}
 use Rattle.evaluator.specs.declared.outcome.Outcome.{Outcome}
+use Rattle.zbase.specs.Limits.{greatest_number}
 use Rattle.zbase.specs.History.{History}
 use Rattle.zbase.specs.Values.{last, next, serial, upto}
 use Rattle.evaluator.specs.Facts.{fact, look}
@@ -18,9 +19,6 @@ use Rattle.schedule.specs.Causes.{conflict_reply, tids_reply, oids_reply, full_r
 -- what a step prints, and the moment after it
 abbrev pub Told : Type 0 → Type 0
 Told R = List Line × Moment R
-
-abbrev pub max_u64 : ℕ
-max_u64 = 18446744073709551615
 
 -- the reply `none`, which ends the request
 abbrev pub ended : {R : Type 0} → Terms R → Moment R → ℕ → List Line → Reply → Told R
@@ -45,13 +43,13 @@ abbrev pub vote_tid : {R : Type 0} → Moment R → ℕ
 vote_tid m = if nat_lt (last m.standing) m.clock then m.clock else last m.standing + 1
 
 abbrev pub need : {R : Type 0} → Moment R → Draft → ℕ
-need m d = min (m.end + size d) max_u64
+need m d = min (m.end + size d) greatest_number
 
 -- validated: spent in this order, or a vote
 abbrev pub votes : {R : Type 0} → Terms R → Moment R → ℕ → Reply → Draft → Told R
 votes terms m w x d =
-    if last m.standing == max_u64 then ended terms m w (Line.SpentTids w ∷ []) tids_reply
-    else if nat_lt 0 (made d) && nat_lt max_u64 (next m.standing + made d) then ended terms m w (Line.SpentOids w (next m.standing - 1) (made d) ∷ []) oids_reply
+    if last m.standing == greatest_number then ended terms m w (Line.SpentTids w ∷ []) tids_reply
+    else if nat_lt 0 (made d) && nat_lt greatest_number (next m.standing + made d) then ended terms m w (Line.SpentOids w (next m.standing - 1) (made d) ∷ []) oids_reply
     else if nat_lt terms.limit (need m d) then ended terms m w (Line.SpentFull w (need m d) terms.limit ∷ []) (full_reply (need m d) terms.limit)
     else (Line.Vote w (vote_tid m) ∷ [], holding m (record { holder = w; reply = x; transaction = settle m.standing d (vote_tid m); size = size d }))
 

@@ -1,6 +1,9 @@
 use zbase::{Bytes, Items, Tid};
 
-/// One line of a schedule. There are sixteen workers, 0 to 15.
+/// There are sixteen workers, 0 to 15.
+pub const WORKERS: usize = 16;
+
+/// One line of a schedule.
 #[derive(Debug, Drop)]
 pub enum Item2 {
     /// `request W LEN`: the worker is given a request of these bytes.

@@ -15,7 +15,7 @@ mod row;
 mod worked;
 mod writer;
 
-pub use item::{Item2, Schedule};
+pub use item::{Item2, Schedule, WORKERS};
 pub use item_writer::write_item;
 pub use laws::{one_bad_line, one_schedule, runs_are_serial};
 pub use line::Line;

@@ -6,7 +6,7 @@ ghost use Rattle.schedule.specs.BadLines.{BeginsItem, IsBadAt};
 ghost use Rattle.schedule.specs.declared.reader.Stop.TheVariants.{Bad, Memory};
 ghost use Rattle.schedule.specs.declared.reader.ScheduleRefusal.TheVariants.{BadLine};
 
-use crate::{Item2, Schedule};
+use crate::{Item2, Schedule, WORKERS};
 use std::alloc::{AllocError, Global};
 use zbase::{Bytes, Memory as NoMemory, Tid, read_hex16};
 
@@ -20,9 +20,6 @@ pub enum ScheduleRefusal {
     /// Want of memory.
     Memory,
 }
-
-// There are sixteen workers.
-const WORKERS: u64 = 16;
 
 // Why an item was not read.
 #[derive(Clone, Copy, Debug, PartialEq, Eq)]
@@ -96,7 +93,7 @@ fn worker_at(alloc: Global, bytes: &[u8], end: u8) -> Result<(u32, &[u8]), Stop>
     ensures bad { result ≡ Err Bad → (w : ℕ) (rest : List ℕ) → w < workers → bytes.now ≢ decimal w ++ end ∷ rest }
 {
     let (number, rest) = number_at(alloc, bytes, end)?;
-    if number >= WORKERS {
+    if number >= WORKERS as u64 {
         return Err(Stop::Bad);
     }
     Ok((number as u32, rest))

@@ -1,5 +1,6 @@
 //! Drafts out of the words of a vote.
 ghost use Rattle.std.specs.Prelude.{◌≡◌, ◌<◌, ◌≤◌, ◌∷◌, [], length, IfOk};
+ghost use Rattle.evaluator.specs.Change.{longest_text};
 ghost use Rattle.evaluator.specs.declared.draft.Entry.{Entry};
 ghost use Rattle.fs_store.specs.Stores.{IsDraft};
 
@@ -11,10 +12,10 @@ use zbase::{Bytes, Oid, Text, Tid};
 
 // The text behind this word, which may have at most 65,535 bytes.
 fn text_behind(alloc: Global, step: &Part, key: &str) -> Result<Text, CasesRefusal>
-    ensures { IfOk result (λ text. length text ≤ 65535) }
+    ensures { IfOk result (λ text. length text ≤ longest_text) }
 {
     let text = Text::from_str(alloc, word_behind(step, key))?;
-    if text.len() > 65535 {
+    if text.len() > usize::from(u16::MAX) {
         return Err(CasesRefusal::BadPart(step.line));
     }
     Ok(text)
@@ -23,8 +24,8 @@ fn text_behind(alloc: Global, step: &Part, key: &str) -> Result<Text, CasesRefus
 // A draft of that one entry, of the user behind `by` and with the description behind `about`.
 fn draft_with(alloc: Global, step: &Part, entry: Entry) -> Result<Draft, CasesRefusal>
     ensures entries { IfOk result (λ draft. draft.entries ≡ entry ∷ []) }
-    ensures user { IfOk result (λ draft. length draft.user ≤ 65535) }
-    ensures description { IfOk result (λ draft. length draft.description ≤ 65535) }
+    ensures user { IfOk result (λ draft. length draft.user ≤ longest_text) }
+    ensures description { IfOk result (λ draft. length draft.description ≤ longest_text) }
 {
     let mut entries = Entries::new(alloc);
     entries.push(entry)?;

@@ -2,6 +2,7 @@
 use Rattle.std.proofs.Common.{◌≡◌, ◌≢◌, ℕ, ◌+◌, ◌-◌, ◌*◌, ◌<◌, ◌≤◌, ◌==◌, ◌&&◌, Bool, true, false, cond, List, [], ◌∷◌, ◌++◌, Option, Some, None, refl, sym, ap, ◌∙◌, subst, inl, inr, map, length, slice_get, slice_set, arith, eqb-true, nat_lt, lit<}
 use Rattle.std.proofs.lemmas.Bool.Decides.{nat_tests}
 use Rattle.std.proofs.lemmas.List.{length-set, length-append}
+use Rattle.zbase.specs.Limits.{greatest_number}
 use Rattle.zbase.specs.History.{added}
 use Rattle.zbase.specs.HistoryLaws.{last_after-append}
 use Rattle.zbase.specs.Values.{last, next}
@@ -19,7 +20,7 @@ use Rattle.evaluator.specs.Settle.{settle, size}
 use Rattle.schedule.specs.declared.line.Line.{Line}
 use Rattle.schedule.specs.Moments.{Terms, Attempt, Doing, Free, Waiting, Vote, Moment, doing, turned, holding, clocked}
 use Rattle.schedule.specs.Causes.{shown_lines, conflict_reply, tids_reply, oids_reply, full_reply}
-use Rattle.schedule.specs.Stepping.{Told, max_u64, need, ended, vote_tid, from_doing, from_computed, validated, votes, conflicts, commits, Wants_memory, has_request, held_by, Steps, first_clash}
+use Rattle.schedule.specs.Stepping.{Told, need, ended, vote_tid, from_doing, from_computed, validated, votes, conflicts, commits, Wants_memory, has_request, held_by, Steps, first_clash}
 use Rattle.fs_store.specs.declared.refusal.VoteRefusal.{VoteRefusal}
 use Rattle.fs_store.specs.Stores.{IsDraft, StoreView, Out, voting, finished}
 use Rattle.fs_store.specs.Verdicts.{voted_out, validation, spent}
@@ -66,8 +67,8 @@ votes_by : {R : Type 0} (terms : Terms R) (st : StoreView) (now : ℕ) (o : Opti
 votes_by {R} terms st now o ws w a x d limit =
     let m = parts st now o ws in
     let f : Option VoteRefusal → Told R = by_ruling terms m w a x d in
-    let b1 = last st.history == max_u64 in
-    let b2 = nat_lt 0 (made d) && nat_lt max_u64 (next st.history + made d) in
+    let b1 = last st.history == greatest_number in
+    let b2 = nat_lt 0 (made d) && nat_lt greatest_number (next st.history + made d) in
     let b3 = nat_lt st.limit (need m d) in
     let full : ℕ → Told R = (λ l. cond b1 (f (Some VoteRefusal.TidsSpent)) (cond b2 (f (Some (VoteRefusal.OidsSpent (next st.history - 1) (made d)))) (cond (nat_lt l (need m d)) (f (Some (VoteRefusal.Full (need m d) l))) (f None)))) in
     let r3 : Option VoteRefusal = cond b3 (Some (VoteRefusal.Full (need m d) st.limit)) None in

@@ -6,6 +6,7 @@ ghost use Rattle.txn_core.specs.Slots.{CanEnd, Closing, ended};
 use crate::slot::Slot;
 use evaluator::Evaluator;
 use fs_store::Store;
+use schedule::WORKERS;
 use zdisk::Disk;
 
 // Whether a worker has a request.
@@ -22,11 +23,11 @@ fn is_taken<E: Evaluator>(slot: &Slot<E>) -> bool
 }
 
 /// Which of the sixteen workers have a request.
-pub(crate) fn taken<E: Evaluator>(slots: &[Slot<E>]) -> [bool; 16]
-    requires { length slots.now ≡ 16 }
+pub(crate) fn taken<E: Evaluator>(slots: &[Slot<E>]) -> [bool; WORKERS]
+    requires { length slots.now ≡ WORKERS }
     ensures { result ≡ map is_taken slots.now }
 {
-    let mut all = [false; 16];
+    let mut all = [false; WORKERS];
     for (i, slot) in slots.iter().enumerate() {
         all[i] = is_taken(slot);
     }

@@ -15,6 +15,7 @@ use crate::{GiveRefusal, StepLine};
 use connection::Fresh;
 use evaluator::Evaluator;
 use fs_store::Store;
+use schedule::WORKERS;
 use std::alloc::Global;
 use std::marker::Model;
 use std::mem;
@@ -23,11 +24,11 @@ use zdisk::Disk;
 
 // Sixteen idle workers.
 fn idle_slots<E: Evaluator>(alloc: Global) -> Result<Vec<Slot<E>>, Memory>
-    ensures count { IfOk result (λ slots. length slots.items ≡ 16) }
+    ensures count { IfOk result (λ slots. length slots.items ≡ WORKERS) }
     ensures idle { IfOk result (λ slots. All (λ s. s ≡ Slot.Idle) slots.items) }
 {
-    let mut slots = Vec::with_capacity(alloc, 16)?;
-    for _ in 0..16usize {
+    let mut slots = Vec::with_capacity(alloc, WORKERS)?;
+    for _ in 0..WORKERS {
         slots.push_reserved(Slot::Idle);
     }
     Ok(slots)
@@ -81,8 +82,8 @@ impl<D: Disk + Drop, E: Evaluator> Core<D, E> {
     /// The store is steady. There are sixteen workers, and one has no step left exactly where it has no request.
     pub fn is_sound(&self)
         ensures steady { IsSteady self.now.store }
-        ensures workers { length self.now.slots ≡ 16 }
-        ensures idle { (worker : ℕ) → worker < 16 → left self.now.slots worker ≡ 0 ↔ IsIdle self.now worker }
+        ensures workers { length self.now.slots ≡ WORKERS }
+        ensures idle { (worker : ℕ) → worker < WORKERS → left self.now.slots worker ≡ 0 ↔ IsIdle self.now worker }
     {
         let _alloc = self.alloc;
     }
@@ -108,7 +109,7 @@ impl<D: Disk + Drop, E: Evaluator> Core<D, E> {
         worker: u32,
         request: E::Request,
     ) -> Result<(), (GiveRefusal, E::Request)>
-        requires { worker < 16 }
+        requires { worker < WORKERS }
         ensures idle { OnOk result (IsIdle self.old worker) }
         ensures taken { IfErr result (λ _. IsIdle self.old worker → ⊥) }
         ensures given { OnOk result ((terms : Terms E.Request) (now : ℕ) (bytes : List ℕ) → terms.takes bytes ≡ Some request →
@@ -135,7 +136,7 @@ impl<D: Disk + Drop, E: Evaluator> Core<D, E> {
     /// changed. An answer comes in the second step of its attempt beside those that fetch its facts, a commit in the
     /// fourth.
     pub fn step(&mut self, worker: u32, now: Tid) -> StepLine
-        requires { worker < 16 }
+        requires { worker < WORKERS }
         ensures step { (terms : Terms E.Request) → terms.eval ≡ E.meaning → terms.limit ≡ self.old.store.limit →
             Follows terms (MayBe E.meaning self.old) now (MayBe E.meaning self.new) now (Item2.Step worker) (step_lines terms.answer worker result) }
         ensures limit { self.new.store.limit ≡ self.old.store.limit }
@@ -154,7 +155,7 @@ impl<D: Disk + Drop, E: Evaluator> Core<D, E> {
     }
 
     /// Ends all requests: the store, in which a vote that was out never stands, and which workers had a request.
-    pub fn close(self) -> (Store<D>, [bool; 16])
+    pub fn close(self) -> (Store<D>, [bool; WORKERS])
         ensures store { result.0 ≡ voting self.store None result.0.disk }
         ensures steady { IsSteady result.0 }
         ensures taken { result.1 ≡ map is_taken self.slots }

@@ -4,6 +4,7 @@ pub mod Faults
 pub mod History
 pub mod Values
 pub mod HistoryLaws
+pub mod Limits
 pub mod Numbers
 pub mod NumberLaws
 pub mod Roles

@@ -5,7 +5,7 @@ use Rattle.fs_record.specs.declared.damage.Damage.{Damage}
 use Rattle.zope.specs.declared.refusal.Refusal.{Refusal}
 use Rattle.zope.specs.CheckCauses.{CheckCause}
 use Rattle.zope.specs.DumpCauses.{DumpCause, Dumped}
-use Rattle.zope.specs.Given.{IsSound}
+use Rattle.zope.specs.Given.{IsSound, most_input}
 use Rattle.zope.specs.Numbers.{NumbersPrinted}
 use Rattle.zope.specs.Outside.{DiskFailed, OutsideView, SinkFailed, SourceFailed}
 use Rattle.zope.specs.ReplayCauses.{NoReplayCause, ReplayCause}
@@ -48,7 +48,7 @@ last_line name Refusal.Input = codes "input fault" ++ 10 ∷ []
 last_line name Refusal.Output = []
 last_line name Refusal.Memory = codes "out of memory" ++ 10 ∷ []
 last_line name Refusal.Missing = codes "missing " ++ name ++ 10 ∷ []
-last_line name Refusal.InputTooLarge = codes "too large 67108864" ++ 10 ∷ []
+last_line name Refusal.InputTooLarge = codes "too large " ++ decimal most_input ++ 10 ∷ []
 last_line name (Refusal.FileTooLarge n) = codes "too large " ++ decimal n ++ 10 ∷ []
 last_line name (Refusal.TooLong n) = codes "too long " ++ decimal n ++ 10 ∷ []
 

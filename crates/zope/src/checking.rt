@@ -13,8 +13,8 @@ ghost use Rattle.zope.specs.Numbers.{NumbersPrinted, check_lines};
 
 use crate::last_lines::put_text;
 use crate::refusal::Refusal;
+use fs_record::MAX_LENGTH;
 use fs_scan::{Checked, check};
-use fs_store::MAX_LENGTH;
 use std::alloc::Global;
 use zbase::{Memory, Text};
 use zdisk::Disk;

@@ -8,7 +8,7 @@ ghost use Rattle.replay.specs.Dumped.{Dumps};
 ghost use Rattle.zope.specs.DumpCauses.{DumpCause, Dumped, IsOfDump};
 
 use crate::refusal::Refusal;
-use fs_store::MAX_LENGTH;
+use fs_record::MAX_LENGTH;
 use replay::dump;
 use std::alloc::Global;
 use zdisk::Disk;

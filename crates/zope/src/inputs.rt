@@ -10,7 +10,7 @@ use zdisk::Disk;
 use zio::{Shelf, ShelfRefusal, Source};
 
 /// The most bytes that a schedule may have.
-const MAX_INPUT: usize = 67_108_864;
+pub const MAX_INPUT: usize = 67_108_864;
 
 /// The most bytes that a replayed file may have.
 const MAX_FILE: u64 = 268_435_456;

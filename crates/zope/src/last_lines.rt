@@ -4,6 +4,7 @@ ghost use Rattle.zbase.specs.Faults.{Counts};
 ghost use Rattle.zio.specs.Sinks.{AppendsFront};
 ghost use Rattle.zope.specs.Causes.{Names, kind_number, last_line};
 
+use crate::inputs::MAX_INPUT;
 use crate::refusal::Refusal;
 use crate::words::file_words;
 use fs_record::Damage;
@@ -48,7 +49,7 @@ fn put_last_line<K: Sink>(
         Refusal::Output => Ok(()),
         Refusal::Memory => out.write_all(b"out of memory\n"),
         Refusal::Missing => put_text(format!(in alloc; "missing {name}\n"), out),
-        Refusal::InputTooLarge => out.write_all(b"too large 67108864\n"),
+        Refusal::InputTooLarge => put_text(format!(in alloc; "too large {MAX_INPUT}\n"), out),
         Refusal::FileTooLarge(size) => put_text(format!(in alloc; "too large {size}\n"), out),
         Refusal::TooLong(size) => put_text(format!(in alloc; "too long {size}\n"), out),
     }

@@ -1,7 +1,7 @@
 ghost use Rattle.std.specs.Prelude.{◌≡◌, ◌≤◌, ◌∷◌, [], ℕ, List, map, MatchOption, None, string_bytes};
 ghost use Rattle.zope.specs.Words.{GivesLimit, IsCheckOf, IsCommand, IsDumpOf, IsLimit, IsOf, IsReplayOf, IsReplayWith};
 
-use fs_store::MAX_LENGTH;
+use fs_record::MAX_LENGTH;
 
 // The limit that a word spells: a number of 1 to 20 digits, of no more bytes than a file may have.
 fn limit_of(text: &str) -> Option<u64>

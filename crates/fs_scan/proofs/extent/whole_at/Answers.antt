@@ -23,5 +23,5 @@ returns-then-long-from c = (
 pub returns : goal.returns
 returns c = (
   goes_on c.args.rest.now c.in-Ok.head c.in-Ok.ensures.head c.in-Ok.ensures.fits c.in-Ok.ensures.long c.if-head-eq99.false c.if-head-eq0.false (omega arith),
-  whole_is c.args.rest.now _ c.in-Ok.ensures.head c.in-Ok.ensures.fits c.in-Ok.ensures.long refl (omega arith) refl (omega arith) c.u64_at-tail.ensures (omega arith),
+  whole_is c.args.rest.now _ c.in-Ok.ensures.head c.in-Ok.ensures.fits c.in-Ok.ensures.long c.texts_end-from.ensures (omega arith) refl (omega arith) c.u64_at-tail.ensures (omega arith),
 )

@@ -4,8 +4,8 @@ use Rattle.fs_scan.proofs.BodiesRead.{HasBody, no_body, no_room, reads_back, rea
 use Rattle.fs_scan.proofs.following.body_behind.Goals as goal
 use Rattle.fs_scan.proofs.following.body_behind.Goals.{then-head-eq0, else-head-eq0}
 
-pub returns-then-left-lt42-clause-body : goal.returns-then-left-lt42-clause-body
-returns-then-left-lt42-clause-body g c = no_body (g.D.Disk.told c.args.disk.now) c.args.len c.args.at c.saturating_sub-left.result c.args.head.now c.requires (omega (arith, c.saturating_sub-left.ensures)) (omega (arith, c.if-left-lt42.true))
+pub returns-then-left-clause-body : goal.returns-then-left-clause-body
+returns-then-left-clause-body g c = no_body (g.D.Disk.told c.args.disk.now) c.args.len c.args.at c.saturating_sub-left.result c.args.head.now c.requires (omega (arith, c.saturating_sub-left.ensures)) (omega (arith, c.if-left.true))
 
 pub returns-then-left-size-clause-body : goal.returns-then-left-size-clause-body
 returns-then-left-size-clause-body g c =

@@ -11,4 +11,4 @@ returns-in-Some-clause-shows g c =
 
 pub returns-in-None-clause-shows : goal.returns-in-None-clause-shows
 returns-in-None-clause-shows g c =
-    shows_head (g.D.Disk.told c.args.disk.now) c.args.len c.args.at c.saturating_sub-left.result c.in_ok-head.head.items c.requires (omega (arith, c.saturating_sub-left.ensures)) (omega (arith, c.if-left-lt23.false)) c.in_ok-head.ensures.bytes (rw c.deref.ensures.value at c.in-None.ensures.torn)
+    shows_head (g.D.Disk.told c.args.disk.now) c.args.len c.args.at c.saturating_sub-left.result c.in_ok-head.head.items c.requires (omega (arith, c.saturating_sub-left.ensures)) (omega (arith, c.if-left.false)) c.in_ok-head.ensures.bytes (rw c.deref.ensures.value at c.in-None.ensures.torn)

@@ -1,7 +1,7 @@
 use Rattle.std.proofs.Common.{◌≡◌, ◌+◌, take, length, min}
 use Rattle.std.specs.Prelude.{sum_by}
 use Rattle.evaluator.specs.Settle.{size_of_entry}
-use Rattle.fs_store.specs.Verdicts.{greatest_number}
+use Rattle.zbase.specs.Limits.{greatest_number}
 use Rattle.fs_store.proofs.voting.size_of.Given as goal
 
 -- the size with the entries so far

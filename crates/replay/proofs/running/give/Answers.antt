@@ -5,8 +5,8 @@ use Rattle.replay.proofs.Giving.{happens, not_idle}
 use Rattle.replay.proofs.running.give.Goals.{in-Ok, in-Err}
 use Rattle.replay.proofs.running.give.Goals as goal
 
-pub returns-then-worker-ge-WORKERS-clause-refused : goal.returns-then-worker-ge-WORKERS-clause-refused
-returns-then-worker-ge-WORKERS-clause-refused g c = λ _. inr (not_idle c.args.core.now c.args.worker c.is_sound.ensures.workers c.if-worker-ge-WORKERS.true)
+pub returns-then-worker-clause-refused : goal.returns-then-worker-clause-refused
+returns-then-worker-clause-refused g c = λ _. inr (not_idle c.args.core.now c.args.worker c.is_sound.ensures.workers c.if-worker.true)
 
 pub returns-clause-given : goal.returns-clause-given
 returns-clause-given g c =

@@ -15,7 +15,7 @@ pub returns-in-Missing-clause-ok : goal.returns-in-Missing-clause-ok
 returns-in-Missing-clause-ok g c = rw c.in-Missing.is (put_is c.put_text-in-Missing.result c.format-in-Missing.result string_bytes _ _ _ c.put_text-in-Missing.ensures.ok c.format-in-Missing.ensures.ok)
 
 pub returns-in-InputTooLarge-clause-ok : goal.returns-in-InputTooLarge-clause-ok
-returns-in-InputTooLarge-clause-ok g c = rw c.in-InputTooLarge.is c.write_all-in-InputTooLarge.ensures.ok
+returns-in-InputTooLarge-clause-ok g c = rw c.in-InputTooLarge.is (put_is c.put_text-in-InputTooLarge.result c.format-in-InputTooLarge.result string_bytes _ _ _ c.put_text-in-InputTooLarge.ensures.ok c.format-in-InputTooLarge.ensures.ok)
 
 pub returns-in-FileTooLarge-clause-ok : goal.returns-in-FileTooLarge-clause-ok
 returns-in-FileTooLarge-clause-ok g c = rw c.in-FileTooLarge.is (put_is c.put_text-in-FileTooLarge.result c.format-in-FileTooLarge.result string_bytes _ _ _ c.put_text-in-FileTooLarge.ensures.ok c.format-in-FileTooLarge.ensures.ok)
