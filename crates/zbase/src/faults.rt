@@ -75,6 +75,13 @@ impl FaultPlan {
         }
     }
 
+    /// How many calls there were.
+    pub fn calls(&self) -> u64
+        ensures { result ≡ self.now.calls }
+    {
+        self.calls
+    }
+
     /// Counts a call, which fails where its number is in the list.
     pub fn call(&mut self) -> Result<(), Failed>
         ensures counts { Counts self.old self.new (IsErr result) }

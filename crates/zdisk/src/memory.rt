@@ -52,6 +52,13 @@ impl MemoryDisk {
             plan,
         }
     }
+
+    /// How many device calls the disk has had.
+    pub fn calls(&self) -> u64
+        ensures { result ≡ (⟦<MemoryDisk as Disk>⟧.counter self.now).calls }
+    {
+        self.plan.calls()
+    }
 }
 
 impl Disk for MemoryDisk {
