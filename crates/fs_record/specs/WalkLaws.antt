@@ -1,12 +1,12 @@
 -- An object's data records lead back through a file, each by the place of the one before it.
-use Rattle.std.proofs.Common.{◌≡◌, ◌≢◌, ℕ, ◌+◌, ◌<◌, ◌≤◌, Bool, true, false, cond, eqb, List, [], ◌∷◌, ◌++◌, length, drop, map, filter, flat_map, nat_le, Option, Some, None, refl, sym, ap, subst, ◌∙◌, append_assoc, append-nil, arith, inl, inr}
+use Rattle.std.proofs.Common.{◌≡◌, ◌≢◌, ℕ, ◌+◌, ◌<◌, ◌≤◌, Bool, true, false, cond, eqb, List, [], ◌∷◌, ◌++◌, length, drop, map, filter, flat_map, nat_le, nat_lt, Option, Some, None, refl, sym, ap, subst, ◌∙◌, append_assoc, append-nil, arith, inl, inr}
 use Rattle.std.specs.Prelude.{◌⊎◌}
 use Rattle.std.specs.List.{list_all, list_any, AllByRecursion}
 use Rattle.std.proofs.lemmas.List.Folds.{list_any-append}
-use Rattle.std.proofs.lemmas.List.{drop_at, drop-drop, drop-append-le, map-append}
+use Rattle.std.proofs.lemmas.List.{drop_at, drop-drop, drop-append-le, length-append, map-append}
 use Rattle.std.proofs.lemmas.List.Elements.{filter-append}
 use Rattle.std.proofs.lemmas.Grind.{flat_map-append}
-use Rattle.std.proofs.lemmas.Bool.{eqb-true, le-leb, lt-leb}
+use Rattle.std.proofs.lemmas.Bool.{eqb-true, le-leb, lt-leb, lt-ltb}
 use Rattle.zbase.specs.Numbers.{be64}
 use Rattle.zbase.specs.History.{Value, Transaction, History}
 use Rattle.zbase.specs.HistoryLaws.{last_after-append}
@@ -19,7 +19,7 @@ use Rattle.fs_record.specs.File.{Earlier, Front, IsFile, IsRight, AreRight, rows
 use Rattle.fs_record.specs.FileLaws.{file_place, rises}
 use Rattle.fs_record.specs.Standing.{IsPlace, LastStands}
 use Rattle.fs_record.specs.StandingLaws.{both_true, RiseWithin, value_grows, revision, records_stand, passed, revisions_longer, file_kept, rise_end, last_stands}
-use Rattle.fs_record.specs.Walks.{Passed, newest_upto, LeadsBack}
+use Rattle.fs_record.specs.Walks.{Passed, newest_upto, is_later, later_than, LeadsBack}
 
 -- ---- an object's records among those of one transaction
 
@@ -134,6 +134,37 @@ upto_longer h status x t oid counts is =
     one x true = ap (λ (rs : List Revision). newest rs oid) (append-nil (revisions_of x))
     one x false = refl
 
+-- ---- revisions that are later than a transaction
+
+filter_grows : (p : Revision → Bool) (r : Revision) (rs : List Revision) → length (filter p rs) ≤ length (filter p (r ∷ rs))
+filter_grows p r rs = go (p r) refl
+  where
+    go : (b : Bool) → p r ≡ b → length (filter p rs) ≤ length (filter p (r ∷ rs))
+    go true e = rw e (omega arith)
+    go false e = rw e (omega arith)
+
+filter_has : (p : Revision → Bool) (r : Revision) (rs : List Revision) → p r ≡ true → 1 ≤ length (filter p (r ∷ rs))
+filter_has p r rs e = rw e (omega arith)
+
+-- the object's newest revision is one of them, where it is later
+newest_later : (rs : List Revision) (t oid : ℕ) (r : Revision) → newest rs oid ≡ Some r → t < r.tid → 1 ≤ length (filter (is_later t oid) rs)
+newest_later [] t oid r e lt = absurd cc
+newest_later (x ∷ xs) t oid r e lt = go (λ n. newest_later xs t oid r n lt) (newest xs oid) refl (eqb x.oid oid) refl e
+  where
+    go : (newest xs oid ≡ Some r → 1 ≤ length (filter (is_later t oid) xs)) → (o : Option Revision) → newest xs oid ≡ o → (here : Bool) → eqb x.oid oid ≡ here → later (cond here (Some x) None) o ≡ Some r → 1 ≤ length (filter (is_later t oid) (x ∷ xs))
+    go deeper (Some s) n here is e = omega (arith, deeper (n ∙ e), filter_grows (is_later t oid) x xs)
+    go deeper None n true is e =
+        let same : x ≡ r = cc in
+        let late : nat_lt t x.tid ≡ true = lt-ltb t x.tid (omega (arith, lt, ap (λ (y : Revision). y.tid) same)) in
+        filter_has (is_later t oid) x xs (rw (is, late) refl)
+    go deeper None n false is e = absurd cc
+
+later_longer : (h : History) (status : ℕ) (x : Transaction) (t oid : ℕ) → later_than (longer h status x) t oid ≡ later_than h t oid + length (filter (is_later t oid) (revisions_of x))
+later_longer h status x t oid =
+    ap (λ (rs : List Revision). length (filter (is_later t oid) rs)) (revisions_longer h status x)
+    ∙ ap length (filter-append (is_later t oid) (revisions h) (revisions_of x))
+    ∙ length-append (filter (is_later t oid) (revisions h)) (filter (is_later t oid) (revisions_of x))
+
 nothing_more : (o p : Option Revision) (counts : Bool) → p ≡ None → later o (cond counts p None) ≡ o
 nothing_more o p true none = ap (later o) none
 nothing_more o p false none = refl
@@ -145,6 +176,7 @@ record Stays (front now : Front) (oid : ℕ) : Type 0 where
   place_is : last_place oid 0 (rows now.records) ≡ last_place oid 0 (rows front.records)
   newest_is : newest (revisions now.history) oid ≡ newest (revisions front.history) oid
   upto_is : (t : ℕ) → newest_upto now.history t oid ≡ newest_upto front.history t oid
+  later_is : (t : ℕ) → later_than front.history t oid ≤ later_than now.history t oid
   last_is : last front.history ≤ last now.history
 
 -- the object's last record stands behind the front, and leads back to it
@@ -159,6 +191,7 @@ record Leads (bytes : List ℕ) (front now : Front) (oid : ℕ) : Type 0 where
   newest_is : newest (revisions now.history) oid ≡ Some (revision written.tid (oid, value))
   upto_is : (t : ℕ) → written.tid ≤ t → newest_upto now.history t oid ≡ newest (revisions now.history) oid
   before_is : (t : ℕ) → t < written.tid → newest_upto now.history t oid ≡ newest_upto front.history t oid
+  fewer : (t : ℕ) → t < written.tid → later_than front.history t oid < later_than now.history t oid
 
 -- the last transaction is a later one, with the object's last record
 abbrev Writes : List ℕ → Front → Front → ℕ → Type 0
@@ -185,6 +218,7 @@ block_writes whole front b oid ds rise found =
         newest_is = said ∙ ap (λ (t : ℕ). Some (revision t (oid, found.value))) (sym found.tid_is);
         upto_is = λ t le. upto_longer front.history b.status x t oid true (le-leb b.tid t (omega (arith, found.tid_is, le))) ∙ ap (later (newest_upto front.history t oid)) found.newest_is ∙ sym said;
         before_is = λ t lt. upto_longer front.history b.status x t oid false (lt-leb b.tid t (omega (arith, found.tid_is, lt)));
+        fewer = λ t lt. omega (arith, later_longer front.history b.status x t oid, newest_later (revisions_of x) t oid (revision b.tid (oid, found.value)) found.newest_is (omega (arith, found.tid_is, lt)));
       },
       omega (arith, end, rise),
       ap serial_of said ∙ sym end,
@@ -198,6 +232,7 @@ block_stays front b oid ds rise missing =
       place_is = last_on_records oid 0 front.records (records_from front.records (records_place front.place b) ds) ∙ missing.place_is (last_place oid 0 (rows front.records));
       newest_is = newest_longer front.history b.status x oid ∙ ap (later (newest (revisions front.history) oid)) missing.newest_is;
       upto_is = λ t. upto_longer front.history b.status x t oid _ refl ∙ nothing_more (newest_upto front.history t oid) (newest (revisions_of x) oid) (nat_le b.tid t) missing.newest_is;
+      later_is = λ t. omega (arith, later_longer front.history b.status x t oid);
       last_is = omega (arith, last_longer front.history b.status x, rise);
     }
 
@@ -211,7 +246,7 @@ previous_records place t rs b ds e =
 block_tells : (bytes : List ℕ) (front : Front) (b : Block) (oid : ℕ) (i : Inside) → b.inside ≡ i → front.place ≡ length bytes → FitsInside b.status i → fault_in front.place (last front.history) (rows front.records) b i ≡ None
     → Writes (bytes ++ block_spelling b) front (after_in front b i) oid ⊎ Stays front (after_in front b i) oid
 unfolding after_in
-block_tells bytes front b oid (Skipped area) is at fits right = inr (record { place_is = refl; newest_is = refl; upto_is = λ t. refl; last_is = omega arith })
+block_tells bytes front b oid (Skipped area) is at fits right = inr (record { place_is = refl; newest_is = refl; upto_is = λ t. refl; later_is = λ t. omega arith; last_is = omega arith })
 block_tells bytes front b oid (Records ds) is at fits right =
     let own = previous_records front.place (last front.history) (rows front.records) b ds right in
     let rise = rises front.place (last front.history) (rows front.records) b ds right in
@@ -282,6 +317,7 @@ leads_longer bytes more front mid now oid le l s = record {
   newest_is = s.newest_is ∙ l.newest_is;
   upto_is = λ t late. s.upto_is t ∙ l.upto_is t late ∙ sym s.newest_is;
   before_is = λ t early. s.upto_is t ∙ l.before_is t early;
+  fewer = λ t early. omega (arith, l.fewer t early, s.later_is t);
 }
 
 still_found : (b : Block) (bs : List Block) (oid : ℕ) → AreRight (b ∷ bs) → Stays (front_of bs) (front_of (b ∷ bs)) oid → Found bs oid → Found (b ∷ bs) oid
@@ -376,6 +412,7 @@ blocks_lead newer older rest oid right found =
         then = refl;
       };
       there = l.before_is;
+      fewer = l.fewer;
       previous = l.previous;
       before = before_place found.older oid place l.written right_before l.previous l.from;
     }

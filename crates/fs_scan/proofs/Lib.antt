@@ -1,5 +1,6 @@
 mod Behind
 mod Scanning
+pub mod Backwards
 pub mod CopiedTexts
 pub mod DataAt
 pub mod KeptPages

@@ -12,4 +12,5 @@ pub mod Checked
 pub mod Windows
 pub mod Walked
 pub mod Followed
+pub mod Backs
 pub mod WalkedLaws

@@ -1,4 +1,4 @@
-ghost use Rattle.std.specs.Prelude.{◌≡◌, ◌++◌, ℕ, List, IfOk, IfSome, IsErr, IsErrOf, Some, drop, length};
+ghost use Rattle.std.specs.Prelude.{◌≡◌, ◌+◌, ◌≤◌, ◌++◌, ℕ, List, IfOk, IfSome, IsErr, IsErrOf, Some, drop, length};
 ghost use Rattle.std.specs.Option.{ForSome};
 ghost use Rattle.zbase.specs.Faults.{Counts};
 ghost use Rattle.zdisk.specs.Disk.{content};
@@ -7,6 +7,7 @@ ghost use Rattle.fs_record.specs.File.{Earlier, value_at};
 ghost use Rattle.fs_record.specs.Fits.{FitsData};
 ghost use Rattle.fs_record.specs.Spelling.{Data, data_spelling, head_of};
 ghost use Rattle.fs_record.specs.Standing.{IsPlace};
+ghost use Rattle.fs_scan.specs.Backs.{CostsBacks};
 ghost use Rattle.fs_scan.specs.Present.{AllStand};
 
 use crate::ScanRefusal;
@@ -23,6 +24,7 @@ pub fn read_head<D: Disk>(disk: &mut D, len: u64, at: u64) -> Result<Option<Data
     ensures head { IfOk result (λ head. IfSome (D.told disk.old) (λ told. (d : Data) (more : List ℕ) → FitsData d → drop at (content told) ≡ data_spelling d ++ more → head ≡ Some (head_of d))) }
     ensures same { D.told disk.new ≡ D.told disk.old }
     ensures spare { (D.spare_calls disk.new ≡ D.spare_calls disk.old) × (D.spare_bytes disk.new ≡ D.spare_bytes disk.old) }
+    ensures reads { (D.counter disk.new).calls ≤ (D.counter disk.old).calls + 1 }
     ensures counts { Counts (D.counter disk.old) (D.counter disk.new) (IsErr result) }
 {
     let left = len.saturating_sub(at);
@@ -51,6 +53,7 @@ fn body_behind<D: Disk>(
     ensures undamaged { (kind : Kind) (place : ℕ) → IsErrOf result (ScanRefusal.Damaged kind place) → ⊥ }
     ensures same { D.told disk.new ≡ D.told disk.old }
     ensures spare { (D.spare_calls disk.new ≡ D.spare_calls disk.old) × (D.spare_bytes disk.new ≡ D.spare_bytes disk.old) }
+    ensures reads { (D.counter disk.new).calls ≤ (D.counter disk.old).calls + 1 }
     ensures counts { Counts (D.counter disk.old) (D.counter disk.new) (IsErrOf result ScanRefusal.Disk) }
 {
     let left = len.saturating_sub(at);
@@ -89,6 +92,7 @@ pub fn follow_from<D: Disk>(
     ensures undamaged { (kind : Kind) (place : ℕ) → IsErrOf result (ScanRefusal.Damaged kind place) → ⊥ }
     ensures same { D.told disk.new ≡ D.told disk.old }
     ensures spare { (D.spare_calls disk.new ≡ D.spare_calls disk.old) × (D.spare_bytes disk.new ≡ D.spare_bytes disk.old) }
+    ensures reads { IfSome (D.told disk.old) (λ told. (records : List Earlier) (oid : ℕ) → AllStand (content told) records → IsPlace records oid place → CostsBacks (content told) place (D.counter disk.old).calls (D.counter disk.new).calls) }
     ensures counts { Counts (D.counter disk.old) (D.counter disk.new) (IsErrOf result ScanRefusal.Disk) }
 {
     let mut at = place;

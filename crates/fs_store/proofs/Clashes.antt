@@ -53,7 +53,7 @@ moved_on told known seen place k s is elsewhere =
 -- its serial is that of its newest record
 serial_there : (told : Told) (known : Known) (oid : ℕ) (head : DataHead) → Knows told known → 0 < place_in (place_of known.index oid) → Tells told (place_in (place_of known.index oid)) (Some head) → head.tid ≡ serial (history_at told known.end) oid
 serial_there told known oid head k positive tells =
-    let l = leads_back told known.end oid 0 (place_in (place_of known.index oid)) (way_first told known oid 0 k) positive in
+    let l = leads_back told known.end oid 0 (place_in (place_of known.index oid)) 0 0 (way_first told known oid 0 0 k) positive in
     let is : head ≡ head_of l.written = head_there told (place_in (place_of known.index oid)) head tells l.written l.behind l.fits l.spelled in
     ap (λ (h : DataHead). h.tid) is ∙ sym l.serial_is
 
@@ -68,7 +68,7 @@ clash_here told known seen place head k s is elsewhere tells =
 pub some_head : {X : Type 0} (told : Told) (known : Known) (seen : Seen) (place : ℕ) → Knows told known → SeenAt told known seen → place ≡ place_in (place_of known.index seen.oid) → place ≢ seen.place → Tells told place None → X
 some_head told known seen place k s is elsewhere tells =
     let m = moved_on told known seen place k s is elsewhere in
-    no_head told known.end seen.oid 0 (place_in (place_of known.index seen.oid)) (way_first told known seen.oid 0 k) (subst (λ (n : ℕ). 0 < n) is m.0) (subst (λ (n : ℕ). Tells told n None) is tells)
+    no_head told known.end seen.oid 0 (place_in (place_of known.index seen.oid)) 0 0 (way_first told known seen.oid 0 0 k) (subst (λ (n : ℕ). 0 < n) is m.0) (subst (λ (n : ℕ). Tells told n None) is tells)
 
 -- ---- one after another
 

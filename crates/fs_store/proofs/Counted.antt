@@ -10,7 +10,7 @@ use Rattle.zbase.specs.declared.ids.Row.{Row}
 use Rattle.zdisk.specs.Crashes.{Becomes, IsSynced, LeavesFrom}
 use Rattle.zdisk.specs.Disk.{Told, content}
 use Rattle.zdisk.specs.Images.{moment}
-use Rattle.zdisk.specs.MomentLaws.{held_now}
+use Rattle.zdisk.specs.MomentLaws.{held_now, piles_later}
 use Rattle.fs_index.specs.Places.{place_of}
 use Rattle.fs_record.specs.declared.body.Item.{Item}
 use Rattle.fs_record.specs.declared.body.TxnTexts.{TxnTexts}
@@ -258,7 +258,7 @@ history_undecided None None k w limit calls bytes kept all = refl
 history_undecided None (Some u) k w limit calls bytes kept all = absurd all
 history_undecided (Some t) None k w limit calls bytes kept all = absurd all
 history_undecided (Some t) (Some u) k w limit calls bytes kept all =
-    ap (λ (f : List ℕ). (front_in (opening_of f)).history) (either_front t u k w kept.knows kept.waits.stands (all.1 u.now (held_now u (moment t) all.0) (content u) (own_image u.now)))
+    ap (λ (f : List ℕ). (front_in (opening_of f)).history) (either_front t u k w kept.knows kept.waits.stands (all.1 u.now (held_now u (moment t) (piles_later t u all.0)) (content u) (own_image u.now)))
 
 -- ---- what the calls want
 

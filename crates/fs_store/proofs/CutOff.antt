@@ -3,7 +3,7 @@ use Rattle.std.proofs.Common.{◌≡◌, ℕ, List, take, Option, Some, None, re
 use Rattle.zdisk.specs.Crashes.{IsTorn, LeavesFrom}
 use Rattle.zdisk.specs.Disk.{Told, content}
 use Rattle.zdisk.specs.Images.{IsMixture, moment}
-use Rattle.zdisk.specs.MomentLaws.{held_now}
+use Rattle.zdisk.specs.MomentLaws.{held_now, piles_later}
 use Rattle.fs_record.specs.FileReading.{status_at}
 use Rattle.fs_record.specs.Reading.{opening_of}
 use Rattle.fs_store.specs.declared.known.Known.{Known}
@@ -31,6 +31,6 @@ history_cut None None k w limit calls bytes kept all = refl
 history_cut None (Some u) k w limit calls bytes kept all = absurd all
 history_cut (Some t) None k w limit calls bytes kept all = absurd all
 history_cut (Some t) (Some u) k w limit calls bytes kept all =
-    let torn = torn_between t k w (content u) kept.waits.stands (all.1 u.now (held_now u (moment t) all.0) (content u) (own_image u.now)) in
+    let torn = torn_between t k w (content u) kept.waits.stands (all.1 u.now (held_now u (moment t) (piles_later t u all.0)) (content u) (own_image u.now)) in
     let file : file_at u k.end ≡ file_at t k.end = ap (λ (n : ℕ). take n (content u)) (sym (long_file t k kept.knows)) ∙ torn_front (file_at t k.end) (piece_of 99 k w) (content u) torn in
     ap (λ (f : List ℕ). (front_in (opening_of f)).history) file

@@ -12,5 +12,6 @@ pub mod Sorting
 pub mod Sound
 pub mod Tellings
 pub mod Tidying
+pub mod Viewing
 pub mod Walking
 pub mod WayBack

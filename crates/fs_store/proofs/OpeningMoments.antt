@@ -9,7 +9,7 @@ use Rattle.zdisk.specs.Calls.{AnyImage, Follows, Syncs, changed}
 use Rattle.zdisk.specs.Crashes.{IsSynced, IsTorn, LeavesFrom}
 use Rattle.zdisk.specs.Disk.{Held, Told, content}
 use Rattle.zdisk.specs.Images.{HasByte, HasLength, IsImage, IsMixture, contents, moment}
-use Rattle.zdisk.specs.MomentLaws.{held_now, leaves_more, leaves_now}
+use Rattle.zdisk.specs.MomentLaws.{held_now, leaves_more, leaves_now, piles_later, piles_more, piles_none}
 use Rattle.zdisk.specs.OneChange.{Changes, all_changed, before_or_after, images, put_byte}
 use Rattle.zdisk.specs.Shapes.{Shape, shape_of_any, shape_of_image}
 use Rattle.fs_record.specs.File.{Front, IsFile}
@@ -49,10 +49,10 @@ Keeps h o u = LeavesFrom o u (λ file image. OpensTo image h)
 
 begun : (h : History) (o : Option Told) → IfSome o (EachOpensTo h) → Keeps h o o
 begun h None each = tt
-begun h (Some t) each = (omega arith, leaves_now t (λ image. OpensTo image h) each)
+begun h (Some t) each = (piles_none t, leaves_now t (λ image. OpensTo image h) each)
 
 each_now : (h : History) (o u : Told) → Keeps h (Some o) (Some u) → EachOpensTo h u
-each_now h o u all = all.1 u.now (held_now u (moment o) all.0)
+each_now h o u all = all.1 u.now (held_now u (moment o) (piles_later o u all.0))
 
 step : (h : History) (R : Held → Held → Type 0) (o a b : Option Told) → Keeps h o a → Follows a b R → ((s t : Told) → a ≡ Some s → EachOpensTo h s → R s.now t.now → EachOpensTo h t) → Keeps h o b
 step h R None None None all follows to = tt
@@ -61,7 +61,7 @@ step h R None (Some a) b all follows to = absurd all
 step h R (Some o) None b all follows to = absurd all
 step h R (Some o) (Some a) None all follows to = absurd follows
 step h R (Some o) (Some a) (Some b) all follows to =
-    (omega (arith, all.0, ap length follows.1), leaves_more a b (moment o) (λ image. OpensTo image h) follows.1 all.1 (to a b refl (each_now h o a all) follows.0))
+    (piles_more o a b all.0 follows.1, leaves_more a b (moment o) (λ image. OpensTo image h) follows.1 all.1 (to a b refl (each_now h o a all) follows.0))
 
 sync_step : {T E : Type 0} (h : History) (r : Result T E) (o a b : Option Told) → Keeps h o a → Follows a b (Syncs r) → Keeps h o b
 sync_step h r o a b all follows = step h (Syncs r) o a b all follows (λ s t same each is image i. each image (synced_image r s.now t.now image is i))

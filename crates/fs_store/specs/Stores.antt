@@ -18,7 +18,6 @@ pub record Out : Type 0 where
 pub record DiskView : Type 0 where
   pub told : Option Told
   pub counter : Counter
-  pub calls : ℕ
   pub spare_calls : ℕ
   pub spare_bytes : ℕ
 

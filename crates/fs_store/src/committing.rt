@@ -1,7 +1,7 @@
 ghost use Rattle.std.specs.Prelude.{◌≡◌, ◌⊎◌, ◌++◌, ◌+◌, ◌<◌, ◌≤◌, ◌^◌, All, ℕ, None, Some, if◌then◌else◌, length, min, IfErr, IfOk, IfSome, OnOk, OnErr, IsErr, IsErrOf};
 ghost use Rattle.std.specs.Result.{is_ok};
 ghost use Rattle.std.specs.Option.{ForSome};
-ghost use Rattle.zbase.specs.Faults.{Counts};
+ghost use Rattle.zbase.specs.Faults.{Counts, Twice};
 ghost use Rattle.zbase.specs.Limits.{greatest_number};
 ghost use Rattle.zdisk.specs.Crashes.{Becomes, IsSynced, IsTorn, LeavesFrom};
 ghost use Rattle.zdisk.specs.Disk.{content, counted};
@@ -67,7 +67,8 @@ fn write_behind<D: Disk>(
     ensures written { OnOk result (Becomes (D.told disk.old) (D.told disk.new) (λ file. file ++ block_spelling (transaction end tid 99 texts.now items.now))) }
     ensures writable { OnOk result (IsWritable end tid 99 texts.now items.now) }
     ensures spare { OnOk result ((2 ≤ D.spare_calls disk.new) × (1 ≤ D.spare_bytes disk.new)) }
-    ensures calls { OnOk result (D.device_calls disk.new ≡ counted (counted (D.device_calls disk.old))) }
+    ensures calls { OnOk result ((D.counter disk.new).calls ≡ counted (counted (D.counter disk.old).calls)) }
+    ensures twice { OnOk result (Twice (D.counter disk.old) (D.counter disk.new)) }
     ensures memory { IsErrOf result LoadRefusal.Memory → D.told disk.new ≡ D.told disk.old }
     ensures counts { Counts (D.counter disk.old) (D.counter disk.new) (IsErrOf result LoadRefusal.Disk) }
 {
@@ -128,7 +129,8 @@ pub(crate) fn vote_on<D: Disk>(
     ensures history { history_where (D.told disk.new) known.old.end ≡ history_where (D.told disk.old) known.old.end }
     ensures seen { (s : Seen) → SeenOn (D.told disk.old) known.old.end s → SeenOn (D.told disk.new) known.old.end s }
     ensures any_moment { LeavesFrom (D.told disk.old) (D.told disk.new) (λ file image. OpensTo image (history_where (D.told disk.old) known.old.end)) }
-    ensures calls { OnOk result (HasNoRestore draft.now → D.device_calls disk.new ≡ counted (counted (D.device_calls disk.old))) }
+    ensures calls { OnOk result (HasNoRestore draft.now → (D.counter disk.new).calls ≡ counted (counted (D.counter disk.old).calls)) }
+    ensures twice { OnOk result (Twice (D.counter disk.old) (D.counter disk.new)) }
     ensures counts { Counts (D.counter disk.old) (D.counter disk.new) (IsErrOf result VoteRefusal.Disk) }
 {
     match refusal(disk, known, limit, draft, reads) {
@@ -166,7 +168,8 @@ fn wait_on<D: Disk>(
     ensures history { history_where (D.told disk.new) known.old.end ≡ history_where (D.told disk.old) known.old.end }
     ensures seen { (s : Seen) → SeenOn (D.told disk.old) known.old.end s → SeenOn (D.told disk.new) known.old.end s }
     ensures any_moment { LeavesFrom (D.told disk.old) (D.told disk.new) (λ file image. OpensTo image (history_where (D.told disk.old) known.old.end)) }
-    ensures calls { OnOk result (HasNoRestore draft.now → D.device_calls disk.new ≡ counted (counted (D.device_calls disk.old))) }
+    ensures calls { OnOk result (HasNoRestore draft.now → (D.counter disk.new).calls ≡ counted (counted (D.counter disk.old).calls)) }
+    ensures twice { OnOk result (Twice (D.counter disk.old) (D.counter disk.new)) }
     ensures counts { Counts (D.counter disk.old) (D.counter disk.new) (IsErrOf result LoadRefusal.Disk) }
 {
     let Settled { texts, items } = settle(alloc, disk, known, draft)?;
@@ -199,7 +202,8 @@ pub(crate) fn finish_on<D: Disk>(
     ensures history { OnErr result (history_where (D.told disk.new) known.old.end ≡ history_where (D.told disk.old) known.old.end) }
     ensures seen { OnOk result ((s : Seen) → SeenOn (D.told disk.old) known.old.end s → SeenOn (D.told disk.new) known.new.end s) }
     ensures any_moment { LeavesFrom (D.told disk.old) (D.told disk.new) (λ file image. OpensTo image (history_where (D.told disk.old) known.old.end) ⊎ OpensTo image (added (history_where (D.told disk.old) known.old.end) (out_of (D.told disk.old) known.old.end waiting).transaction)) }
-    ensures calls { OnOk result (D.device_calls disk.new ≡ counted (counted (D.device_calls disk.old))) }
+    ensures calls { OnOk result ((D.counter disk.new).calls ≡ counted (counted (D.counter disk.old).calls)) }
+    ensures twice { OnOk result (Twice (D.counter disk.old) (D.counter disk.new)) }
     ensures counts { Counts (D.counter disk.old) (D.counter disk.new) (IsErr result) }
 {
     overwrite_and_sync(disk, known.end + STATUS_AT as u64, b' ')?;
@@ -235,7 +239,8 @@ pub(crate) fn abort_on<D: Disk>(
     ensures history { history_where (D.told disk.new) known.now.end ≡ history_where (D.told disk.old) known.now.end }
     ensures seen { OnOk result ((s : Seen) → SeenOn (D.told disk.old) known.now.end s → SeenOn (D.told disk.new) known.now.end s) }
     ensures any_moment { LeavesFrom (D.told disk.old) (D.told disk.new) (λ file image. OpensTo image (history_where (D.told disk.old) known.now.end)) }
-    ensures calls { OnOk result (D.device_calls disk.new ≡ counted (counted (D.device_calls disk.old))) }
+    ensures calls { OnOk result ((D.counter disk.new).calls ≡ counted (counted (D.counter disk.old).calls)) }
+    ensures twice { OnOk result (Twice (D.counter disk.old) (D.counter disk.new)) }
     ensures counts { Counts (D.counter disk.old) (D.counter disk.new) (IsErr result) }
 {
     let _ = waiting;

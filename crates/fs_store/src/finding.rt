@@ -1,6 +1,8 @@
-ghost use Rattle.std.specs.Prelude.{◌≡◌, IfOk, IfSome, IsErr, nat_le};
+ghost use Rattle.std.specs.Prelude.{◌≡◌, ◌+◌, ◌≤◌, IfOk, IfSome, IsErr, nat_le};
 ghost use Rattle.zbase.specs.Faults.{Counts};
+ghost use Rattle.fs_record.specs.Walks.{later_than};
 ghost use Rattle.fs_store.specs.Finding.{FoundIn};
+ghost use Rattle.fs_store.specs.Fronts.{history_at};
 ghost use Rattle.fs_store.specs.Knowing.{IsKnown};
 
 use crate::known::Known;
@@ -23,8 +25,8 @@ fn is_upto(head: &DataHead, at: Tid) -> bool
     head.tid.0 <= at.0
 }
 
-/// An object's last data record up to a transaction, by its previous places: one device call
-/// for each record that is looked at.
+/// An object's last data record up to a transaction, by its previous places: at most one device call, and one more for
+/// each later record that is passed.
 ///
 /// FileStorage format notes: a data record has the place of the object's record before it.
 pub(crate) fn find<D: Disk>(
@@ -38,6 +40,7 @@ pub(crate) fn find<D: Disk>(
     ensures found { IfOk result (λ found. IfSome (D.told disk.old) (λ told. FoundIn told known.now.end oid at found)) }
     ensures same { D.told disk.new ≡ D.told disk.old }
     ensures spare { (D.spare_calls disk.new ≡ D.spare_calls disk.old) × (D.spare_bytes disk.new ≡ D.spare_bytes disk.old) }
+    ensures reads { IfSome (D.told disk.old) (λ told. (D.counter disk.new).calls ≤ (D.counter disk.old).calls + 1 + later_than (history_at told known.now.end) at oid) }
     ensures counts { Counts (D.counter disk.old) (D.counter disk.new) (IsErr result) }
 {
     let mut place = known.place(oid);

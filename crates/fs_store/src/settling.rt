@@ -92,7 +92,7 @@ fn item_of<D: Disk>(
     ensures right { IfOk result (λ item. IfSome (D.told disk.old) (λ told. IsRight (records_at told known.now.end) item)) }
     ensures body { IfOk result HasBody }
     ensures size { IfOk result (λ item. record_size item ≡ size_of_entry entry.now) }
-    ensures calls { IsWrite entry.now → D.device_calls disk.new ≡ D.device_calls disk.old }
+    ensures calls { IsWrite entry.now → (D.counter disk.new).calls ≡ (D.counter disk.old).calls }
     ensures same { D.told disk.new ≡ D.told disk.old }
     ensures spare { (D.spare_calls disk.new ≡ D.spare_calls disk.old) × (D.spare_bytes disk.new ≡ D.spare_bytes disk.old) }
     ensures counts { Counts (D.counter disk.old) (D.counter disk.new) (IsErrOf result LoadRefusal.Disk) }
@@ -130,7 +130,7 @@ fn items_of<D: Disk>(
     ensures are { IfOk result (λ items. IfSome (D.told disk.old) (λ told. AreOf told known.now.end entries.now items.items)) }
     ensures bodies { IfOk result (λ items. All HasBody items.items) }
     ensures size { IfOk result (λ items. records_size items.items ≡ sizes_of entries.now) }
-    ensures calls { AllByRecursion IsWrite entries.now → D.device_calls disk.new ≡ D.device_calls disk.old }
+    ensures calls { AllByRecursion IsWrite entries.now → (D.counter disk.new).calls ≡ (D.counter disk.old).calls }
     ensures same { D.told disk.new ≡ D.told disk.old }
     ensures spare { (D.spare_calls disk.new ≡ D.spare_calls disk.old) × (D.spare_bytes disk.new ≡ D.spare_bytes disk.old) }
     ensures counts { Counts (D.counter disk.old) (D.counter disk.new) (IsErrOf result LoadRefusal.Disk) }
@@ -174,7 +174,7 @@ pub(crate) fn settle<D: Disk>(
     requires fits { FitsEntries known.now.next draft.now.entries }
     ensures settles { IfOk result (λ settled. IfSome (D.told disk.old) (λ told. SettlesAs told known.now.end draft.now settled)) }
     ensures settled { IfOk result (λ settled. IsSettled draft.now settled) }
-    ensures calls { HasNoRestore draft.now → D.device_calls disk.new ≡ D.device_calls disk.old }
+    ensures calls { HasNoRestore draft.now → (D.counter disk.new).calls ≡ (D.counter disk.old).calls }
     ensures same { D.told disk.new ≡ D.told disk.old }
     ensures spare { (D.spare_calls disk.new ≡ D.spare_calls disk.old) × (D.spare_bytes disk.new ≡ D.spare_bytes disk.old) }
     ensures counts { Counts (D.counter disk.old) (D.counter disk.new) (IsErrOf result LoadRefusal.Disk) }

@@ -1,6 +1,6 @@
 ghost use Rattle.std.specs.Prelude.{◌≡◌, ◌⊎◌, ◌<◌, ◌≤◌, All, List, ℕ, false, IfErr, IfOk, IfSome, IsErr, IsErrOf, None, OnErr, OnOk, Some, length, map};
 ghost use Rattle.std.specs.Option.{option_map};
-ghost use Rattle.zbase.specs.Faults.{Counts};
+ghost use Rattle.zbase.specs.Faults.{Counts, Twice};
 ghost use Rattle.zbase.specs.History.{IsHistory, added};
 ghost use Rattle.zbase.specs.Values.{last, serial, transaction, upto, value};
 ghost use Rattle.zdisk.specs.Crashes.{IsSynced};
@@ -8,6 +8,7 @@ ghost use Rattle.zdisk.specs.Disk.{content, counted};
 ghost use Rattle.zdisk.specs.Images.{IsImage};
 ghost use Rattle.evaluator.specs.Facts.{log_row, parts_of};
 ghost use Rattle.fs_store.specs.Drafts.{HasNoRestore};
+ghost use Rattle.fs_store.specs.Finding.{CostsLoad};
 ghost use Rattle.fs_store.specs.Moments.{IsWhole, KeepsGiven, KeepsOpening, OpensTo, OpensToEither};
 ghost use Rattle.fs_store.specs.Opened.{IsRefusedFor, LeavesDisk, Opens};
 ghost use Rattle.fs_store.specs.Seeing.{IsSeen};
@@ -53,7 +54,7 @@ impl<D: Disk + Drop> Model for Store<D> {
 
     ghost Value = { StoreView };
 
-    ghost view = { λ store. record { history = history_where (D.told store.disk) store.known.end; end = store.known.end; limit = store.limit; out = option_map (out_of (D.told store.disk) store.known.end) store.out; stale = store.stale; disk = record { told = D.told store.disk; counter = D.counter store.disk; calls = D.device_calls store.disk; spare_calls = D.spare_calls store.disk; spare_bytes = D.spare_bytes store.disk } } };
+    ghost view = { λ store. record { history = history_where (D.told store.disk) store.known.end; end = store.known.end; limit = store.limit; out = option_map (out_of (D.told store.disk) store.known.end) store.out; stale = store.stale; disk = record { told = D.told store.disk; counter = D.counter store.disk; spare_calls = D.spare_calls store.disk; spare_bytes = D.spare_bytes store.disk } } };
 
     ghost invariant = { λ store. (store.limit ≤ most_length) × (store.stale ≡ false → IsKept (D.told store.disk) store.known store.limit store.out (D.spare_calls store.disk) (D.spare_bytes store.disk)) };
 }
@@ -131,13 +132,15 @@ impl<D: Disk + Drop> Store<D> {
         }
     }
 
-    /// What the object was up to the transaction `at`.
+    /// What the object was up to the transaction `at`: at most two device calls for its last record, two for each later
+    /// one that is passed, and two for each back pointer that is followed.
     pub fn load(&mut self, oid: Oid, at: Tid) -> Result<Loaded, LoadRefusal>
         requires fresh { self.old.stale ≡ false }
         ensures value { IfOk result (λ loaded. IsTold self.old → (loaded.value ≡ value (upto self.old.history at) oid) × (loaded.serial ≡ serial (upto self.old.history at) oid)) }
         ensures seen { IfOk result (λ loaded. IsSeen self.new (record { oid = oid; serial = loaded.serial; place = loaded.place })) }
         ensures same { Stays self.old self.new }
         ensures any_moment { KeepsOpening self.old self.new }
+        ensures reads { IfSome self.old.disk.told (λ told. CostsLoad told self.old.end oid at self.old.disk.counter.calls self.new.disk.counter.calls) }
         ensures counts { Counts self.old.disk.counter self.new.disk.counter (IsErrOf result LoadRefusal.Disk) }
     {
         let len = self.long();
@@ -194,7 +197,8 @@ impl<D: Disk + Drop> Store<D> {
         ensures stale { IfErr result (λ (refusal, _). refusal ≡ VoteRefusal.Disk → self.new ≡ staled self.old self.new.disk) }
         ensures seen { (seen : Seen) → IsSeen self.old seen → IsSeen self.new seen }
         ensures any_moment { KeepsOpening self.old self.new }
-        ensures calls { IfOk result (λ _. HasNoRestore draft → self.new.disk.calls ≡ counted (counted self.old.disk.calls)) }
+        ensures calls { IfOk result (λ _. HasNoRestore draft → self.new.disk.counter.calls ≡ counted (counted self.old.disk.counter.calls)) }
+        ensures twice { IfOk result (λ _. Twice self.old.disk.counter self.new.disk.counter) }
         ensures counts { IfOk result (λ _. Counts self.old.disk.counter self.new.disk.counter ⊥) }
         ensures fault { IfErr result (λ (refusal, _). Counts self.old.disk.counter self.new.disk.counter (refusal ≡ VoteRefusal.Disk)) }
     {
@@ -237,7 +241,8 @@ impl<D: Disk + Drop> Store<D> {
         ensures stale { OnErr result (self.new ≡ staled self.old self.new.disk) }
         ensures seen { OnOk result ((seen : Seen) → IsSeen self.old seen → IsSeen self.new seen) }
         ensures any_moment { (o : Out) → self.old.out ≡ Some o → OpensToEither self.old self.new (added self.old.history o.transaction) }
-        ensures calls { OnOk result (self.new.disk.calls ≡ counted (counted self.old.disk.calls)) }
+        ensures calls { OnOk result (self.new.disk.counter.calls ≡ counted (counted self.old.disk.counter.calls)) }
+        ensures twice { OnOk result (Twice self.old.disk.counter self.new.disk.counter) }
         ensures counts { Counts self.old.disk.counter self.new.disk.counter (IsErr result) }
     {
         let tid = voted.spend();
@@ -264,7 +269,8 @@ impl<D: Disk + Drop> Store<D> {
         ensures stale { OnErr result (self.new ≡ staled self.old self.new.disk) }
         ensures seen { OnOk result ((seen : Seen) → IsSeen self.old seen → IsSeen self.new seen) }
         ensures any_moment { KeepsOpening self.old self.new }
-        ensures calls { OnOk result (self.new.disk.calls ≡ counted (counted self.old.disk.calls)) }
+        ensures calls { OnOk result (self.new.disk.counter.calls ≡ counted (counted self.old.disk.counter.calls)) }
+        ensures twice { OnOk result (Twice self.old.disk.counter self.new.disk.counter) }
         ensures counts { Counts self.old.disk.counter self.new.disk.counter (IsErr result) }
     {
         let _ = voted.spend();
@@ -287,7 +293,6 @@ impl<D: Disk + Drop> Store<D> {
         ensures told { D.told result ≡ self.disk.told }
         ensures whole { self.stale ≡ false → IfSome (D.told result) (λ told. IsSynced told × IsWhole self (content told)) }
         ensures counter { D.counter result ≡ self.disk.counter }
-        ensures calls { D.device_calls result ≡ self.disk.calls }
         ensures spare { (D.spare_calls result ≡ self.disk.spare_calls) × (D.spare_bytes result ≡ self.disk.spare_bytes) }
     {
         let Store {

@@ -35,7 +35,7 @@ fn clash_with(seen: &Seen, found: Tid) -> Clash
 fn clash_at<D: Disk>(disk: &mut D, known: &Known, seen: &Seen) -> Result<Option<Clash>, Failed>
     requires known { IsKnown (D.told disk.old) known.now known.now.end }
     requires seen { SeenOn (D.told disk.old) known.now.end seen.now }
-    ensures calls { IfOk result (λ clash. clash ≡ None → D.device_calls disk.new ≡ D.device_calls disk.old) }
+    ensures calls { IfOk result (λ clash. clash ≡ None → (D.counter disk.new).calls ≡ (D.counter disk.old).calls) }
     ensures clash { IfOk result (λ clash. IfSome (D.told disk.old) (λ told. clash ≡ clash_at (history_at told known.now.end) seen.now)) }
     ensures same { D.told disk.new ≡ D.told disk.old }
     ensures spare { (D.spare_calls disk.new ≡ D.spare_calls disk.old) × (D.spare_bytes disk.new ≡ D.spare_bytes disk.old) }
@@ -61,7 +61,7 @@ fn clash_among<D: Disk>(
 ) -> Result<Option<Clash>, Failed>
     requires known { IsKnown (D.told disk.old) known.now known.now.end }
     requires seen { All (SeenOn (D.told disk.old) known.now.end) reads.now }
-    ensures calls { IfOk result (λ clash. clash ≡ None → D.device_calls disk.new ≡ D.device_calls disk.old) }
+    ensures calls { IfOk result (λ clash. clash ≡ None → (D.counter disk.new).calls ≡ (D.counter disk.old).calls) }
     ensures clash { IfOk result (λ clash. IfSome (D.told disk.old) (λ told. clash ≡ clash_among (history_at told known.now.end) reads.now)) }
     ensures same { D.told disk.new ≡ D.told disk.old }
     ensures spare { (D.spare_calls disk.new ≡ D.spare_calls disk.old) × (D.spare_bytes disk.new ≡ D.spare_bytes disk.old) }
@@ -169,7 +169,7 @@ pub(crate) fn refusal<D: Disk>(
     requires seen { All (SeenOn (D.told disk.old) known.now.end) reads.now }
     ensures refusal { IfOk result (λ refusal. IfSome (D.told disk.old) (λ told. refusal ≡ validation_at (history_at told known.now.end) known.now.end limit draft.now (clash_among (history_at told known.now.end) reads.now))) }
     ensures free { IfOk result (λ refusal. refusal ≡ None → IsFree known.now.last known.now.next known.now.end limit draft.now) }
-    ensures calls { IfOk result (λ refusal. refusal ≡ None → D.device_calls disk.new ≡ D.device_calls disk.old) }
+    ensures calls { IfOk result (λ refusal. refusal ≡ None → (D.counter disk.new).calls ≡ (D.counter disk.old).calls) }
     ensures own { IfOk result (λ refusal. (refusal ≡ Some VoteRefusal.Memory → ⊥) × (refusal ≡ Some VoteRefusal.Disk → ⊥)) }
     ensures same { D.told disk.new ≡ D.told disk.old }
     ensures spare { (D.spare_calls disk.new ≡ D.spare_calls disk.old) × (D.spare_bytes disk.new ≡ D.spare_bytes disk.old) }

@@ -2,11 +2,11 @@
 use Rattle.std.proofs.Common.{◌≡◌, ℕ, ◌+◌, ◌<◌, ◌==◌, ◌&&◌, ◌||◌, Bool, true, false, List, [], ◌∷◌, min, refl, arith, nat_le}
 use Rattle.std.specs.List.{list_all, list_any}
 use Rattle.std.proofs.lemmas.Bool.Decides.{nat_tests}
-use Rattle.zbase.specs.Faults.{Counter, Counts, last_count}
+use Rattle.zbase.specs.Faults.{Counter, Counts, last_count, no_arms, hits_none, spends_none}
 
 -- the count that contracts see
 abbrev pub planned : List ℕ → ℕ → ℕ → Counter
-planned failing calls count = record { count = count; sound = list_all (λ n. nat_le n calls) failing }
+planned failing calls count = record { count = count; sound = list_all (λ n. nat_le n calls) failing; calls = calls; arms = no_arms }
 
 -- where all numbers are behind, the next isn't among them
 none_left : (failing : List ℕ) (calls number : ℕ) → number ≡ calls + 1 → list_all (λ n. nat_le n calls) failing ≡ true → list_any (λ n. n == number) failing ≡ true → ⊥
@@ -35,6 +35,8 @@ call_fails failing calls number count raised small is any up = record {
   told = λ _. refl;
   cause = λ _. omega (arith, up);
   calm = λ calm. absurd (none_left failing calls number is calm.sound any);
+  calls = omega (arith, is);
+  arms = record { spends = λ no. spends_none no_arms; first = λ f. refl };
 }
 
 pub call_passes : (failing : List ℕ) (calls number count : ℕ) → number ≡ calls + 1 → Counts (planned failing calls count) (planned failing number count) (false ≡ true)
@@ -43,4 +45,6 @@ call_passes failing calls number count is = record {
   told = λ h. absurd (omega arith);
   cause = λ e. absurd cc;
   calm = λ calm. (record { sound = still_behind failing calls number is calm.sound; below = calm.below }, refl);
+  calls = omega (arith, is);
+  arms = hits_none no_arms (false ≡ true) (λ e. absurd cc);
 }

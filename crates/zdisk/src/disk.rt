@@ -1,6 +1,6 @@
 ghost use Rattle.std.specs.Prelude.{◌≡◌, ◌+◌, ◌≤◌, ℕ, length, OnOk, IsErr};
 ghost use Rattle.std.specs.declared.option.Option.{Option};
-ghost use Rattle.zbase.specs.Faults.{Counter, Counts};
+ghost use Rattle.zbase.specs.Faults.{Counter, Counts, Once};
 ghost use Rattle.zdisk.specs.Disk.{Told, GivesLength, HasRange, GivesRange, HasPlace, counted};
 ghost use Rattle.zdisk.specs.Calls.{Follows, Writes, Cuts, Syncs};
 
@@ -18,11 +18,8 @@ pub trait Disk {
     /// What the file has held, where the disk tells.
     ghost told: { Self → Option Told };
 
-    /// How often the disk has failed, and whether it can fail at all.
+    /// How many device calls the disk has had, how often it has failed, whether it can fail at all, and what is armed.
     ghost counter: { Self → Counter };
-
-    /// How many device calls the disk has had.
-    ghost device_calls: { Self → ℕ };
 
     /// For how many calls of `write_at`, `cut` and `sync` there is room.
     ghost spare_calls: { Self → ℕ };
@@ -36,14 +33,15 @@ pub trait Disk {
         ensures room { OnOk result ((calls ≤ spare_calls self.new) × (bytes ≤ spare_bytes self.new)) }
         ensures kept { (spare_calls self.old ≤ spare_calls self.new) × (spare_bytes self.old ≤ spare_bytes self.new) }
         ensures same { told self.new ≡ told self.old }
-        ensures uncalled { (counter self.new ≡ counter self.old) × (device_calls self.new ≡ device_calls self.old) };
+        ensures uncalled { counter self.new ≡ counter self.old };
 
     /// The length of the file in bytes.
     fn len(&mut self) -> Result<u64, Failed>
         ensures value { GivesLength (told self.old) result }
         ensures same { told self.new ≡ told self.old }
         ensures spare { (spare_calls self.new ≡ spare_calls self.old) × (spare_bytes self.new ≡ spare_bytes self.old) }
-        ensures call { device_calls self.new ≡ counted (device_calls self.old) }
+        ensures call { (counter self.new).calls ≡ counted (counter self.old).calls }
+        ensures once { OnOk result (Once (counter self.old) (counter self.new)) }
         ensures counts { Counts (counter self.old) (counter self.new) (IsErr result) };
 
     /// Fills the buffer with the bytes at a place, counted from the start of the file.
@@ -52,7 +50,8 @@ pub trait Disk {
         ensures value { GivesRange (told self.old) at result buf.new }
         ensures same { told self.new ≡ told self.old }
         ensures spare { (spare_calls self.new ≡ spare_calls self.old) × (spare_bytes self.new ≡ spare_bytes self.old) }
-        ensures call { device_calls self.new ≡ counted (device_calls self.old) }
+        ensures call { (counter self.new).calls ≡ counted (counter self.old).calls }
+        ensures once { OnOk result (Once (counter self.old) (counter self.new)) }
         ensures counts { Counts (counter self.old) (counter self.new) (IsErr result) };
 
     /// Puts bytes at a place, over what stands there and past the end of the file.
@@ -62,7 +61,8 @@ pub trait Disk {
         requires space { length bytes.now ≤ spare_bytes self.old }
         ensures held { Follows (told self.old) (told self.new) (Writes at bytes.now result) }
         ensures spare { (spare_calls self.old ≤ spare_calls self.new + 1) × (spare_bytes self.old ≤ spare_bytes self.new + length bytes.now) }
-        ensures call { device_calls self.new ≡ counted (device_calls self.old) }
+        ensures call { (counter self.new).calls ≡ counted (counter self.old).calls }
+        ensures once { OnOk result (Once (counter self.old) (counter self.new)) }
         ensures counts { Counts (counter self.old) (counter self.new) (IsErr result) };
 
     /// Makes the file as short as this.
@@ -71,7 +71,8 @@ pub trait Disk {
         requires room { 1 ≤ spare_calls self.old }
         ensures held { Follows (told self.old) (told self.new) (Cuts to result) }
         ensures spare { (spare_calls self.old ≤ spare_calls self.new + 1) × (spare_bytes self.old ≤ spare_bytes self.new) }
-        ensures call { device_calls self.new ≡ counted (device_calls self.old) }
+        ensures call { (counter self.new).calls ≡ counted (counter self.old).calls }
+        ensures once { OnOk result (Once (counter self.old) (counter self.new)) }
         ensures counts { Counts (counter self.old) (counter self.new) (IsErr result) };
 
     /// Brings the file's data and its length to the device: from then on what reads give is what a stop leaves.
@@ -79,6 +80,7 @@ pub trait Disk {
         requires room { 1 ≤ spare_calls self.old }
         ensures held { Follows (told self.old) (told self.new) (Syncs result) }
         ensures spare { (spare_calls self.old ≤ spare_calls self.new + 1) × (spare_bytes self.old ≤ spare_bytes self.new) }
-        ensures call { device_calls self.new ≡ counted (device_calls self.old) }
+        ensures call { (counter self.new).calls ≡ counted (counter self.old).calls }
+        ensures once { OnOk result (Once (counter self.old) (counter self.new)) }
         ensures counts { Counts (counter self.old) (counter self.new) (IsErr result) };
 }

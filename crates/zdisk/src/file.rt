@@ -14,7 +14,6 @@ use zbase::{Failed, FaultCount, Memory};
 #[derive(Drop)]
 pub struct FileDisk<T> {
     file: T,
-    calls: u64,
     faults: FaultCount,
 }
 
@@ -22,11 +21,10 @@ impl<T: Read + Write + Seek + OpenFile> FileDisk<T> {
     /// A disk over an open file, which has not failed so far.
     pub fn new(file: T) -> FileDisk<T>
         ensures count { (⟦<FileDisk<T> as Disk>⟧.counter result).count ≡ 0 }
-        ensures calls { ⟦<FileDisk<T> as Disk>⟧.device_calls result ≡ 0 }
+        ensures calls { (⟦<FileDisk<T> as Disk>⟧.counter result).calls ≡ 0 }
     {
         FileDisk {
             file,
-            calls: 0,
             faults: FaultCount::new(),
         }
     }
@@ -37,8 +35,6 @@ impl<T: Read + Write + Seek + OpenFile> Disk for FileDisk<T> {
 
     ghost counter = { λ disk. disk.faults };
 
-    ghost device_calls = { λ disk. disk.calls };
-
     ghost spare_calls = { λ _. last_count };
 
     ghost spare_bytes = { λ _. last_count };
@@ -48,44 +44,25 @@ impl<T: Read + Write + Seek + OpenFile> Disk for FileDisk<T> {
     }
 
     fn len(&mut self) -> Result<u64, Failed> {
-        self.calls = self.calls.saturating_add(1);
-        match self.file.metadata() {
-            Ok(data) => Ok(data.len()),
-            Err(_) => Err(self.faults.fault()),
-        }
+        let data = self.faults.call(self.file.metadata())?;
+        Ok(data.len())
     }
 
     fn read_at(&mut self, at: u64, buf: &mut [u8]) -> Result<(), Failed> {
-        self.calls = self.calls.saturating_add(1);
-        match read_from(&mut self.file, at, buf) {
-            Ok(()) => Ok(()),
-            Err(_) => Err(self.faults.fault()),
-        }
+        self.faults.call(read_from(&mut self.file, at, buf))
     }
 
     fn write_at(&mut self, at: u64, bytes: &[u8]) -> Result<(), Failed> {
-        self.calls = self.calls.saturating_add(1);
-        match write_to(&mut self.file, at, bytes) {
-            Ok(()) => Ok(()),
-            Err(_) => Err(self.faults.fault()),
-        }
+        self.faults.call(write_to(&mut self.file, at, bytes))
     }
 
     fn cut(&mut self, to: u64) -> Result<(), Failed> {
-        self.calls = self.calls.saturating_add(1);
-        match self.file.set_len(to) {
-            Ok(()) => Ok(()),
-            Err(_) => Err(self.faults.fault()),
-        }
+        self.faults.call(self.file.set_len(to))
     }
 
     fn sync(&mut self) -> Result<(), Failed> {
-        self.calls = self.calls.saturating_add(1);
         // Not `sync_data`: the file's length must reach the device too.
-        match self.file.sync_all() {
-            Ok(()) => Ok(()),
-            Err(_) => Err(self.faults.fault()),
-        }
+        self.faults.call(self.file.sync_all())
     }
 }
 

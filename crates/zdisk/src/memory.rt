@@ -23,7 +23,6 @@ pub struct MemoryDisk {
     /// The bytes that writes covered, one after another.
     covered: Vec<u8>,
     entries: Vec<Entry>,
-    calls: u64,
     plan: FaultPlan,
     ghost within: { len ≤ length bytes.items },
 }
@@ -33,7 +32,7 @@ impl MemoryDisk {
     pub fn new(alloc: Global, bytes: Bytes) -> MemoryDisk
         ensures told { ⟦<MemoryDisk as Disk>⟧.told result ≡ Some (synced bytes) }
         ensures faultless { IsFaultless (⟦<MemoryDisk as Disk>⟧.counter result) }
-        ensures calls { ⟦<MemoryDisk as Disk>⟧.device_calls result ≡ 0 }
+        ensures calls { (⟦<MemoryDisk as Disk>⟧.counter result).calls ≡ 0 }
     {
         MemoryDisk::with_faults(bytes, FaultPlan::none(alloc))
     }
@@ -42,7 +41,6 @@ impl MemoryDisk {
     pub fn with_faults(bytes: Bytes, plan: FaultPlan) -> MemoryDisk
         ensures told { ⟦<MemoryDisk as Disk>⟧.told result ≡ Some (synced bytes) }
         ensures counter { ⟦<MemoryDisk as Disk>⟧.counter result ≡ plan }
-        ensures calls { ⟦<MemoryDisk as Disk>⟧.device_calls result ≡ 0 }
     {
         let alloc = bytes.alloc();
         let bytes = bytes.into_vec();
@@ -51,16 +49,15 @@ impl MemoryDisk {
             bytes,
             covered: Vec::new(alloc),
             entries: Vec::new(alloc),
-            calls: 0,
             plan,
         }
     }
 
     /// How many device calls the disk has had.
     pub fn calls(&self) -> u64
-        ensures { result ≡ ⟦<MemoryDisk as Disk>⟧.device_calls self.now }
+        ensures { result ≡ (⟦<MemoryDisk as Disk>⟧.counter self.now).calls }
     {
-        self.calls
+        self.plan.calls()
     }
 }
 
@@ -68,8 +65,6 @@ impl Disk for MemoryDisk {
     ghost told = { λ disk. Some (told_by (record { bytes = disk.bytes.items; len = disk.len; covered = disk.covered.items }) disk.entries.items) };
 
     ghost counter = { λ disk. disk.plan };
-
-    ghost device_calls = { λ disk. disk.calls };
 
     ghost spare_calls = { λ disk. vec_capacity disk.entries - vec_len disk.entries };
 
@@ -83,13 +78,11 @@ impl Disk for MemoryDisk {
     }
 
     fn len(&mut self) -> Result<u64, Failed> {
-        self.calls = self.calls.saturating_add(1);
         self.plan.call()?;
         Ok(self.len as u64)
     }
 
     fn read_at(&mut self, at: u64, buf: &mut [u8]) -> Result<(), Failed> {
-        self.calls = self.calls.saturating_add(1);
         self.plan.call()?;
         let start = at as usize;
         buf.copy_from_slice(&self.bytes[start..start + buf.len()]);
@@ -97,7 +90,6 @@ impl Disk for MemoryDisk {
     }
 
     fn write_at(&mut self, at: u64, bytes: &[u8]) -> Result<(), Failed> {
-        self.calls = self.calls.saturating_add(1);
         if self.plan.call().is_err() {
             note(&mut self.entries, Entry::Failed);
             return Err(Failed);
@@ -116,7 +108,6 @@ impl Disk for MemoryDisk {
     }
 
     fn cut(&mut self, to: u64) -> Result<(), Failed> {
-        self.calls = self.calls.saturating_add(1);
         if self.plan.call().is_err() {
             note(&mut self.entries, Entry::Failed);
             return Err(Failed);
@@ -127,7 +118,6 @@ impl Disk for MemoryDisk {
     }
 
     fn sync(&mut self) -> Result<(), Failed> {
-        self.calls = self.calls.saturating_add(1);
         if self.plan.call().is_err() {
             note(&mut self.entries, Entry::Failed);
             return Err(Failed);

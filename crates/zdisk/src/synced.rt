@@ -1,6 +1,6 @@
 ghost use Rattle.std.specs.Prelude.{◌≡◌, ◌⊎◌, ◌+◌, ◌<◌, ◌≤◌, ◌++◌, length, take, slice_set, OnOk, IsErr};
 ghost use Rattle.std.specs.Option.{ForSome};
-ghost use Rattle.zbase.specs.Faults.{Counts};
+ghost use Rattle.zbase.specs.Faults.{Counts, Twice};
 ghost use Rattle.zdisk.specs.Disk.{content, counted};
 ghost use Rattle.zdisk.specs.Images.{IsMixture};
 ghost use Rattle.zdisk.specs.Calls.{put};
@@ -20,7 +20,8 @@ pub fn write_and_sync<D: Disk>(disk: &mut D, at: u64, piece: &[u8]) -> Result<()
     ensures any_moment { LeavesFrom (D.told disk.old) (D.told disk.new) (λ file image. IsMixture file (put at piece.now file) image) }
     ensures written { OnOk result (Becomes (D.told disk.old) (D.told disk.new) (put at piece.now)) }
     ensures spare { OnOk result ((D.spare_calls disk.old ≤ D.spare_calls disk.new + 2) × (D.spare_bytes disk.old ≤ D.spare_bytes disk.new + length piece.now)) }
-    ensures calls { OnOk result (D.device_calls disk.new ≡ counted (counted (D.device_calls disk.old))) }
+    ensures calls { OnOk result ((D.counter disk.new).calls ≡ counted (counted (D.counter disk.old).calls)) }
+    ensures twice { OnOk result (Twice (D.counter disk.old) (D.counter disk.new)) }
     ensures counts { Counts (D.counter disk.old) (D.counter disk.new) (IsErr result) }
 {
     disk.write_at(at, piece)?;
@@ -36,7 +37,8 @@ pub fn cut_and_sync<D: Disk>(disk: &mut D, to: u64) -> Result<(), Failed>
     ensures any_moment { LeavesFrom (D.told disk.old) (D.told disk.new) (λ file image. IsMixture file (take to file) image) }
     ensures cut { OnOk result (Becomes (D.told disk.old) (D.told disk.new) (take to)) }
     ensures spare { OnOk result ((D.spare_calls disk.old ≤ D.spare_calls disk.new + 2) × (D.spare_bytes disk.old ≤ D.spare_bytes disk.new)) }
-    ensures calls { OnOk result (D.device_calls disk.new ≡ counted (counted (D.device_calls disk.old))) }
+    ensures calls { OnOk result ((D.counter disk.new).calls ≡ counted (counted (D.counter disk.old).calls)) }
+    ensures twice { OnOk result (Twice (D.counter disk.old) (D.counter disk.new)) }
     ensures counts { Counts (D.counter disk.old) (D.counter disk.new) (IsErr result) }
 {
     disk.cut(to)?;
@@ -53,7 +55,8 @@ pub fn append_and_sync<D: Disk>(disk: &mut D, end: u64, piece: &[u8]) -> Result<
     ensures any_moment { LeavesFrom (D.told disk.old) (D.told disk.new) (λ file image. IsTorn file piece.now image) }
     ensures written { OnOk result (Becomes (D.told disk.old) (D.told disk.new) (λ file. file ++ piece.now)) }
     ensures spare { OnOk result ((D.spare_calls disk.old ≤ D.spare_calls disk.new + 2) × (D.spare_bytes disk.old ≤ D.spare_bytes disk.new + length piece.now)) }
-    ensures calls { OnOk result (D.device_calls disk.new ≡ counted (counted (D.device_calls disk.old))) }
+    ensures calls { OnOk result ((D.counter disk.new).calls ≡ counted (counted (D.counter disk.old).calls)) }
+    ensures twice { OnOk result (Twice (D.counter disk.old) (D.counter disk.new)) }
     ensures counts { Counts (D.counter disk.old) (D.counter disk.new) (IsErr result) }
 {
     write_and_sync(disk, end, piece)
@@ -69,7 +72,8 @@ pub fn overwrite_and_sync<D: Disk>(disk: &mut D, at: u64, byte: u8) -> Result<()
     ensures any_moment { LeavesFrom (D.told disk.old) (D.told disk.new) (λ file image. (image ≡ file) ⊎ (image ≡ slice_set file at byte)) }
     ensures written { OnOk result (Becomes (D.told disk.old) (D.told disk.new) (λ file. slice_set file at byte)) }
     ensures spare { OnOk result ((D.spare_calls disk.old ≤ D.spare_calls disk.new + 2) × (D.spare_bytes disk.old ≤ D.spare_bytes disk.new + 1)) }
-    ensures calls { OnOk result (D.device_calls disk.new ≡ counted (counted (D.device_calls disk.old))) }
+    ensures calls { OnOk result ((D.counter disk.new).calls ≡ counted (counted (D.counter disk.old).calls)) }
+    ensures twice { OnOk result (Twice (D.counter disk.old) (D.counter disk.new)) }
     ensures counts { Counts (D.counter disk.old) (D.counter disk.new) (IsErr result) }
 {
     write_and_sync(disk, at, &[byte])

@@ -1,11 +1,11 @@
 ghost use Rattle.std.specs.Prelude.{◌≡◌, IsErr, false, true};
-ghost use Rattle.zbase.specs.Faults.{Counter, Counts};
+ghost use Rattle.zbase.specs.Faults.{Counter, Counts, no_arms};
 ghost use Rattle.zio.specs.PartCounts.{IsBacked};
 
 use std::marker::Model;
 use zbase::{Failed, FaultPlan};
 
-/// How often some of an object's calls have failed, where a plan counts all of its calls.
+/// How often some of an object's calls have failed, where a plan counts all of its calls; it counts none itself.
 #[derive(Drop)]
 pub struct PartCount {
     faults: u64,
@@ -15,13 +15,13 @@ pub struct PartCount {
 impl Model for PartCount {
     ghost Value = { Counter };
 
-    ghost view = { λ part. record { count = part.faults; sound = part.sound } };
+    ghost view = { λ part. record { count = part.faults; sound = part.sound; calls = 0; arms = no_arms } };
 }
 
 impl PartCount {
     /// None so far, of calls that may fail.
     pub fn new() -> PartCount
-        ensures { result ≡ record { count = 0; sound = false } }
+        ensures { result ≡ record { count = 0; sound = false; calls = 0; arms = no_arms } }
     {
         PartCount {
             faults: 0,
@@ -31,7 +31,7 @@ impl PartCount {
 
     /// None so far, of calls that can't fail.
     pub fn faultless() -> PartCount
-        ensures { result ≡ record { count = 0; sound = true } }
+        ensures { result ≡ record { count = 0; sound = true; calls = 0; arms = no_arms } }
     {
         PartCount {
             faults: 0,

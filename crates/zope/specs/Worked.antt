@@ -1,6 +1,6 @@
 -- A worked run: a check of a file without transactions, where nothing outside fails, and which writes nothing.
 use Rattle.std.specs.Prelude.{ℕ, List, [], ◌∷◌, Some, codes, true}
-use Rattle.zbase.specs.Faults.{Counter}
+use Rattle.zbase.specs.Faults.{Counter, no_arms}
 use Rattle.fs_record.specs.File.{magic}
 use Rattle.zope.specs.Outside.{OutsideView, outside}
 
@@ -8,7 +8,7 @@ abbrev pub checking : List (List ℕ)
 checking = codes "check" ∷ codes "a" ∷ []
 
 abbrev pub calm : Counter
-calm = record { count = 0; sound = true }
+calm = record { count = 0; sound = true; calls = 0; arms = no_arms }
 
 -- the moment before the run, and behind one that gave up at once
 abbrev pub untouched : OutsideView

@@ -29,7 +29,6 @@ impl Source for Endless {
 #[derive(Drop)]
 struct LongDisk {
     length: u64,
-    calls: u64,
     faults: FaultCount,
 }
 
@@ -37,8 +36,6 @@ impl Disk for LongDisk {
     ghost told = { λ _. None };
 
     ghost counter = { λ disk. disk.faults };
-
-    ghost device_calls = { λ disk. disk.calls };
 
     ghost spare_calls = { λ _. last_count };
 
@@ -49,28 +46,23 @@ impl Disk for LongDisk {
     }
 
     fn len(&mut self) -> Result<u64, Failed> {
-        self.calls = self.calls.saturating_add(1);
-        Ok(self.length)
+        self.faults.call(Ok::<u64, Failed>(self.length))
     }
 
     fn read_at(&mut self, _at: u64, _buf: &mut [u8]) -> Result<(), Failed> {
-        self.calls = self.calls.saturating_add(1);
-        Ok(())
+        self.faults.call(Ok::<(), Failed>(()))
     }
 
     fn write_at(&mut self, _at: u64, _bytes: &[u8]) -> Result<(), Failed> {
-        self.calls = self.calls.saturating_add(1);
-        Ok(())
+        self.faults.call(Ok::<(), Failed>(()))
     }
 
     fn cut(&mut self, _to: u64) -> Result<(), Failed> {
-        self.calls = self.calls.saturating_add(1);
-        Ok(())
+        self.faults.call(Ok::<(), Failed>(()))
     }
 
     fn sync(&mut self) -> Result<(), Failed> {
-        self.calls = self.calls.saturating_add(1);
-        Ok(())
+        self.faults.call(Ok::<(), Failed>(()))
     }
 }
 
@@ -93,7 +85,6 @@ impl Shelf for LongShelf {
     fn open(&mut self, _name: &str) -> Result<LongDisk, ShelfRefusal> {
         Ok(LongDisk {
             length: self.length,
-            calls: 0,
             faults: FaultCount::new(),
         })
     }

@@ -1,10 +1,20 @@
-use Rattle.std.proofs.Common.{◌≡◌, Option, Some, IfSome, drop, sym, ap, ◌∙◌, subst}
-use Rattle.zbase.specs.Faults.{counts_as, counts_then}
+use Rattle.std.proofs.Common.{◌≡◌, Option, Some, Result, Err, IfSome, drop, sym, ap, ◌∙◌, subst, arith}
+use Rattle.std.specs.Prelude.{IsErrOf}
+use Rattle.std.proofs.lemmas.Result.{err_from_is_err_and}
+use Rattle.zbase.specs.Faults.{Counter, Counts, counts_as, counts_then}
 use Rattle.zdisk.specs.Disk.{Told, content}
+use Rattle.fs_scan.specs.declared.opening.ScanRefusal.{ScanRefusal}
 use Rattle.fs_scan.specs.Walked.{Course}
 use Rattle.fs_scan.specs.Windows.{Shows}
-use Rattle.fs_scan.proofs.ScanSteps.{scans_on, scan_breaks}
+use Rattle.fs_scan.proofs.ScanSteps.{scan_breaks, scan_ends, scans_on}
 use Rattle.fs_scan.proofs.opening.scan.Goals as goal
+
+one_refusal : {T : Type 0} (x y : ScanRefusal) → IsErrOf {T = T} (Err x) y → x ≡ y
+one_refusal x y e = cc
+
+-- the same refusal, as another call's
+same_refusal : {a b : Counter} {T U : Type 0} (r : Result T ScanRefusal) (e : ScanRefusal) → r ≡ Err e → Counts a b (IsErrOf {T = U} (Err e) ScanRefusal.Disk) → Counts a b (IsErrOf r ScanRefusal.Disk)
+same_refusal {a} {b} {T} {U} r e is counts = counts_as counts (λ f. is ∙ ap (λ k. Err k) (one_refusal {T = U} e ScanRefusal.Disk f)) (λ f. ap (λ k. Err k) (one_refusal {T = T} e ScanRefusal.Disk (sym is ∙ f)))
 
 pub returns-in-Damaged-clause-damaged : goal.returns-in-Damaged-clause-damaged
 returns-in-Damaged-clause-damaged g c = λ kind place is.
@@ -33,3 +43,15 @@ each-preserved g c =
       spare = (w.spare.0 ∙ i.spare.0, w.spare.1 ∙ i.spare.1);
       counts = counts_then i.counts (λ none. none) (counts_as w.counts (λ e. cc) (λ none. absurd none));
     }
+
+pub returns-in_err-window-clause-counts : goal.returns-in_err-window-clause-counts
+returns-in_err-window-clause-counts g c =
+    let p = err_from_is_err_and c.from_residual-in_err-window.result c.from_residual-in_err-window.ensures.1 in
+    same_refusal c.from_residual-in_err-window.result c.in_err-window.field-0.0 (p.1 ∙ ap (λ k. Err k) p.2) (counts_then c.each.invariant.counts (λ none. none) c.in_err-window.ensures.counts)
+
+pub returns-in-End-clause-told : goal.returns-in-End-clause-told
+returns-in-End-clause-told g c =
+    let i = c.each.invariant in
+    let shows = subst (λ (d : Option Told). IfSome d (λ told. Shows c.in_ok-window.window.items (drop c.each.tally.at (content told)))) i.same c.in_ok-window.ensures.shows in
+    let says = rw c.deref.ensures.value at (rw c.in-End.is at c.in_ok-step.ensures.ok) in
+    scan_ends (g.D.Disk.told c.args.disk.now) c.each.tally.at c.each.tally.last c.each.tally.floor c.each.tally.count c.in_ok-window.window.items c.each.walk.records c.step.new.self.records i.came shows c.in_ok-len.len c.saturating_sub.result c.greatest.result c.in_ok-rows-in-End.rows c.told.result says.0 i.length (omega (arith, c.saturating_sub.ensures)) c.greatest.ensures c.in_ok-rows-in-End.ensures c.told.ensures

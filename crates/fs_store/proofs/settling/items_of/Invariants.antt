@@ -15,7 +15,7 @@ invariant-loop-entry g l = record {
   bodies : All HasBody l.items.items;
   size : records_size l.items.items ≡ sizes_of (take l.entry-index l.entries);
   fits : AllByRecursion (FitsEntry l.known.next) (drop l.entry-index l.entries);
-  calls : AllByRecursion IsWrite (take l.entry-index l.entries) → g.D.Disk.device_calls l.disk ≡ g.D.Disk.device_calls l.fn.disk;
+  calls : AllByRecursion IsWrite (take l.entry-index l.entries) → (g.D.Disk.counter l.disk).calls ≡ (g.D.Disk.counter l.fn.disk).calls;
   same : g.D.Disk.told l.disk ≡ g.D.Disk.told l.fn.disk;
   spare : (g.D.Disk.spare_calls l.disk ≡ g.D.Disk.spare_calls l.fn.disk) × (g.D.Disk.spare_bytes l.disk ≡ g.D.Disk.spare_bytes l.fn.disk);
   counts : Counts (g.D.Disk.counter l.fn.disk) (g.D.Disk.counter l.disk) ⊥;

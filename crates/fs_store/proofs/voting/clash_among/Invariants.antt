@@ -8,7 +8,7 @@ use Rattle.fs_store.proofs.voting.clash_among.Given as goal
 abbrev pub invariant-loop-seen : goal.invariant-loop-seen
 invariant-loop-seen g l = record {
   left : IfSome (g.D.Disk.told l.fn.disk) (λ told. clash_among (history_at told l.known.end) (drop l.seen-index l.reads) ≡ clash_among (history_at told l.known.end) l.reads);
-  calls : g.D.Disk.device_calls l.disk ≡ g.D.Disk.device_calls l.fn.disk;
+  calls : (g.D.Disk.counter l.disk).calls ≡ (g.D.Disk.counter l.fn.disk).calls;
   same : g.D.Disk.told l.disk ≡ g.D.Disk.told l.fn.disk;
   spare : (g.D.Disk.spare_calls l.disk ≡ g.D.Disk.spare_calls l.fn.disk) × (g.D.Disk.spare_bytes l.disk ≡ g.D.Disk.spare_bytes l.fn.disk);
   counts : Counts (g.D.Disk.counter l.fn.disk) (g.D.Disk.counter l.disk) ⊥;
