@@ -1,4 +1,5 @@
 pub mod PrintSteps
+pub mod Flushing
 pub mod CalmSteps
 pub mod WholeReport
 pub mod BreakingOff

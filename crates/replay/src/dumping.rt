@@ -1,5 +1,6 @@
 ghost use Rattle.std.specs.Prelude.{◌≡◌, ℕ, IfSome, IsErrOf, OnOk};
 ghost use Rattle.zbase.specs.Faults.{Counts};
+ghost use Rattle.zio.specs.Sinks.{due};
 ghost use Rattle.zdisk.specs.Disk.{content};
 ghost use Rattle.fs_record.specs.declared.damage.Damage.{Damage as Kind};
 ghost use Rattle.fs_record.specs.Opening.{Damaged};
@@ -12,7 +13,7 @@ use fs_scan::{ScanRefusal, Walk, scan};
 use schedule::Line;
 use std::alloc::Global;
 use zdisk::Disk;
-use zio::{OutsideRefusal, Sink};
+use zio::{OutsideRefusal, Pending, Sink};
 
 /// Why a dump isn't whole.
 #[derive(Clone, Copy, Debug, PartialEq, Eq)]
@@ -50,23 +51,29 @@ impl From<OutsideRefusal> for DumpRefusal {
     }
 }
 
-/// Writes the history to which a disk's file opens, with all of its values, as a report does. A file with damage is
-/// refused before anything is written. It holds one transaction at a time, and changes nothing.
-pub fn dump<D: Disk, K: Sink>(alloc: Global, disk: &mut D, out: &mut K) -> Result<(), DumpRefusal>
-    ensures ok { OnOk result (IfSome (D.told disk.old) (λ told. Dumps (content told) (K.written out.old) (K.written out.new))) }
-    ensures damaged { (kind : Kind) (place : ℕ) → IsErrOf result (DumpRefusal.Damaged kind place) → IfSome (D.told disk.old) (λ told. Damaged (content told) place kind × (K.written out.new ≡ K.written out.old)) }
+/// Writes the history to which a disk's file opens, with all of its values, as a report does; what is pending at its end
+/// is still to be flushed. A file with damage is refused before anything is written or pending. It holds one transaction
+/// at a time, and changes nothing.
+pub fn dump<D: Disk, K: Sink>(
+    alloc: Global,
+    disk: &mut D,
+    held: &mut Pending,
+    out: &mut K,
+) -> Result<(), DumpRefusal>
+    ensures ok { OnOk result (IfSome (D.told disk.old) (λ told. Dumps (content told) (due (K.written out.old) held.old) (due (K.written out.new) held.new))) }
+    ensures damaged { (kind : Kind) (place : ℕ) → IsErrOf result (DumpRefusal.Damaged kind place) → IfSome (D.told disk.old) (λ told. Damaged (content told) place kind × ((K.written out.new ≡ K.written out.old) × (held.new ≡ held.old))) }
     ensures same { D.told disk.new ≡ D.told disk.old }
     ensures disk { Counts (D.counter disk.old) (D.counter disk.new) (IsErrOf result DumpRefusal.Disk) }
     ensures sink { Counts (K.counter out.old) (K.counter out.new) (IsErrOf result DumpRefusal.Output) }
 {
     let count = scan(alloc, disk)?.count;
-    put_line(alloc, &Line::History(count), out)?;
+    put_line(alloc, &Line::History(count), held, out)?;
     let mut walk = Walk::new(alloc);
     'each: loop {
         match walk.next(disk)? {
-            Some(whole) => put_transaction(alloc, &whole, out)?,
+            Some(whole) => put_transaction(alloc, &whole, held, out)?,
             None => {
-                put_line(alloc, &Line::End, out)?;
+                put_line(alloc, &Line::End, held, out)?;
                 return Ok(());
             }
         }

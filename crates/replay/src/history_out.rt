@@ -1,74 +1,81 @@
-ghost use Rattle.std.specs.Prelude.{◌≡◌, IfOk, OnOk, IsErrOf, length, map};
+ghost use Rattle.std.specs.Prelude.{◌≡◌, ◌∷◌, [], OnOk, IsErrOf, length, map};
 ghost use Rattle.zbase.specs.Faults.{Counts};
+ghost use Rattle.zio.specs.Sinks.{due};
 ghost use Rattle.schedule.specs.Explained.{record_line, transaction_lines};
+ghost use Rattle.schedule.specs.declared.line.Line.{Line};
 ghost use Rattle.fs_scan.specs.Wholes.{records_in, transaction_in};
 ghost use Rattle.replay.specs.Printed.{Prints};
 
-use crate::printing::put_line;
 use fs_scan::{OidValue, Whole};
-use schedule::Line;
+use schedule::{record_bytes, transaction_bytes};
 use std::alloc::Global;
-use zbase::{Memory, Value};
-use zio::{OutsideRefusal, Sink};
+use zio::{OutsideRefusal, Pending, Sink};
 
-// A second value of the same bytes.
-fn copy_of(value: &Value) -> Result<Value, Memory>
-    ensures { IfOk result (λ copy. copy ≡ value.now) }
+// Writes the line of a value.
+fn put_record<K: Sink>(
+    alloc: Global,
+    written: &OidValue,
+    held: &mut Pending,
+    out: &mut K,
+) -> Result<(), OutsideRefusal>
+    ensures ok { OnOk result (Prints (due (K.written out.old) held.old) (due (K.written out.new) held.new) (record_line (written.now.oid, written.now.value) ∷ [])) }
+    ensures counts { Counts (K.counter out.old) (K.counter out.new) (IsErrOf result OutsideRefusal.Failed) }
 {
-    match value {
-        None => Ok(None),
-        Some(bytes) => Ok(Some(bytes.copy()?)),
+    match record_bytes(alloc, written.oid, &written.value) {
+        Ok(text) => held.put(text.as_slice(), out),
+        Err(_) => Err(OutsideRefusal::Memory),
     }
-}
-
-// The line of a value.
-fn record_line_of(written: &OidValue) -> Result<Line, Memory>
-    ensures { IfOk result (λ line. line ≡ record_line (written.now.oid, written.now.value)) }
-{
-    Ok(Line::RecordRow(written.oid, copy_of(&written.value)?))
 }
 
 fn put_records<K: Sink>(
     alloc: Global,
     values: &[OidValue],
+    held: &mut Pending,
     out: &mut K,
 ) -> Result<(), OutsideRefusal>
-    ensures ok { OnOk result (Prints (K.written out.old) (K.written out.new) (map record_line (records_in values.now))) }
+    ensures ok { OnOk result (Prints (due (K.written out.old) held.old) (due (K.written out.new) held.new) (map record_line (records_in values.now))) }
     ensures counts { Counts (K.counter out.old) (K.counter out.new) (IsErrOf result OutsideRefusal.Failed) }
 {
     for written in values {
-        let Ok(line) = record_line_of(written) else {
-            return Err(OutsideRefusal::Memory);
-        };
-        put_line(alloc, &line, out)?;
+        put_record(alloc, written, held, out)?;
     }
     Ok(())
 }
 
-// The line of a transaction.
-fn transaction_line_of(transaction: &Whole) -> Result<Line, Memory>
-    ensures { IfOk result (λ line. line ≡ Line.Transaction transaction.now.tid transaction.now.texts.user transaction.now.texts.description transaction.now.texts.extension (length transaction.now.values)) }
+// Writes the line of a transaction, which its records' lines follow.
+fn put_head<K: Sink>(
+    alloc: Global,
+    transaction: &Whole,
+    held: &mut Pending,
+    out: &mut K,
+) -> Result<(), OutsideRefusal>
+    ensures ok { OnOk result (Prints (due (K.written out.old) held.old) (due (K.written out.new) held.new) (Line.Transaction transaction.now.tid transaction.now.texts.user transaction.now.texts.description transaction.now.texts.extension (length transaction.now.values) ∷ [])) }
+    ensures counts { Counts (K.counter out.old) (K.counter out.new) (IsErrOf result OutsideRefusal.Failed) }
 {
-    Ok(Line::Transaction(
+    let texts = &transaction.texts;
+    let count = transaction.values.len() as u64;
+    match transaction_bytes(
+        alloc,
         transaction.tid,
-        transaction.texts.user.copy()?,
-        transaction.texts.description.copy()?,
-        transaction.texts.extension.copy()?,
-        transaction.values.len() as u64,
-    ))
+        &texts.user,
+        &texts.description,
+        &texts.extension,
+        count,
+    ) {
+        Ok(text) => held.put(text.as_slice(), out),
+        Err(_) => Err(OutsideRefusal::Memory),
+    }
 }
 
 pub(crate) fn put_transaction<K: Sink>(
     alloc: Global,
     transaction: &Whole,
+    held: &mut Pending,
     out: &mut K,
 ) -> Result<(), OutsideRefusal>
-    ensures ok { OnOk result (Prints (K.written out.old) (K.written out.new) (transaction_lines (transaction_in transaction.now))) }
+    ensures ok { OnOk result (Prints (due (K.written out.old) held.old) (due (K.written out.new) held.new) (transaction_lines (transaction_in transaction.now))) }
     ensures counts { Counts (K.counter out.old) (K.counter out.new) (IsErrOf result OutsideRefusal.Failed) }
 {
-    let Ok(line) = transaction_line_of(transaction) else {
-        return Err(OutsideRefusal::Memory);
-    };
-    put_line(alloc, &line, out)?;
-    put_records(alloc, transaction.values.as_slice(), out)
+    put_head(alloc, transaction, held, out)?;
+    put_records(alloc, transaction.values.as_slice(), held, out)
 }

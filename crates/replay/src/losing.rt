@@ -1,25 +1,27 @@
 ghost use Rattle.std.specs.Prelude.{◌≡◌, OnOk, IsErrOf, length};
 ghost use Rattle.zbase.specs.Faults.{Counts};
+ghost use Rattle.zio.specs.Sinks.{due};
 ghost use Rattle.replay.specs.Losing.{lost_mark, lost_marks, mark_lines};
 ghost use Rattle.replay.specs.Printed.{Prints};
 
 use crate::printing::put_line;
 use schedule::{Line, WORKERS};
 use std::alloc::Global;
-use zio::{OutsideRefusal, Sink};
+use zio::{OutsideRefusal, Pending, Sink};
 
 // Writes the line of a worker that has a request.
 fn put_mark<K: Sink>(
     alloc: Global,
     worker: u32,
     is_taken: &bool,
+    held: &mut Pending,
     out: &mut K,
 ) -> Result<(), OutsideRefusal>
-    ensures ok { OnOk result (Prints (K.written out.old) (K.written out.new) (mark_lines (lost_mark (worker, is_taken.now)))) }
+    ensures ok { OnOk result (Prints (due (K.written out.old) held.old) (due (K.written out.new) held.new) (mark_lines (lost_mark (worker, is_taken.now)))) }
     ensures counts { Counts (K.counter out.old) (K.counter out.new) (IsErrOf result OutsideRefusal.Failed) }
 {
     if *is_taken {
-        return put_line(alloc, &Line::Lost(worker), out);
+        return put_line(alloc, &Line::Lost(worker), held, out);
     }
     Ok(())
 }
@@ -28,14 +30,15 @@ fn put_mark<K: Sink>(
 pub(crate) fn put_lost<K: Sink>(
     alloc: Global,
     taken: &[bool],
+    held: &mut Pending,
     out: &mut K,
 ) -> Result<(), OutsideRefusal>
     requires { length taken.now ≡ WORKERS }
-    ensures ok { OnOk result (Prints (K.written out.old) (K.written out.new) (lost_marks taken.now)) }
+    ensures ok { OnOk result (Prints (due (K.written out.old) held.old) (due (K.written out.new) held.new) (lost_marks taken.now)) }
     ensures counts { Counts (K.counter out.old) (K.counter out.new) (IsErrOf result OutsideRefusal.Failed) }
 {
     for worker in 0..taken.len() {
-        put_mark(alloc, worker as u32, &taken[worker], out)?;
+        put_mark(alloc, worker as u32, &taken[worker], held, out)?;
     }
     Ok(())
 }

@@ -1,5 +1,6 @@
 ghost use Rattle.std.specs.Prelude.{◌≡◌, ◌≢◌, ◌∷◌, ◌++◌, [], AllPairs, IfOk, OnOk, IsErrOf, map};
 ghost use Rattle.zbase.specs.Faults.{Counts};
+ghost use Rattle.zio.specs.Sinks.{due};
 ghost use Rattle.evaluator.specs.Change.{IsReply};
 ghost use Rattle.evaluator.specs.declared.reply.Mark.{Mark};
 ghost use Rattle.http_out.specs.Replies.{IsStatus, answer};
@@ -14,25 +15,25 @@ ghost use Rattle.replay.specs.ShownInOrder.{entry_of, shown_line};
 use crate::replies::{conflict_reply, memory_reply, spent_reply};
 use evaluator::{Denial, Mark, Reply, Shown};
 use http_out::reply_bytes;
-use schedule::{Line, write_line};
+use schedule::{Line, line_bytes};
 use std::alloc::Global;
 use std::collections::BTreeMap;
 use txn_core::{Spent, StepLine};
-use zbase::{Bytes, Clash, Memory, Oid, Tid};
-use zio::{OutsideRefusal, Sink};
+use zbase::{Clash, Memory, Oid, Tid};
+use zio::{OutsideRefusal, Pending, Sink};
 
 /// Writes a line of the report.
 pub(crate) fn put_line<K: Sink>(
     alloc: Global,
     line: &Line,
+    held: &mut Pending,
     out: &mut K,
 ) -> Result<(), OutsideRefusal>
-    ensures ok { OnOk result (Prints (K.written out.old) (K.written out.new) (line.now ∷ [])) }
+    ensures ok { OnOk result (Prints (due (K.written out.old) held.old) (due (K.written out.new) held.new) (line.now ∷ [])) }
     ensures counts { Counts (K.counter out.old) (K.counter out.new) (IsErrOf result OutsideRefusal.Failed) }
 {
-    let mut text = Bytes::new(alloc);
-    match write_line(line, &mut text) {
-        Ok(()) => out.write_all(text.as_slice()),
+    match line_bytes(alloc, line) {
+        Ok(text) => held.put(text.as_slice(), out),
         Err(_) => Err(OutsideRefusal::Memory),
     }
 }
@@ -67,17 +68,18 @@ fn put_shown<K: Sink>(
     alloc: Global,
     worker: u32,
     reply: &Reply,
+    held: &mut Pending,
     out: &mut K,
 ) -> Result<(), OutsideRefusal>
     requires distinct { AllPairs (λ a b. a.oid ≢ b.oid) reply.now.shown }
-    ensures ok { OnOk result (Prints (K.written out.old) (K.written out.new) (shown_lines worker reply.now)) }
+    ensures ok { OnOk result (Prints (due (K.written out.old) held.old) (due (K.written out.new) held.new) (shown_lines worker reply.now)) }
     ensures counts { Counts (K.counter out.old) (K.counter out.new) (IsErrOf result OutsideRefusal.Failed) }
 {
     let Ok(lines) = lines_by_oid(alloc, worker, reply.shown.as_slice()) else {
         return Err(OutsideRefusal::Memory);
     };
     for entry in lines.iter() {
-        put_line(alloc, entry.1, out)?;
+        put_line(alloc, entry.1, held, out)?;
     }
     Ok(())
 }
@@ -87,9 +89,10 @@ fn put_denied<K: Sink>(
     alloc: Global,
     worker: u32,
     denied: Option<Denial>,
+    held: &mut Pending,
     out: &mut K,
 ) -> Result<(), OutsideRefusal>
-    ensures ok { OnOk result (Prints (K.written out.old) (K.written out.new) (denied_line worker denied)) }
+    ensures ok { OnOk result (Prints (due (K.written out.old) held.old) (due (K.written out.new) held.new) (denied_line worker denied)) }
     ensures counts { Counts (K.counter out.old) (K.counter out.new) (IsErrOf result OutsideRefusal.Failed) }
 {
     match denied {
@@ -97,6 +100,7 @@ fn put_denied<K: Sink>(
         Some(denial) => put_line(
             alloc,
             &Line::Denied(worker, denial.oid, denial.permission),
+            held,
             out,
         ),
     }
@@ -108,18 +112,19 @@ fn put_read<K: Sink>(
     worker: u32,
     reply: &Reply,
     tid: Tid,
+    held: &mut Pending,
     out: &mut K,
 ) -> Result<(), OutsideRefusal>
     requires { IsReply reply.now }
-    ensures ok { OnOk result (Prints (K.written out.old) (K.written out.new) (step_lines answer worker (StepLine.Read reply.now tid))) }
+    ensures ok { OnOk result (Prints (due (K.written out.old) held.old) (due (K.written out.new) held.new) (step_lines answer worker (StepLine.Read reply.now tid))) }
     ensures counts { Counts (K.counter out.old) (K.counter out.new) (IsErrOf result OutsideRefusal.Failed) }
 {
     let Ok(bytes) = reply_bytes(alloc, reply, Mark::Read(tid)) else {
         return Err(OutsideRefusal::Memory);
     };
-    put_line(alloc, &Line::ReplyRead(worker, tid, bytes), out)?;
-    put_shown(alloc, worker, reply, out)?;
-    put_denied(alloc, worker, reply.denied, out)
+    put_line(alloc, &Line::ReplyRead(worker, tid, bytes), held, out)?;
+    put_shown(alloc, worker, reply, held, out)?;
+    put_denied(alloc, worker, reply.denied, held, out)
 }
 
 // Writes a commit reply, with the objects that it shows.
@@ -128,17 +133,18 @@ fn put_commit<K: Sink>(
     worker: u32,
     reply: &Reply,
     tid: Tid,
+    held: &mut Pending,
     out: &mut K,
 ) -> Result<(), OutsideRefusal>
     requires { IsReply reply.now }
-    ensures ok { OnOk result (Prints (K.written out.old) (K.written out.new) (step_lines answer worker (StepLine.Commit reply.now tid))) }
+    ensures ok { OnOk result (Prints (due (K.written out.old) held.old) (due (K.written out.new) held.new) (step_lines answer worker (StepLine.Commit reply.now tid))) }
     ensures counts { Counts (K.counter out.old) (K.counter out.new) (IsErrOf result OutsideRefusal.Failed) }
 {
     let Ok(bytes) = reply_bytes(alloc, reply, Mark::Commit(tid)) else {
         return Err(OutsideRefusal::Memory);
     };
-    put_line(alloc, &Line::ReplyCommit(worker, tid, bytes), out)?;
-    put_shown(alloc, worker, reply, out)
+    put_line(alloc, &Line::ReplyCommit(worker, tid, bytes), held, out)?;
+    put_shown(alloc, worker, reply, held, out)
 }
 
 // Writes a reply that goes with no transaction.
@@ -146,14 +152,15 @@ fn put_none<K: Sink>(
     alloc: Global,
     worker: u32,
     reply: &Reply,
+    held: &mut Pending,
     out: &mut K,
 ) -> Result<(), OutsideRefusal>
     requires { IsStatus reply.now.status }
-    ensures ok { OnOk result (Prints (K.written out.old) (K.written out.new) (none_lines answer worker [] reply.now)) }
+    ensures ok { OnOk result (Prints (due (K.written out.old) held.old) (due (K.written out.new) held.new) (none_lines answer worker [] reply.now)) }
     ensures counts { Counts (K.counter out.old) (K.counter out.new) (IsErrOf result OutsideRefusal.Failed) }
 {
     match reply_bytes(alloc, reply, Mark::Empty) {
-        Ok(bytes) => put_line(alloc, &Line::ReplyNone(worker, bytes), out),
+        Ok(bytes) => put_line(alloc, &Line::ReplyNone(worker, bytes), held, out),
         Err(_) => Err(OutsideRefusal::Memory),
     }
 }
@@ -171,18 +178,19 @@ fn put_given_up<K: Sink>(
     alloc: Global,
     worker: u32,
     clashes: &[Clash; 4],
+    held: &mut Pending,
     out: &mut K,
 ) -> Result<(), OutsideRefusal>
-    ensures ok { OnOk result (Prints (K.written out.old) (K.written out.new) (step_lines answer worker (StepLine.GivenUp clashes.now))) }
+    ensures ok { OnOk result (Prints (due (K.written out.old) held.old) (due (K.written out.new) held.new) (step_lines answer worker (StepLine.GivenUp clashes.now))) }
     ensures counts { Counts (K.counter out.old) (K.counter out.new) (IsErrOf result OutsideRefusal.Failed) }
 {
     let last = latest(clashes);
     let Ok(reply) = conflict_reply(alloc, last.oid) else {
         return Err(OutsideRefusal::Memory);
     };
-    put_line(alloc, &Line::Conflict(worker, last), out)?;
-    put_line(alloc, &Line::GivenUp(worker, *clashes), out)?;
-    put_none(alloc, worker, &reply, out)
+    put_line(alloc, &Line::Conflict(worker, last), held, out)?;
+    put_line(alloc, &Line::GivenUp(worker, *clashes), held, out)?;
+    put_none(alloc, worker, &reply, held, out)
 }
 
 // The line that says what is spent.
@@ -201,28 +209,34 @@ fn put_spent<K: Sink>(
     alloc: Global,
     worker: u32,
     spent: Spent,
+    held: &mut Pending,
     out: &mut K,
 ) -> Result<(), OutsideRefusal>
-    ensures ok { OnOk result (Prints (K.written out.old) (K.written out.new) (step_lines answer worker (StepLine.Spent spent))) }
+    ensures ok { OnOk result (Prints (due (K.written out.old) held.old) (due (K.written out.new) held.new) (step_lines answer worker (StepLine.Spent spent))) }
     ensures counts { Counts (K.counter out.old) (K.counter out.new) (IsErrOf result OutsideRefusal.Failed) }
 {
     let Ok(reply) = spent_reply(alloc, spent) else {
         return Err(OutsideRefusal::Memory);
     };
-    put_line(alloc, &spent_line(worker, spent), out)?;
-    put_none(alloc, worker, &reply, out)
+    put_line(alloc, &spent_line(worker, spent), held, out)?;
+    put_none(alloc, worker, &reply, held, out)
 }
 
 // Writes that a request met want of memory.
-fn put_memory<K: Sink>(alloc: Global, worker: u32, out: &mut K) -> Result<(), OutsideRefusal>
-    ensures ok { OnOk result (Prints (K.written out.old) (K.written out.new) (step_lines answer worker StepLine.Memory)) }
+fn put_memory<K: Sink>(
+    alloc: Global,
+    worker: u32,
+    held: &mut Pending,
+    out: &mut K,
+) -> Result<(), OutsideRefusal>
+    ensures ok { OnOk result (Prints (due (K.written out.old) held.old) (due (K.written out.new) held.new) (step_lines answer worker StepLine.Memory)) }
     ensures counts { Counts (K.counter out.old) (K.counter out.new) (IsErrOf result OutsideRefusal.Failed) }
 {
     let Ok(reply) = memory_reply(alloc) else {
         return Err(OutsideRefusal::Memory);
     };
-    put_line(alloc, &Line::Memory(worker), out)?;
-    put_none(alloc, worker, &reply, out)
+    put_line(alloc, &Line::Memory(worker), held, out)?;
+    put_none(alloc, worker, &reply, held, out)
 }
 
 /// Writes the lines of a step of a worker.
@@ -230,24 +244,25 @@ pub(crate) fn put_step<K: Sink>(
     alloc: Global,
     worker: u32,
     line: &StepLine,
+    held: &mut Pending,
     out: &mut K,
 ) -> Result<(), OutsideRefusal>
     requires { IsAnswered line.now }
-    ensures ok { OnOk result (Prints (K.written out.old) (K.written out.new) (step_lines answer worker line.now)) }
+    ensures ok { OnOk result (Prints (due (K.written out.old) held.old) (due (K.written out.new) held.new) (step_lines answer worker line.now)) }
     ensures counts { Counts (K.counter out.old) (K.counter out.new) (IsErrOf result OutsideRefusal.Failed) }
 {
     match line {
-        StepLine::Idle => put_line(alloc, &Line::Idle(worker), out),
-        StepLine::Begun(tid) => put_line(alloc, &Line::Begin(worker, *tid), out),
-        StepLine::Fetched(ask) => put_line(alloc, &Line::Fetch(worker, *ask), out),
-        StepLine::Computed => put_line(alloc, &Line::Computed(worker), out),
-        StepLine::Busy(holder) => put_line(alloc, &Line::Busy(worker, *holder), out),
-        StepLine::Voted(tid) => put_line(alloc, &Line::Vote(worker, *tid), out),
-        StepLine::Conflict(clash) => put_line(alloc, &Line::Conflict(worker, *clash), out),
-        StepLine::GivenUp(clashes) => put_given_up(alloc, worker, clashes, out),
-        StepLine::Read(reply, tid) => put_read(alloc, worker, reply, *tid, out),
-        StepLine::Commit(reply, tid) => put_commit(alloc, worker, reply, *tid, out),
-        StepLine::Spent(spent) => put_spent(alloc, worker, *spent, out),
-        StepLine::Memory => put_memory(alloc, worker, out),
+        StepLine::Idle => put_line(alloc, &Line::Idle(worker), held, out),
+        StepLine::Begun(tid) => put_line(alloc, &Line::Begin(worker, *tid), held, out),
+        StepLine::Fetched(ask) => put_line(alloc, &Line::Fetch(worker, *ask), held, out),
+        StepLine::Computed => put_line(alloc, &Line::Computed(worker), held, out),
+        StepLine::Busy(holder) => put_line(alloc, &Line::Busy(worker, *holder), held, out),
+        StepLine::Voted(tid) => put_line(alloc, &Line::Vote(worker, *tid), held, out),
+        StepLine::Conflict(clash) => put_line(alloc, &Line::Conflict(worker, *clash), held, out),
+        StepLine::GivenUp(clashes) => put_given_up(alloc, worker, clashes, held, out),
+        StepLine::Read(reply, tid) => put_read(alloc, worker, reply, *tid, held, out),
+        StepLine::Commit(reply, tid) => put_commit(alloc, worker, reply, *tid, held, out),
+        StepLine::Spent(spent) => put_spent(alloc, worker, *spent, held, out),
+        StepLine::Memory => put_memory(alloc, worker, held, out),
     }
 }

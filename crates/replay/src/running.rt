@@ -1,6 +1,7 @@
 ghost use Rattle.std.specs.Prelude.{◌≡◌, ◌⊎◌, ◌++◌, ◌∷◌, ◌<◌, ℕ, [], None, Some, false, true, IfOk, OnOk, OnErr, IsErrOf};
 ghost use Rattle.zbase.specs.Faults.{Counts};
 ghost use Rattle.zbase.specs.History.{History};
+ghost use Rattle.zio.specs.Sinks.{due};
 ghost use Rattle.schedule.specs.Courses.{Happens};
 ghost use Rattle.schedule.specs.Moments.{Free, clocked, doing};
 ghost use Rattle.schedule.specs.declared.item.Item2.{Item2};
@@ -25,7 +26,7 @@ use std::alloc::Global;
 use txn_core::Core;
 use zbase::{Bytes, Memory, Tid};
 use zdisk::Disk;
-use zio::{OutsideRefusal, Sink};
+use zio::{OutsideRefusal, Pending, Sink};
 
 // Gives a worker a request; false where it isn't free, or the bytes aren't one message.
 fn give<D: Disk + Drop, E: Evaluator>(
@@ -58,11 +59,12 @@ fn run_item<D: Disk + Drop, E: Evaluator, K: Sink>(
     number: u64,
     item: &Item2,
     clock: &mut Tid,
+    held: &mut Pending,
     out: &mut K,
 ) -> Result<(), RunRefusal>
     ensures limit { core.new.store.limit ≡ core.old.store.limit }
-    ensures ok { (end : ℕ) → OnOk result (HappensPrinted (terms_of E.takes E.meaning core.old.store.limit end) (clocked (moment_of E.meaning core.old.store core.old.slots) clock.old) item.now (clocked (moment_of E.meaning core.new.store core.new.slots) clock.new) (K.written out.old) (K.written out.new)) }
-    ensures bad_line { (n end : ℕ) → IsErrOf result (RunRefusal.BadLine n) → (n ≡ number) × CannotRun (terms_of E.takes E.meaning core.old.store.limit end) (clocked (moment_of E.meaning core.old.store core.old.slots) clock.old) item.now × (K.written out.new ≡ K.written out.old) }
+    ensures ok { (end : ℕ) → OnOk result (HappensPrinted (terms_of E.takes E.meaning core.old.store.limit end) (clocked (moment_of E.meaning core.old.store core.old.slots) clock.old) item.now (clocked (moment_of E.meaning core.new.store core.new.slots) clock.new) (due (K.written out.old) held.old) (due (K.written out.new) held.new)) }
+    ensures bad_line { (n end : ℕ) → IsErrOf result (RunRefusal.BadLine n) → (n ≡ number) × CannotRun (terms_of E.takes E.meaning core.old.store.limit end) (clocked (moment_of E.meaning core.old.store core.old.slots) clock.old) item.now × (due (K.written out.new) held.new ≡ due (K.written out.old) held.old) }
     ensures counts { Counts (K.counter out.old) (K.counter out.new) (IsErrOf result RunRefusal.Output) }
 {
     match item {
@@ -76,7 +78,7 @@ fn run_item<D: Disk + Drop, E: Evaluator, K: Sink>(
                 return Err(RunRefusal::BadLine(number));
             }
             let line = core.step(*worker, *clock);
-            put_step(alloc, *worker, &line, out)?;
+            put_step(alloc, *worker, &line, held, out)?;
             Ok(())
         }
         Item2::Clock(stamp) => {
@@ -95,17 +97,18 @@ fn put_closing<D: Disk + Drop, K: Sink>(
     alloc: Global,
     store: Store<D>,
     taken: &[bool; WORKERS],
+    held: &mut Pending,
     out: &mut K,
 ) -> Result<D, OutsideRefusal>
     requires idle { store.out ≡ None }
     requires steady { IsSteady store }
-    ensures ok { OnOk result (Prints (K.written out.old) (K.written out.new) (lost_marks taken.now ++ history_lines store.history ++ Line.End ∷ [])) }
+    ensures ok { OnOk result (Prints (due (K.written out.old) held.old) (due (K.written out.new) held.new) (lost_marks taken.now ++ history_lines store.history ++ Line.End ∷ [])) }
     ensures held { IfOk result (λ disk. HoldsFile (D.told disk) store.history) }
     ensures counts { Counts (K.counter out.old) (K.counter out.new) (IsErrOf result OutsideRefusal.Failed) }
 {
-    put_lost(alloc, taken.as_slice(), out)?;
+    put_lost(alloc, taken.as_slice(), held, out)?;
     let mut disk = store.into_disk();
-    match dump(alloc, &mut disk, out) {
+    match dump(alloc, &mut disk, held, out) {
         Ok(()) => Ok(disk),
         Err(DumpRefusal::Output) => Err(OutsideRefusal::Failed),
         Err(DumpRefusal::Memory) => Err(OutsideRefusal::Memory),
@@ -121,29 +124,63 @@ fn run_items<D: Disk + Drop, E: Evaluator, K: Sink>(
     alloc: Global,
     core: &mut Core<D, E>,
     items: &[Item2],
+    held: &mut Pending,
     out: &mut K,
 ) -> Result<(), RunRefusal>
     requires rest { IsAtRest E.meaning core.old }
-    ensures ran { OnOk result ((now : ℕ) × Ran (terms_of E.takes E.meaning core.old.store.limit core.old.store.end) core.old.store.history items.now (clocked (moment_of E.meaning core.new.store core.new.slots) now) (K.written out.old) (K.written out.new)) }
-    ensures bad_line { (n : ℕ) → IsErrOf result (RunRefusal.BadLine n) → BrokenOff (terms_of E.takes E.meaning core.old.store.limit core.old.store.end) core.old.store.history items.now n (K.written out.old) (K.written out.new) }
+    ensures ran { OnOk result ((now : ℕ) × Ran (terms_of E.takes E.meaning core.old.store.limit core.old.store.end) core.old.store.history items.now (clocked (moment_of E.meaning core.new.store core.new.slots) now) (due (K.written out.old) held.old) (due (K.written out.new) held.new)) }
+    ensures bad_line { (n : ℕ) → IsErrOf result (RunRefusal.BadLine n) → BrokenOff (terms_of E.takes E.meaning core.old.store.limit core.old.store.end) core.old.store.history items.now n (due (K.written out.old) held.old) (due (K.written out.new) held.new) }
     ensures counts { Counts (K.counter out.old) (K.counter out.new) (IsErrOf result RunRefusal.Output) }
 {
     runs_are_serial::<E>();
     core.is_sound();
     core.store().is_sound();
-    put_line(alloc, &Line::Head, out)?;
+    put_line(alloc, &Line::Head, held, out)?;
     let opened = Line::Opened(core.store().last(), core.store().len());
-    put_line(alloc, &opened, out)?;
+    put_line(alloc, &opened, held, out)?;
     let mut clock = Tid(0);
     let mut number: u64 = 2;
     for item in items {
-        run_item(alloc, core, number, item, &mut clock, out)?;
+        run_item(alloc, core, number, item, &mut clock, held, out)?;
         number = number.saturating_add(1);
     }
     Ok(())
 }
 
-/// Runs a schedule over a store, by an evaluator, and writes the report line by line. With `Ok` the disk comes back, in
+// Runs a schedule over a store and closes the report. What is pending at the end is still to be flushed.
+fn run_and_close<D: Disk + Drop, E: Evaluator, K: Sink>(
+    alloc: Global,
+    store: Store<D>,
+    items: &[Item2],
+    evaluator: E,
+    held: &mut Pending,
+    out: &mut K,
+) -> Result<D, RunRefusal>
+    requires idle { store.out ≡ None }
+    requires steady { IsSteady store }
+    ensures explained { IfOk result (λ disk. (last : History) × PrintsReport (terms_of E.takes E.meaning store.limit store.end) store.history items.now last (due (K.written out.old) held.old) (due (K.written out.new) held.new) × HoldsFile (D.told disk) last) }
+    ensures bad_line { (n : ℕ) → IsErrOf result (RunRefusal.BadLine n) → BrokenOff (terms_of E.takes E.meaning store.limit store.end) store.history items.now n (due (K.written out.old) held.old) (due (K.written out.new) held.new) }
+    ensures counts { Counts (K.counter out.old) (K.counter out.new) (IsErrOf result RunRefusal.Output) }
+{
+    runs_are_serial::<E>();
+    store.is_sound();
+    let mut core = match Core::new(alloc, store, evaluator) {
+        Ok(core) => core,
+        Err(_) => return Err(RunRefusal::Memory),
+    };
+    match run_items(alloc, &mut core, items, held, out) {
+        Ok(()) => {
+            let (store, taken) = core.close();
+            Ok(put_closing(alloc, store, &taken, held, out)?)
+        }
+        Err(refusal) => {
+            let (_store, _taken) = core.close();
+            Err(refusal)
+        }
+    }
+}
+
+/// Runs a schedule over a store, by an evaluator, and writes the report. With `Ok` the disk comes back, in
 /// which a vote that was out at the schedule's end doesn't stand: what it reads is its one image, a file of the history
 /// that the report prints last.
 ///
@@ -162,19 +199,17 @@ pub fn replay<D: Disk + Drop, E: Evaluator, K: Sink>(
     ensures bad_line { (n : ℕ) → IsErrOf result (RunRefusal.BadLine n) → BrokenOff (terms_of E.takes E.meaning store.limit store.end) store.history items.now n (K.written out.old) (K.written out.new) }
     ensures counts { Counts (K.counter out.old) (K.counter out.new) (IsErrOf result RunRefusal.Output) }
 {
-    runs_are_serial::<E>();
-    store.is_sound();
-    let mut core = match Core::new(alloc, store, evaluator) {
-        Ok(core) => core,
-        Err(_) => return Err(RunRefusal::Memory),
+    let Ok(mut held) = Pending::new(alloc) else {
+        return Err(RunRefusal::Memory);
     };
-    match run_items(alloc, &mut core, items, out) {
-        Ok(()) => {
-            let (store, taken) = core.close();
-            Ok(put_closing(alloc, store, &taken, out)?)
+    match run_and_close(alloc, store, items, evaluator, &mut held, out) {
+        Ok(disk) => {
+            held.flush(out)?;
+            Ok(disk)
         }
+        Err(RunRefusal::Output) => Err(RunRefusal::Output),
         Err(refusal) => {
-            let (_store, _taken) = core.close();
+            held.flush(out)?;
             Err(refusal)
         }
     }

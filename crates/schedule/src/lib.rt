@@ -24,4 +24,4 @@ pub use worked::{
     conflict_is_explained, cut_off_finish_is_explained, early_commit_is_refuted,
     lossy_restart_is_refuted, missed_conflict_is_refuted, second_vote_is_refuted,
 };
-pub use writer::write_line;
+pub use writer::{line_bytes, record_bytes, transaction_bytes, write_line};

@@ -1,4 +1,4 @@
-ghost use Rattle.std.specs.Prelude.{◌≡◌, ◌++◌, OnOk, map};
+ghost use Rattle.std.specs.Prelude.{◌≡◌, ◌++◌, ◌*◌, ◌≤◌, OnOk, length, map, take};
 ghost use Rattle.zbase.specs.Hex.{hex_bytes};
 ghost use Rattle.schedule.specs.Fields.{field_text};
 ghost use Rattle.schedule.specs.Rows.{block, row};
@@ -18,11 +18,31 @@ pub(crate) enum Field<'a> {
     Digits(&'a [u8]),
 }
 
+/// How many bytes are spelled in digits at once.
+const SPELLED: usize = 64;
+
+// Spells bytes in digits, at the front of the buffer.
+fn spell(bytes: &[u8], digits: &mut [u8; 128])
+    requires { length bytes.now ≤ 64 }
+    ensures { take (2 * length bytes.now) digits.new ≡ hex_bytes bytes.now }
+{
+    for index in 0..bytes.len() {
+        let [high, low] = hex_digits(bytes[index]);
+        digits[2 * index] = high;
+        digits[2 * index + 1] = low;
+    }
+}
+
 fn put_digits(out: &mut Bytes, bytes: &[u8]) -> Result<(), Memory>
     ensures { OnOk result (out.new ≡ out.old ++ hex_bytes bytes.now) }
 {
-    for byte in bytes {
-        out.append(&hex_digits(*byte))?;
+    let mut digits = [0; 128];
+    let mut rest = bytes;
+    'spelling: while !rest.is_empty() {
+        let (piece, more) = rest.split_at(rest.len().min(SPELLED));
+        spell(piece, &mut digits);
+        out.append(&digits[..2 * piece.len()])?;
+        rest = more;
     }
     Ok(())
 }

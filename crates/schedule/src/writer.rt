@@ -1,4 +1,5 @@
-ghost use Rattle.std.specs.Prelude.{◌≡◌, ◌++◌, ◌∷◌, [], length, flat_map, codes, decimal, OnOk, OnErr};
+ghost use Rattle.std.specs.Prelude.{◌≡◌, ◌++◌, ◌∷◌, [], length, flat_map, codes, decimal, IfOk, OnOk, OnErr};
+ghost use Rattle.zbase.specs.Hex.{hex16_text};
 ghost use Rattle.schedule.specs.Fields.{field_text};
 ghost use Rattle.schedule.specs.Lines.{ask_fields, clash_fields, line_text, mark_fields, text_field, value_field};
 ghost use Rattle.schedule.specs.Rows.{block, row};
@@ -6,7 +7,8 @@ ghost use Rattle.schedule.specs.Rows.{block, row};
 use crate::Line;
 use crate::row::{Field, put_block, put_row};
 use evaluator::{Ask, permission_name};
-use zbase::{Bytes, Clash, Memory, Tid, Value};
+use std::alloc::Global;
+use zbase::{Bytes, Clash, Memory, Oid, Tid, Value};
 
 fn text_of(bytes: &Bytes) -> Field<'_>
     ensures { field_text result ≡ text_field bytes.now }
@@ -102,6 +104,35 @@ fn put_reply(
     put_block(out, bytes)
 }
 
+fn put_transaction<'a>(
+    tid: Tid,
+    user: &'a Bytes,
+    description: &'a Bytes,
+    extension: &'a Bytes,
+    n: u64,
+    out: &mut Bytes,
+) -> Result<(), Memory>
+    ensures { OnOk result (out.new ≡ out.old ++ row (codes "transaction") (hex16_text tid ∷ text_field user.now ∷ text_field description.now ∷ text_field extension.now ∷ decimal n ∷ [])) }
+{
+    put_row(
+        out,
+        b"transaction",
+        &[
+            Field::Id(tid.0),
+            text_of(user),
+            text_of(description),
+            text_of(extension),
+            Field::Number(n),
+        ],
+    )
+}
+
+fn put_record(oid: Oid, value: &Value, out: &mut Bytes) -> Result<(), Memory>
+    ensures { OnOk result (out.new ≡ out.old ++ row (codes "record") (hex16_text oid ∷ value_field value.now ∷ [])) }
+{
+    put_row(out, b"record", &[Field::Id(oid.0), value_of(value)])
+}
+
 #[tactic(auto, unfolding(crate::specs::Lines::line_text))]
 fn put_line(line: &Line, out: &mut Bytes) -> Result<(), Memory>
     ensures { OnOk result (out.new ≡ out.old ++ line_text line.now) }
@@ -172,22 +203,21 @@ fn put_line(line: &Line, out: &mut Bytes) -> Result<(), Memory>
         Line::OpenFault => put_row(out, b"openfault", &[]),
         Line::Restart(tid, n) => put_row(out, b"restart", &[Field::Id(tid.0), Field::Number(*n)]),
         Line::History(n) => put_row(out, b"history", &[Field::Number(*n)]),
-        Line::Transaction(tid, user, description, extension, n) => put_row(
-            out,
-            b"transaction",
-            &[
-                Field::Id(tid.0),
-                text_of(user),
-                text_of(description),
-                text_of(extension),
-                Field::Number(*n),
-            ],
-        ),
-        Line::RecordRow(oid, value) => {
-            put_row(out, b"record", &[Field::Id(oid.0), value_of(value)])
+        Line::Transaction(tid, user, description, extension, n) => {
+            put_transaction(*tid, user, description, extension, *n, out)
         }
+        Line::RecordRow(oid, value) => put_record(*oid, value, out),
         Line::End => put_row(out, b"end", &[]),
     }
+}
+
+/// One line of a report.
+pub fn line_bytes(alloc: Global, line: &Line) -> Result<Bytes, Memory>
+    ensures { IfOk result (λ text. text ≡ line_text line.now) }
+{
+    let mut text = Bytes::new(alloc);
+    put_line(line, &mut text)?;
+    Ok(text)
 }
 
 /// Writes one line of a report at the end. For want of memory the bytes stay as they were.
@@ -195,7 +225,44 @@ pub fn write_line(line: &Line, out: &mut Bytes) -> Result<(), Memory>
     ensures ok { OnOk result (out.new ≡ out.old ++ line_text line.now) }
     ensures err { OnErr result (out.new ≡ out.old) }
 {
-    let mut text = Bytes::new(out.alloc());
-    put_line(line, &mut text)?;
+    let text = line_bytes(out.alloc(), line)?;
     out.append(text.as_slice())
+}
+
+/// The line `transaction TID USER DESCRIPTION EXTENSION N` of a report. None of the texts is copied before.
+#[tactic(auto, unfolding(crate::specs::Lines::line_text))]
+pub fn transaction_bytes(
+    alloc: Global,
+    tid: Tid,
+    user: &Bytes,
+    description: &Bytes,
+    extension: &Bytes,
+    n: u64,
+) -> Result<Bytes, Memory>
+    ensures { IfOk result (λ text. text ≡ line_text (Line.Transaction tid user.now description.now extension.now n)) }
+{
+    // room for the line of a transaction without texts
+    let mut text = Bytes::from_vec(Vec::with_capacity(alloc, 64)?);
+    put_transaction(tid, user, description, extension, n, &mut text)?;
+    Ok(text)
+}
+
+// The number of bytes of a value.
+fn size_of(value: &Value) -> usize {
+    match value {
+        None => 0,
+        Some(bytes) => bytes.len(),
+    }
+}
+
+/// The line `record OID VALUE` of a report. The value isn't copied before.
+#[tactic(auto, unfolding(crate::specs::Lines::line_text))]
+pub fn record_bytes(alloc: Global, oid: Oid, value: &Value) -> Result<Bytes, Memory>
+    ensures { IfOk result (λ text. text ≡ line_text (Line.RecordRow oid value.now)) }
+{
+    // room for the word, the id and `none`, or two digits a byte
+    let room = size_of(value).saturating_mul(2).saturating_add(32);
+    let mut text = Bytes::from_vec(Vec::with_capacity(alloc, room)?);
+    put_record(oid, value, &mut text)?;
+    Ok(text)
 }

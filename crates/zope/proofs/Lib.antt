@@ -3,6 +3,7 @@ pub mod LimitWords
 pub mod InputCauses
 pub mod FileCauses
 pub mod LastLines
+pub mod Refusing
 pub mod Commands
 pub mod NoCauses
 pub mod Endings

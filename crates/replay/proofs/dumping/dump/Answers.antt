@@ -1,4 +1,4 @@
-use Rattle.std.proofs.Common.{◌∙◌, Err, Option, IfSome, ap, refl, subst, arith}
+use Rattle.std.proofs.Common.{◌≡◌, ◌∙◌, Err, Option, IfSome, ap, refl, subst, arith}
 use Rattle.std.proofs.lemmas.Result.{err_from_is_err_and}
 use Rattle.zbase.specs.Faults.{counts_as, counts_then}
 use Rattle.zdisk.specs.Disk.{Told, content}
@@ -11,7 +11,7 @@ use Rattle.replay.proofs.dumping.dump.Goals as goal
 pub returns-in_err-count-clause-damaged : goal.returns-in_err-count-clause-damaged
 returns-in_err-count-clause-damaged g c =
     let p = err_from_is_err_and c.from_residual.result c.from_residual.ensures.1 in
-    damaged_told {T = Scanned} (g.D.Disk.told c.args.disk.now) c.in_err-count.field-0.0 c.from_residual.result _ (refl {a = g.K.Sink.written c.args.out.now}) (p.1 ∙ ap (λ k. Err k) p.2) c.in_err-count.ensures.damaged
+    damaged_told {T = Scanned} (g.D.Disk.told c.args.disk.now) c.in_err-count.field-0.0 c.from_residual.result ((g.K.Sink.written c.args.out.now ≡ g.K.Sink.written c.args.out.now) × (c.args.held.now ≡ c.args.held.now)) (refl, refl) (p.1 ∙ ap (λ k. Err k) p.2) c.in_err-count.ensures.damaged
 
 pub each-init : goal.each-init
 each-init g c =
@@ -28,7 +28,7 @@ each-init g c =
 pub returns-in_err-whole-clause-damaged : goal.returns-in_err-whole-clause-damaged
 returns-in_err-whole-clause-damaged g c =
     let p = err_from_is_err_and c.from_residual-in_err-whole.result c.from_residual-in_err-whole.ensures.1 in
-    walk_damaged {T = Option Whole} (g.D.Disk.told c.args.disk.now) (g.D.Disk.told c.each.disk) c.in_ok-count.field-0 c.in_err-whole.field-0.0 c.from_residual-in_err-whole.result _ c.each.invariant.same c.in_ok-count.ensures.told (p.1 ∙ ap (λ k. Err k) p.2) c.in_err-whole.ensures.damaged
+    walk_damaged {T = Option Whole} (g.D.Disk.told c.args.disk.now) (g.D.Disk.told c.each.disk) c.in_ok-count.field-0 c.in_err-whole.field-0.0 c.from_residual-in_err-whole.result ((g.K.Sink.written c.each.out ≡ g.K.Sink.written c.args.out.now) × (c.each.held ≡ c.args.held.now)) c.each.invariant.same c.in_ok-count.ensures.told (p.1 ∙ ap (λ k. Err k) p.2) c.in_err-whole.ensures.damaged
 
 pub each-preserved : goal.each-preserved
 each-preserved g c =

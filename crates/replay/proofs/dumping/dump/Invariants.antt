@@ -1,4 +1,5 @@
 use Rattle.std.proofs.Common.{◌≡◌, ◌<◌, ◌-◌, ◌^◌, IfSome}
+use Rattle.zio.specs.Sinks.{due}
 use Rattle.zbase.specs.Faults.{Counts}
 use Rattle.zdisk.specs.Disk.{content}
 use Rattle.fs_scan.specs.Walked.{IsOn, place_on}
@@ -8,7 +9,7 @@ use Rattle.replay.proofs.dumping.dump.Given as goal
 -- the transactions so far are printed, and no fault came
 abbrev pub invariant-each : goal.invariant-each
 invariant-each g l = record {
-  printed : IfSome (g.D.Disk.told l.fn.disk) (λ told. Printed (content told) l.count l.walk (g.K.Sink.written l.fn.out) (g.K.Sink.written l.out));
+  printed : IfSome (g.D.Disk.told l.fn.disk) (λ told. Printed (content told) l.count l.walk (due (g.K.Sink.written l.fn.out) l.fn.held) (due (g.K.Sink.written l.out) l.held));
   on : IfSome (g.D.Disk.told l.fn.disk) (λ told. IsOn (content told) l.walk);
   place : place_on l.walk.place < 2 ^ 64;
   same : g.D.Disk.told l.disk ≡ g.D.Disk.told l.fn.disk;

@@ -1,4 +1,5 @@
-use Rattle.std.proofs.Common.{◌∷◌, [], Err, ap, append_assoc, sym, subst}
+use Rattle.std.proofs.Common.{◌≡◌, ◌∷◌, [], Err, ap, append_assoc, sym, subst}
+use Rattle.zio.specs.Sinks.{due}
 use Rattle.zbase.specs.Faults.{IsFaultless}
 use Rattle.schedule.specs.declared.line.Line.{Line}
 use Rattle.schedule.specs.Explained.{history_lines}
@@ -13,8 +14,8 @@ pub returns-in-Ok-clause-ok : goal.returns-in-Ok-clause-ok
 returns-in-Ok-clause-ok g c =
     let store = c.args.store in
     let disk = c.into_disk-disk.ensures in
-    let lost = subst (λ marks. Prints (g.K.Sink.written c.args.out.now) (g.K.Sink.written c.put_lost.new.out) (lost_marks marks)) c.as_slice.ensures c.in_ok-put_lost.ensures.ok in
-    subst (λ ls. Prints (g.K.Sink.written c.args.out.now) (g.K.Sink.written c.dump.new.out) ls) (sym (append_assoc (lost_marks c.args.taken.now) (history_lines store.history) (Line.End ∷ [])))
+    let lost = subst (λ marks. Prints (due (g.K.Sink.written c.args.out.now) c.args.held.now) (due (g.K.Sink.written c.put_lost.new.out) c.put_lost.new.held) (lost_marks marks)) c.as_slice.ensures c.in_ok-put_lost.ensures.ok in
+    subst (λ ls. Prints (due (g.K.Sink.written c.args.out.now) c.args.held.now) (due (g.K.Sink.written c.dump.new.out) c.dump.new.held) ls) (sym (append_assoc (lost_marks c.args.taken.now) (history_lines store.history) (Line.End ∷ [])))
     (prints_then _ _ _ (lost_marks c.args.taken.now) (dump_lines store.history) lost
     (prints_its_history (g.D.Disk.told c.into_disk-disk.result) store _ _ disk.told c.requires.steady.told (disk.whole c.requires.steady.fresh) c.in-Ok.ensures.ok))
 
@@ -25,4 +26,4 @@ unreachable-requires g c =
 pub unreachable-requires-in-Err-Damaged : goal.unreachable-requires-in-Err-Damaged
 unreachable-requires-in-Err-Damaged g c =
     let disk = c.into_disk-disk.ensures in
-    no_damage (g.D.Disk.told c.into_disk-disk.result) c.args.store _ _ _ disk.told c.requires.steady.told (disk.whole c.requires.steady.fresh) (c.in-Err-Damaged.ensures.damaged c.in-Err-Damaged.field-0-0 c.in-Err-Damaged.field-0-1 (ap (λ k. Err k) c.in-Err-Damaged.field-0-is))
+    no_damage (g.D.Disk.told c.into_disk-disk.result) c.args.store _ _ ((g.K.Sink.written c.dump.new.out ≡ g.K.Sink.written c.put_lost.new.out) × (c.dump.new.held ≡ c.put_lost.new.held)) disk.told c.requires.steady.told (disk.whole c.requires.steady.fresh) (c.in-Err-Damaged.ensures.damaged c.in-Err-Damaged.field-0-0 c.in-Err-Damaged.field-0-1 (ap (λ k. Err k) c.in-Err-Damaged.field-0-is))

@@ -1,6 +1,7 @@
 use Rattle.std.proofs.Common.{[], ◌∷◌, ◌++◌, ◌∙◌, ◌≡◌, Err, ap, sym, subst, refl, arith, length}
 use Rattle.std.proofs.lemmas.List.{take_all}
 use Rattle.std.proofs.lemmas.Result.{err_from_is_err_and}
+use Rattle.zio.specs.Sinks.{due}
 use Rattle.zbase.specs.Faults.{counts_as, counts_then}
 use Rattle.zbase.specs.Values.{last}
 use Rattle.schedule.specs.declared.line.Line.{Line}
@@ -23,7 +24,7 @@ loop-item-init g c =
     ∙ ap (λ n. Line.Opened (last core.store.history) n) ((rw c.store-3.ensures at c.len.ensures) told) in
     record {
       limit = refl;
-      ran = ([], subst (λ m. RanCalm terms (start terms core.store.history) [] [] m) (sym (rest_starts g.E.Evaluator.takes g.E.Evaluator.meaning core.store.limit core c.requires.rest)) (ran_none terms (start terms core.store.history)), subst (λ line. Prints (g.K.Sink.written c.args.out.now) (g.K.Sink.written c.put_line-2.new.out) (Line.Head ∷ line ∷ [])) opened (prints_then _ _ _ (Line.Head ∷ []) (Line.Opened c.last.result c.len.result ∷ []) c.in_ok-put_line.ensures.ok c.in_ok-put_line-2.ensures.ok));
+      ran = ([], subst (λ m. RanCalm terms (start terms core.store.history) [] [] m) (sym (rest_starts g.E.Evaluator.takes g.E.Evaluator.meaning core.store.limit core c.requires.rest)) (ran_none terms (start terms core.store.history)), subst (λ line. Prints (due (g.K.Sink.written c.args.out.now) c.args.held.now) (due (g.K.Sink.written c.put_line-2.new.out) c.put_line-2.new.held) (Line.Head ∷ line ∷ [])) opened (prints_then _ _ _ (Line.Head ∷ []) (Line.Opened c.last.result c.len.result ∷ []) c.in_ok-put_line.ensures.ok c.in_ok-put_line-2.ensures.ok));
       number = refl;
       counts = counts_then (counts_as c.in_ok-put_line.ensures.counts (λ e. cc) (λ none. absurd none)) (λ none. none) (counts_as c.in_ok-put_line-2.ensures.counts (λ e. cc) (λ none. absurd none));
     }
@@ -61,7 +62,7 @@ returns-in_err-run_item-clause-bad_line g c n is =
     let core = c.args.core.now in
     let bad = rw c.loop-item.invariant.limit at (c.in_err-run_item.ensures.bad_line n core.store.end (sym (p.1 ∙ ap (λ (k : _). Err k) p.2) ∙ is)) in
     let ran = c.loop-item.invariant.ran in
-    let grew = subst (λ w. Prints (g.K.Sink.written c.args.out.now) w (opening core.store.history ++ ran.0)) (sym bad.2) ran.2 in
+    let grew = subst (λ w. Prints (due (g.K.Sink.written c.args.out.now) c.args.held.now) w (opening core.store.history ++ ran.0)) (sym bad.2) ran.2 in
     broken_off g.E.Evaluator.takes g.E.Evaluator.meaning core.store.limit core.store.end core.store.history _ _ c.args.items.now c.loop-item.item-index c.item-item.result n ran.0 _ _
     c.runs_are_serial.ensures g.met.E.Evaluator.lawful ((rw c.store.ensures at c.is_sound-2.ensures.history) c.is_sound.ensures.steady.told) refl c.loop-item-test.true c.item-item.is (bad.0 ∙ c.loop-item.invariant.number) ran.1 grew bad.1
 

@@ -1,4 +1,5 @@
 use Rattle.std.proofs.Common.{◌≡◌, ◌+◌, List, ◌++◌, take}
+use Rattle.zio.specs.Sinks.{due}
 use Rattle.zbase.specs.Faults.{Counts}
 use Rattle.schedule.specs.declared.line.Line.{Line}
 use Rattle.schedule.specs.CourseLaws.{RanCalm}
@@ -11,7 +12,7 @@ use Rattle.replay.proofs.running.run_items.Given as goal
 abbrev pub invariant-loop-item : goal.invariant-loop-item
 invariant-loop-item g l = record {
   limit : l.core.store.limit ≡ l.fn.core.store.limit;
-  ran : (lines : List Line) × RanCalm (terms_of g.E.Evaluator.takes g.E.Evaluator.meaning l.fn.core.store.limit l.fn.core.store.end) (start (terms_of g.E.Evaluator.takes g.E.Evaluator.meaning l.fn.core.store.limit l.fn.core.store.end) l.fn.core.store.history) (take l.item-index l.items) lines (clocked (moment_of g.E.Evaluator.meaning l.core.store l.core.slots) l.clock) × Prints (g.K.Sink.written l.fn.out) (g.K.Sink.written l.out) (opening l.fn.core.store.history ++ lines);
+  ran : (lines : List Line) × RanCalm (terms_of g.E.Evaluator.takes g.E.Evaluator.meaning l.fn.core.store.limit l.fn.core.store.end) (start (terms_of g.E.Evaluator.takes g.E.Evaluator.meaning l.fn.core.store.limit l.fn.core.store.end) l.fn.core.store.history) (take l.item-index l.items) lines (clocked (moment_of g.E.Evaluator.meaning l.core.store l.core.slots) l.clock) × Prints (due (g.K.Sink.written l.fn.out) l.fn.held) (due (g.K.Sink.written l.out) l.held) (opening l.fn.core.store.history ++ lines);
   number : l.number ≡ l.item-index + 2;
   counts : Counts (g.K.Sink.counter l.fn.out) (g.K.Sink.counter l.out) ⊥;
 }

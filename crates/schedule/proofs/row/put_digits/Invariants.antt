@@ -1,7 +1,10 @@
-use Rattle.std.proofs.Common.{◌≡◌, ◌++◌, take}
+use Rattle.std.proofs.Common.{◌≡◌, ◌++◌, length}
 use Rattle.zbase.specs.Hex.{hex_bytes}
 use Rattle.schedule.proofs.row.put_digits.Given as goal
 
--- the digits of the bytes so far
-abbrev pub invariant-loop-byte : goal.invariant-loop-byte
-invariant-loop-byte l = l.out ≡ l.fn.out ++ hex_bytes (take l.byte-index l.bytes)
+-- what stands, and the digits of what is left
+abbrev pub invariant-spelling : goal.invariant-spelling
+invariant-spelling l = l.out ++ hex_bytes l.rest ≡ l.fn.out ++ hex_bytes l.bytes
+
+abbrev pub decreases-spelling : goal.decreases-spelling
+decreases-spelling l = length l.rest

@@ -3,7 +3,7 @@ use Rattle.std.specs.Prelude.{IsErrOf}
 use Rattle.zbase.specs.Faults.{Rose}
 use Rattle.zope.specs.declared.refusal.Refusal.{Refusal}
 use Rattle.zope.proofs.FileCauses.{undumped}
-use Rattle.zope.proofs.dumping.dump_file.Goals as goal
+use Rattle.zope.proofs.dumping.dump_named.Goals as goal
 
 pub returns-in-Ok-clause-cause : goal.returns-in-Ok-clause-cause
 returns-in-Ok-clause-cause g c =
