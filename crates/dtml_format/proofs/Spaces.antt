@@ -1,6 +1,5 @@
 -- The last space of a text, by its place.
-use Rattle.std.proofs.Common.{◌≡◌, ℕ, zero, suc, ◌+◌, ◌<◌, ◌≤◌, ◌==◌, Bool, true, false, List, [], ◌∷◌, Option, Some, None, length, get_or, take, refl, sym, ap, ◌∙◌, arith, if◌then◌else◌}
-use Rattle.std.proofs.lemmas.Bool.Decides.{nat_tests}
+use Rattle.std.proofs.Common.{◌≡◌, ℕ, zero, suc, ◌+◌, ◌<◌, ◌≤◌, ◌==◌, true, false, List, [], ◌∷◌, Option, Some, length, get_or, take, refl, sym, ap, ◌∙◌, arith, if◌then◌else◌}
 use Rattle.dtml_format.specs.Shaping.{begins, chars, last_space}
 
 -- no byte from that place on is a space

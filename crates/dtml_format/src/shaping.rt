@@ -52,11 +52,7 @@ fn cased<'a>(
 
 /// The text with the marks applied that put other characters in the place of some.
 #[tactic(auto, unfolding(crate::specs::Shaping::quoted, crate::specs::Shaping::html_quote, crate::specs::Shaping::newline_to_br))]
-fn quoted<'a>(
-    alloc: Global,
-    text: &'a str,
-    marks: &Marks,
-) -> Result<CowStr<'a, Global>, AllocError>
+fn quoted<'a>(alloc: Global, text: &'a str, marks: &Marks) -> Result<CowStr<'a, Global>, AllocError>
     ensures { IfOk result (λ made. cow_str_bytes made ≡ spec.quoted text.now marks.now) }
 {
     let mut made = CowStr::Borrowed(text);

@@ -11,7 +11,7 @@ use Rattle.std.proofs.lemmas.Slice.Eq.{bytes_eq-Decides}
 use Rattle.zobject.specs.declared.object.Child.{Child}
 use Rattle.zobject.specs.declared.version.Rule.TheVariants.{ChildName}
 use Rattle.zobject.specs.Rules.{comes_before}
-use Rattle.zcodec.specs.Reading.{◌>>=◌, Reads, and_name, child_at, items_at, last_one, name_at, new_name_at, number_at, rises, text_at, where_kept}
+use Rattle.zcodec.specs.Reading.{◌>>=◌, and_name, child_at, items_at, last_one, name_at, new_name_at, number_at, rises, text_at, where_kept}
 use Rattle.zcodec.specs.Given.{rising_child_at}
 use Rattle.zcodec.proofs.Exact.{kept_ok, ok_is}
 
@@ -72,9 +72,10 @@ name_is_new : (last : Option Child) (earlier : List (List ℕ)) (bytes : List �
 unfolding name_at new_name_at
 name_is_new last earlier bytes name past e =
     let a = bound (text_at w16 ChildName bytes) (λ n. where_kept (rises comes_before (last_name last) n.0) (length bytes) n) name e in
-    let k = kept_ok (rises comes_before (last_name last) a.value.0) (length bytes) a.value name a.goes in
-    (ap (λ r. r >>= λ n. cond (list_any (bytes_eq n.0) earlier) (Err (length bytes)) (Ok n)) a.is ∙ ap (λ b. cond b (Err (length bytes)) (Ok a.value)) (past a.value.0 k.0) ∙ ap (λ n. Ok n) k.1,
-     ap (λ n. rises comes_before (last_name last) n.0) (sym k.1) ∙ k.0)
+    let k = kept_ok (rises comes_before (last_name last) a.value.0) (length bytes) a.value name a.goes in (
+      ap (λ r. r >>= λ n. cond (list_any (bytes_eq n.0) earlier) (Err (length bytes)) (Ok n)) a.is ∙ ap (λ b. cond b (Err (length bytes)) (Ok a.value)) (past a.value.0 k.0) ∙ ap (λ n. Ok n) k.1,
+      ap (λ n. rises comes_before (last_name last) n.0) (sym k.1) ∙ k.0,
+    )
 
 child_is_new : (last : Option Child) (earlier : List (List ℕ)) (bytes : List ℕ) (c : Child × List ℕ) → IsPast last earlier → rising_child_at last bytes ≡ Ok c
     → (child_at earlier bytes ≡ Ok c) × (rises comes_before (last_name last) c.0.name ≡ true)
@@ -83,9 +84,10 @@ child_is_new last earlier bytes c past e =
     let a = bound (name_at ChildName (last_name last) bytes) (λ name. number_at w64 name.1 >>= λ oid. Ok (record { name = name.0; oid = oid.0 }, oid.1)) c e in
     let b = bound (number_at w64 a.value.1) (λ oid. Ok (record { name = a.value.0; oid = oid.0 }, oid.1)) c a.goes in
     let new = name_is_new last earlier bytes a.value past a.is in
-    let same = ok_is (record { name = a.value.0; oid = b.value.0 }, b.value.1) c b.goes in
-    (ap (λ r. r >>= λ name. number_at w64 name.1 >>= λ oid. Ok (record { name = name.0; oid = oid.0 }, oid.1)) new.0 ∙ a.goes,
-     ap (λ (d : Child × List ℕ). rises comes_before (last_name last) d.0.name) (sym same) ∙ new.1)
+    let same = ok_is (record { name = a.value.0; oid = b.value.0 }, b.value.1) c b.goes in (
+      ap (λ r. r >>= λ name. number_at w64 name.1 >>= λ oid. Ok (record { name = name.0; oid = oid.0 }, oid.1)) new.0 ∙ a.goes,
+      ap (λ (d : Child × List ℕ). rises comes_before (last_name last) d.0.name) (sym same) ∙ new.1,
+    )
 
 children_are_new : (n : ℕ) (last : Option Child) (earlier : List (List ℕ)) (bytes : List ℕ) (r : List Child × List ℕ) → IsPast last earlier → items_at rising_child_at last_one n last bytes ≡ Ok r → items_at child_at and_name n earlier bytes ≡ Ok r
 unfolding items_at

@@ -1,6 +1,5 @@
-use Rattle.std.proofs.Common.{◌≡◌, ℕ, ◌+◌, ◌<◌, Bool, true, false, Some, None, length, take, ap, sym, ◌∙◌, refl, arith}
+use Rattle.std.proofs.Common.{◌≡◌, ◌+◌, Bool, true, false, Some, None, take, ap, sym, ◌∙◌, refl, arith}
 use Rattle.std.proofs.lemmas.List.{length-take}
-use Rattle.memchr.specs.Find.{NoneAfter}
 use Rattle.dtml_format.specs.Shaping as spec
 use Rattle.dtml_format.proofs.Blocks.{few_chars}
 use Rattle.dtml_format.proofs.Spaces.{found_at, none_found}
