@@ -1,3 +1,5 @@
 pub mod Escapes
 pub mod Runs
+pub mod Blocks
 pub mod Sizes
+pub mod Spaces

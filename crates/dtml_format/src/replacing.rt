@@ -1,11 +1,14 @@
-ghost use Rattle.std.specs.Prelude.{◌≡◌, ◌<◌, true, false, not, List, ℕ, IfOk, string_bytes};
-ghost use Rattle.std.specs.List.{prefix_len, flat_map};
+ghost use Rattle.std.specs.Prelude.{◌≡◌, ◌<◌, ◌≤◌, ◌+◌, true, false, not, List, ℕ, length, drop, IfOk, string_bytes};
+ghost use Rattle.std.specs.List.{list_all, prefix_len, flat_map};
 ghost use Rattle.percent_encoding.specs.AsciiSet.{contains};
 ghost use Rattle.dtml_format.specs.Shaping as spec;
 ghost use Rattle.dtml_format.specs.Replaced.{byte_of, stays};
 
 use percent_encoding::{AsciiSet, NON_ALPHANUMERIC, percent_encode};
 use std::alloc::{AllocError, Global};
+
+/// How many bytes are looked at together.
+const BLOCK: usize = 32;
 
 /// The marks that put other characters in the place of some of ASCII's.
 #[derive(Clone, Copy, Debug)]
@@ -17,13 +20,13 @@ pub(crate) enum Mark {
 }
 
 impl Mark {
-    /// Whether a byte stays as it is.
+    /// Whether a byte stays as it is. Without branches, so that many bytes are looked at together.
     fn stays(self, byte: u8) -> bool
         ensures { result ≡ stays self byte }
     {
         match self {
-            Mark::Html => !matches!(byte, b'&' | b'<' | b'>' | b'"'),
-            Mark::Lines => !matches!(byte, b'\r' | b'\n'),
+            Mark::Html => (byte != b'&') & (byte != b'<') & (byte != b'>') & (byte != b'"'),
+            Mark::Lines => (byte != b'\r') & (byte != b'\n'),
         }
     }
 
@@ -47,11 +50,43 @@ impl Mark {
     }
 }
 
+/// Whether all bytes stay as they are. It goes on behind one that doesn't, so that many are looked at together.
+fn all_stay(mark: Mark, bytes: &[u8]) -> bool
+    ensures { result ≡ list_all (stays mark) bytes.now }
+{
+    let mut all = true;
+    for byte in bytes {
+        all &= mark.stays(*byte);
+    }
+    all
+}
+
+/// How many bytes at the front stay as they are, in whole blocks.
+fn staying_blocks_len(mark: Mark, bytes: &[u8]) -> usize
+    ensures within { result ≤ length bytes.now }
+    ensures rest { prefix_len (stays mark) bytes.now ≡ result + prefix_len (stays mark) (drop result bytes.now) }
+{
+    let mut at = 0;
+    while BLOCK <= bytes.len() - at && all_stay(mark, &bytes[at..at + BLOCK]) {
+        at += BLOCK;
+    }
+    at
+}
+
+/// How many bytes at the front stay as they are, byte by byte.
+fn near_staying_len(mark: Mark, bytes: &[u8]) -> usize
+    ensures is { result ≡ prefix_len (stays mark) bytes.now }
+    ensures within { result ≤ length bytes.now }
+{
+    bytes.iter().take_while(|byte| mark.stays(**byte)).count()
+}
+
 /// How many bytes at the front stay as they are.
 fn staying_len(mark: Mark, bytes: &[u8]) -> usize
     ensures { result ≡ prefix_len (stays mark) bytes.now }
 {
-    bytes.iter().take_while(|byte| mark.stays(**byte)).count()
+    let whole = staying_blocks_len(mark, bytes);
+    whole + near_staying_len(mark, &bytes[whole..])
 }
 
 /// The text with other characters in the place of those that the mark names.

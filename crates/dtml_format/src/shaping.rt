@@ -1,10 +1,12 @@
 ghost use Rattle.std.specs.Prelude.{◌≡◌, ◌++◌, take, drop, map, IfOk, string_bytes};
+ghost use Rattle.std.specs.Cow.{cow_str_bytes};
 ghost use Rattle.dtml_format.specs.Shaping as spec;
 
 use crate::marks::Marks;
 use crate::replacing::{Mark, replaced, url_quote};
 use crate::sizing::sized;
 use std::alloc::{AllocError, Global};
+use std::borrow::CowStr;
 use zbase::{Memory, Text};
 
 /// The text with its first character upper-case.
@@ -25,10 +27,17 @@ fn capitalize(alloc: Global, text: &str) -> Result<String, AllocError>
 
 /// The text with the marks on its letters applied.
 #[tactic(auto, unfolding(crate::specs::Shaping::cased, crate::specs::Shaping::lower, crate::specs::Shaping::upper))]
-fn cased(alloc: Global, text: String, marks: &Marks) -> Result<String, AllocError>
-    ensures { IfOk result (λ made. string_bytes made ≡ spec.cased (string_bytes text) marks.now) }
+fn cased<'a>(
+    alloc: Global,
+    text: CowStr<'a, Global>,
+    marks: &Marks,
+) -> Result<CowStr<'a, Global>, AllocError>
+    ensures { IfOk result (λ made. cow_str_bytes made ≡ spec.cased (cow_str_bytes text.entry) marks.now) }
 {
-    let mut made = text;
+    if !(marks.lower || marks.upper || marks.capitalize) {
+        return Ok(text);
+    }
+    let mut made = text.into_owned(alloc)?;
     if marks.lower {
         made.make_ascii_lowercase();
     }
@@ -38,23 +47,23 @@ fn cased(alloc: Global, text: String, marks: &Marks) -> Result<String, AllocErro
     if marks.capitalize {
         made = capitalize(alloc, made.as_str())?;
     }
-    Ok(made)
+    Ok(CowStr::Owned(made))
 }
 
 /// The text with the marks applied that put other characters in the place of some.
 #[tactic(auto, unfolding(crate::specs::Shaping::quoted, crate::specs::Shaping::html_quote, crate::specs::Shaping::newline_to_br))]
-fn quoted(alloc: Global, text: &str, marks: &Marks) -> Result<String, AllocError>
-    ensures { IfOk result (λ made. string_bytes made ≡ spec.quoted text.now marks.now) }
+fn quoted<'a>(alloc: Global, text: &'a str, marks: &Marks) -> Result<CowStr<'a, Global>, AllocError>
+    ensures { IfOk result (λ made. cow_str_bytes made ≡ spec.quoted text.now marks.now) }
 {
-    let mut made = String::from_str(alloc, text)?;
+    let mut made = CowStr::Borrowed(text);
     if marks.html_quote {
-        made = replaced(alloc, made.as_str(), Mark::Html)?;
+        made = CowStr::Owned(replaced(alloc, made.as_str(), Mark::Html)?);
     }
     if marks.url_quote {
-        made = url_quote(alloc, made.as_str())?;
+        made = CowStr::Owned(url_quote(alloc, made.as_str())?);
     }
     if marks.newline_to_br {
-        made = replaced(alloc, made.as_str(), Mark::Lines)?;
+        made = CowStr::Owned(replaced(alloc, made.as_str(), Mark::Lines)?);
     }
     Ok(made)
 }

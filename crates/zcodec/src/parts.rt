@@ -3,9 +3,9 @@ ghost use Rattle.zcodec.specs.Reading.{Gives, and_name, child_at, children_at, d
 ghost use Rattle.zcodec.specs.Given.{Knows};
 
 use crate::fields::{count_of, source_of, text_of, u64_of};
-use crate::lists::list_of;
+use crate::lists::{items_of, list_of};
 use crate::reading::proxy_of;
-use crate::rows::UserRow;
+use crate::rows::{RisingChildRow, UserRow};
 use crate::unread::Unread;
 use std::alloc::Global;
 use std::collections::BTreeSet;
@@ -52,8 +52,8 @@ fn child_of<'a>(
     Ok((Child { name, oid }, rest))
 }
 
-/// So many children, each name once.
-fn each_child_of(alloc: Global, count: u16, bytes: &[u8]) -> Result<(Children, &[u8]), Unread>
+/// So many children, whose names a set tells apart.
+fn told_apart_of(alloc: Global, count: u16, bytes: &[u8]) -> Result<(Children, &[u8]), Unread>
     ensures { Gives (λ x. (x.0, x.1.now)) result (items_at child_at and_name count [] bytes.now) }
 {
     let mut children = Items::new(alloc);
@@ -65,6 +65,18 @@ fn each_child_of(alloc: Global, count: u16, bytes: &[u8]) -> Result<(Children, &
         rest = after;
     }
     Ok((children, rest))
+}
+
+/// So many children, each name once. Where their names rise, each is compared with the one before it alone.
+#[tactic(auto, using(crate::proofs::Risen::risen))]
+fn each_child_of(alloc: Global, count: u16, bytes: &[u8]) -> Result<(Children, &[u8]), Unread>
+    ensures { Gives (λ x. (x.0, x.1.now)) result (items_at child_at and_name count [] bytes.now) }
+{
+    match items_of(alloc, &RisingChildRow, count, bytes) {
+        Ok(children) => Ok(children),
+        Err(Unread::Memory) => Err(Unread::Memory),
+        Err(Unread::Bad(_)) => told_apart_of(alloc, count, bytes),
+    }
 }
 
 #[tactic(auto, unfolding(crate::specs::Reading::children_at))]

@@ -19,10 +19,18 @@ const RESERVED: [&str; 10] = [
     "undoable_transactions",
 ];
 
+// Without branches, so that many bytes are tested at once.
 fn is_id_byte(byte: u8) -> bool
     ensures { result ≡ rules.is_id_byte byte }
 {
-    matches!(byte, b'A'..=b'Z' | b'a'..=b'z' | b'0'..=b'9' | b'_' | b'-' | b'.' | b',' | b'~')
+    ((b'A' <= byte) & (byte <= b'Z'))
+        | ((b'a' <= byte) & (byte <= b'z'))
+        | ((b'0' <= byte) & (byte <= b'9'))
+        | (byte == b'_')
+        | (byte == b'-')
+        | (byte == b'.')
+        | (byte == b',')
+        | (byte == b'~')
 }
 
 fn is_name_byte(byte: u8) -> bool
@@ -43,10 +51,15 @@ fn is_role_byte(byte: u8) -> bool
     matches!(byte, b' '..=b'~') && byte != b','
 }
 
+// It goes on behind a byte that fails, so that many bytes are tested at once: a folder has up to 10,000 names.
 fn has_id_bytes(text: &[u8]) -> bool
     ensures { result ≡ list_all rules.is_id_byte text.now }
 {
-    text.iter().all(|byte| is_id_byte(*byte))
+    let mut all = true;
+    for byte in text {
+        all &= is_id_byte(*byte);
+    }
+    all
 }
 
 fn has_name_bytes(text: &[u8]) -> bool

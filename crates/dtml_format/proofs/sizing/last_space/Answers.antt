@@ -1,60 +1,25 @@
-use Rattle.std.proofs.Common.{◌≡◌, ℕ, ◌+◌, suc, ◌<◌, ◌≤◌, length, drop, get_or, sym, ap, ◌∙◌, arith, true, false, nat_eq, Bool, Option, Some, None, IfSome, List, if◌then◌else◌}
-use Rattle.std.proofs.lemmas.Bool.Decides.{nat_tests}
-use Rattle.std.proofs.lemmas.List.{drop_all}
+use Rattle.std.proofs.Common.{◌≡◌, ◌+◌, Bool, true, false, Some, None, take, ap, sym, ◌∙◌, refl, arith}
+use Rattle.std.proofs.lemmas.List.{length-take}
 use Rattle.dtml_format.specs.Shaping as spec
-use Rattle.dtml_format.proofs.Sizes.{space_step, space_ends}
+use Rattle.dtml_format.proofs.Blocks.{few_chars}
+use Rattle.dtml_format.proofs.Spaces.{found_at, none_found}
 use Rattle.dtml_format.proofs.sizing.last_space.Goals as goal
-use Rattle.dtml_format.proofs.sizing.last_space.Goals.{then-byte-eq32, else-byte-eq32, then-begins, else-begins}
 
--- a step, by what the two tests gave
-step : (xs : List ℕ) (all : Option ℕ) (found now : Option ℕ) (count more at : ℕ) (space begun : Bool) → at < length xs
-    → nat_eq (get_or xs at 0) 32 ≡ space → spec.begins (get_or xs at 0) ≡ begun
-    → now ≡ (if space then Some count else found) → more ≡ (if begun then suc count else count)
-    → spec.last_space found count (drop at xs) ≡ all → spec.last_space now more (drop (at + 1) xs) ≡ all
-step xs all found now count more at space begun lt s b e n is =
-    ap (λ f. spec.last_space f more (drop (at + 1) xs)) (e ∙ ap (λ t. if t then Some count else found) (sym s))
-    ∙ ap (λ k. spec.last_space (if nat_eq (get_or xs at 0) 32 then Some count else found) k (drop (at + 1) xs)) (n ∙ ap (λ t. if t then suc count else count) (sym b))
-    ∙ space_step found count xs at lt ∙ is
+is_false : (t : Bool) → (t ≡ true → ⊥) → t ≡ false
+is_false true h = absurd (h refl)
+is_false false h = refl
 
-still : (found : Option ℕ) (at : ℕ) → IfSome found (λ k. k < at) → IfSome found (λ k. k < at + 1)
-still None at h = h
-still (Some k) at h = omega arith
+pub returns-in-None : goal.returns-in-None
+returns-in-None c = record { is = sym (none_found None 0 c.args.bytes.now (λ j le lt. is_false _ (c.in-None.ensures j le lt))); within = tt }
 
-pub loop-byte-preserved : goal.loop-byte-preserved
-loop-byte-preserved c =
-    elim c.if-byte-eq32.branch [
-      | then-byte-eq32 w ↦
-          let space : nat_eq (get_or c.args.bytes.now c.loop-byte.byte-index 0) 32 ≡ true = grind (arith, nat_tests, w.if-byte-eq32.true) in
-          elim c.if-begins.branch [
-            | then-begins v ↦ record {
-              is = step c.args.bytes.now _ c.loop-byte.found _ c.loop-byte.count _ c.loop-byte.byte-index true true c.loop-byte-test.true space (sym c.begins.ensures ∙ v.if-begins.true) w.found-is (omega (arith, v.count-is)) c.loop-byte.invariant.is;
-              within = omega (arith, v.count-is, c.loop-byte.invariant.within);
-              before = rw w.found-is (omega (arith, c.loop-byte.invariant.within));
-            }
-            | else-begins v ↦ record {
-              is = step c.args.bytes.now _ c.loop-byte.found _ c.loop-byte.count _ c.loop-byte.byte-index true false c.loop-byte-test.true space (sym c.begins.ensures ∙ v.if-begins.false) w.found-is v.count-is c.loop-byte.invariant.is;
-              within = omega (arith, v.count-is, c.loop-byte.invariant.within);
-              before = rw w.found-is (omega (arith, c.loop-byte.invariant.within));
-            }
-          ]
-      | else-byte-eq32 w ↦
-          let space : nat_eq (get_or c.args.bytes.now c.loop-byte.byte-index 0) 32 ≡ false = grind (arith, nat_tests, w.if-byte-eq32.false) in
-          elim c.if-begins.branch [
-            | then-begins v ↦ record {
-              is = step c.args.bytes.now _ c.loop-byte.found _ c.loop-byte.count _ c.loop-byte.byte-index false true c.loop-byte-test.true space (sym c.begins.ensures ∙ v.if-begins.true) w.found-is (omega (arith, v.count-is)) c.loop-byte.invariant.is;
-              within = omega (arith, v.count-is, c.loop-byte.invariant.within);
-              before = rw w.found-is (still c.loop-byte.found c.loop-byte.byte-index c.loop-byte.invariant.before);
-            }
-            | else-begins v ↦ record {
-              is = step c.args.bytes.now _ c.loop-byte.found _ c.loop-byte.count _ c.loop-byte.byte-index false false c.loop-byte-test.true space (sym c.begins.ensures ∙ v.if-begins.false) w.found-is v.count-is c.loop-byte.invariant.is;
-              within = omega (arith, v.count-is, c.loop-byte.invariant.within);
-              before = rw w.found-is (still c.loop-byte.found c.loop-byte.byte-index c.loop-byte.invariant.before);
-            }
-          ]
-    ]
+pub returns-in-Some-clause-is : goal.returns-in-Some-clause-is
+returns-in-Some-clause-is c =
+    let found = c.in-Some.ensures in
+    let from_none : spec.chars (take c.in-Some.place c.args.bytes.now) ≡ 0 + spec.chars (take c.in-Some.place c.args.bytes.now) = omega arith in
+    ap (λ n. Some n) (c.chars.ensures ∙ from_none) ∙ sym (found_at None 0 c.args.bytes.now c.in-Some.place found.0.high found.1 (λ j le lt. is_false _ (found.0.after j le lt)))
 
-ends : (xs : List ℕ) (found all : Option ℕ) (count at : ℕ) → length xs ≤ at → spec.last_space found count (drop at xs) ≡ all → found ≡ all
-ends xs found all count at le is = sym (space_ends found count) ∙ ap (spec.last_space found count) (sym (drop_all at xs le)) ∙ is
-
-pub returns-clause-is : goal.returns-clause-is
-returns-clause-is c = ends c.args.bytes.now _ _ c.loop-byte.count c.loop-byte.byte-index c.loop-byte-test.false c.loop-byte.invariant.is
+pub returns-in-Some-clause-within : goal.returns-in-Some-clause-within
+returns-in-Some-clause-within c =
+    let found = c.in-Some.ensures in
+    let before = found.0.high in
+    omega (arith, c.chars.ensures, few_chars (take c.in-Some.place c.args.bytes.now), length-take c.in-Some.place c.args.bytes.now, before)

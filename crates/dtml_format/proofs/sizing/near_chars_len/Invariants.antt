@@ -1,6 +1,6 @@
 use Rattle.std.proofs.Common.{◌≡◌, ◌++◌, take, drop, nat_lt}
 use Rattle.dtml_format.specs.Shaping as spec
-use Rattle.dtml_format.proofs.sizing.first_chars_len.Given as goal
+use Rattle.dtml_format.proofs.sizing.near_chars_len.Given as goal
 
 abbrev pub invariant-loop-at : goal.invariant-loop-at
 invariant-loop-at l = record {
