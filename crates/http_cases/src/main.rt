@@ -1,0 +1,15 @@
+//! Runs the cases of messages of HTTP, and tells which of them say something else than was wanted.
+#![tactic(auto)]
+
+mod running;
+mod showing;
+mod streams;
+
+use cases::run_files;
+use running::HttpCases;
+use std::io;
+use std::process::ExitCode;
+
+fn main(rt: HostRuntime) -> io::Result<ExitCode> {
+    run_files(&rt, &HttpCases)
+}

@@ -1,0 +1,43 @@
+-- A head, from its parts.
+use Rattle.std.proofs.Common.{◌≡◌, ℕ, ◌≤◌, false, List, [], length, map, drop, Option, Some, None, refl, sym, ap, ◌∙◌, subst, arith}
+use Rattle.std.specs.Prelude.{nat_lt}
+use Rattle.std.proofs.lemmas.Bool.Decides.{nat_tests}
+use Rattle.std.proofs.lemmas.List.{append-nil, drop_all}
+use Rattle.std.proofs.lemmas.Simd.{map-map}
+use Rattle.httparse.specs.declared.spans.HeaderSpan.{HeaderSpan}
+use Rattle.httparse.specs.declared.spans.RequestSpans.{RequestSpans}
+use Rattle.httparse.specs.Grammar.{RequestHead, ReadsRequest, print_request}
+use Rattle.httparse.specs.Spans.{IsRequestAt, IsRequestOf, header_bytes, name_and_value}
+use Rattle.http_in.specs.declared.message.Header.{Header}
+use Rattle.http_in.specs.Ends.{header_lines}
+use Rattle.http_in.specs.HeadLaws.{head_is_read, read_is_head, few_fields}
+use Rattle.http_in.specs.HeadText.{head_of}
+use Rattle.http_in.specs.Headers.{header_by, header_of}
+use Rattle.http_in.specs.Messages.{judged, request_of}
+use Rattle.http_in.specs.Inside.{HasParts}
+
+pub none_unless : (bytes : List ℕ) → header_lines bytes ≤ 64 → ((h : RequestHead) → ReadsRequest bytes h [] → length h.fields ≤ 64 → ⊥) → head_of bytes ≡ None
+none_unless bytes few never = go (head_of bytes) refl
+  where
+    go : (o : Option RequestHead) → head_of bytes ≡ o → o ≡ None
+    go None e = refl
+    go (Some h) e = let reads = head_is_read bytes h e in absurd (never h reads (few_fields bytes h reads few))
+
+pub parts_are : (bytes : List ℕ) (spans : List HeaderSpan) (found : RequestSpans) → IsRequestOf bytes spans found → found.len ≡ length bytes → HasParts bytes spans found
+parts_are bytes spans found is all =
+    let h = is.0 in
+    let none : drop found.len bytes ≡ [] = ap (λ n. drop n bytes) all ∙ drop_all (length bytes) bytes (omega arith) in
+    let reads : ReadsRequest bytes h [] = subst (ReadsRequest bytes h) none is.1.reads in
+    (h, read_is_head bytes h reads, is.1)
+
+pub read_whole : (bytes : List ℕ) (spans : List HeaderSpan) (found : RequestSpans) (h : RequestHead) → ReadsRequest bytes h [] → IsRequestAt bytes spans found h → found.len ≡ length bytes
+read_whole bytes spans found h reads is = is.len ∙ ap length (sym (append-nil (print_request h)) ∙ sym reads.1)
+
+pub headers_are : (bytes : List ℕ) (spans : List HeaderSpan) (h : RequestHead) → map (header_bytes bytes) spans ≡ map name_and_value h.fields → map (λ span. header_by (header_bytes bytes span)) spans ≡ map header_of h.fields
+headers_are bytes spans h is = sym (map-map header_by (header_bytes bytes) spans) ∙ ap (map header_by) is ∙ map-map header_by name_and_value h.fields
+
+pub judged_is : (head : List ℕ) (h : RequestHead) (method target : List ℕ) (headers : List Header) → header_lines head ≤ 64 → head_of head ≡ Some h → method ≡ h.method → target ≡ h.target → headers ≡ map header_of h.fields → judged head ≡ request_of method target headers
+unfolding judged
+judged_is head h method target headers few is m t hs =
+    let short : nat_lt 64 (header_lines head) ≡ false = grind (arith, nat_tests) in
+    rw (short, is, m, t, hs) refl

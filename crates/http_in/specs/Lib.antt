@@ -1,0 +1,17 @@
+pub mod Ends
+pub mod HeadText
+pub mod Paths
+pub mod Headers
+pub mod Messages
+pub mod EndLaws
+pub mod Cuts
+pub mod CutLaws
+pub mod HeadLaws
+pub mod MessageLaws
+pub mod Streams
+pub mod Inside
+pub mod Laws
+pub mod SizeLaws
+pub mod StreamLaws
+pub mod FrontLaws
+pub mod Worked

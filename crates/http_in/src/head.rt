@@ -1,0 +1,164 @@
+ghost use Rattle.std.specs.Prelude.{◌≡◌, ◌≤◌, ◌==◌, ℕ, length, IfOk, IfSome, IfNone, option_map, None, Some};
+ghost use Rattle.std.specs.List.{count_by};
+ghost use Rattle.httparse.specs.Spans.{IsRequestWithin};
+ghost use Rattle.http_in.specs.Ends.{header_lines};
+ghost use Rattle.http_in.specs.HeadText.{head_of};
+ghost use Rattle.http_in.specs.Messages as messages;
+ghost use Rattle.http_in.specs.Paths as paths;
+ghost use Rattle.http_in.specs.Inside.{Gives, HasParts};
+
+use crate::headers::{body_length, headers_at, is_chunked, is_multipart, lossy_text};
+use crate::path::{count_segments, cut, path_of};
+use crate::refusal::HeadError;
+use crate::{Headers, HttpRefusal, Request, Segments, Verb};
+use httparse::Status;
+use httparse::spans::{EMPTY_HEADER_SPAN, HeaderSpan, RequestSpans, parse_request};
+use std::alloc::Global;
+use zbase::{Bytes, Memory};
+
+fn count_lines(head: &[u8]) -> usize
+    ensures is { result ≡ count_by (λ b. b == 10) head.now }
+    ensures within { result ≤ length head.now }
+{
+    head.iter().filter(|b| **b == b'\n').count()
+}
+
+/// Where the parts of a head are, none where the bytes are no head.
+fn parts_of(head: &[u8], spans: &mut [HeaderSpan]) -> Option<RequestSpans>
+    requires room { length spans.old ≡ 64 }
+    requires few { header_lines head.now ≤ 64 }
+    ensures within { IfSome result (IsRequestWithin head.now spans.new) }
+    ensures some { IfSome result (HasParts head.now spans.new) }
+    ensures none { IfNone result (head_of head.now ≡ None) }
+{
+    match parse_request(head, spans) {
+        Ok(Status::Complete(found)) => {
+            if found.len == head.len() {
+                Some(found)
+            } else {
+                None
+            }
+        }
+        Ok(Status::Partial) => None,
+        Err(_) => None,
+    }
+}
+
+fn verb_of(method: &[u8]) -> Option<Verb>
+    ensures { result ≡ messages.verb_of method.now }
+{
+    if method == b"GET".as_slice() {
+        Some(Verb::Get)
+    } else if method == b"HEAD".as_slice() {
+        Some(Verb::Head)
+    } else if method == b"POST".as_slice() {
+        Some(Verb::Post)
+    } else {
+        None
+    }
+}
+
+fn begins_with_slash(target: &[u8]) -> bool
+    ensures { result ≡ messages.begins_with_slash target.now }
+{
+    !target.is_empty() && target[0] == b'/'
+}
+
+/// The path of a target that begins with a slash; none where that is no text.
+fn path_in(alloc: Global, target: &[u8]) -> Result<Option<Segments>, Memory>
+    ensures { IfOk result (λ path. path ≡ messages.path_in target.now) }
+{
+    if begins_with_slash(target) {
+        path_of(alloc, cut(target, b'?').0)
+    } else {
+        Ok(None)
+    }
+}
+
+fn is_long(target: &[u8]) -> bool
+    ensures { result ≡ messages.is_long target.now }
+{
+    target.len() > 8192 || count_segments(cut(target, b'?').0) > 64
+}
+
+fn is_post(verb: Verb) -> bool
+    ensures { result ≡ messages.is_post verb }
+{
+    match verb {
+        Verb::Get | Verb::Head => false,
+        Verb::Post => true,
+    }
+}
+
+/// What follows the first `?` of a target.
+fn query_of(target: &[u8]) -> &[u8]
+    ensures { result.now ≡ paths.query_of target.now }
+{
+    match cut(target, b'?').1 {
+        Some(query) => query,
+        None => &[],
+    }
+}
+
+/// The request of these parts without its body, and how long that is.
+#[tactic(auto, unfolding(crate::specs::Messages::request_of))]
+fn request_of(
+    alloc: Global,
+    method: &[u8],
+    target: &[u8],
+    headers: Headers,
+) -> Result<(Request, usize), HeadError>
+    ensures is { Gives result (messages.request_of method.now target.now headers) }
+    ensures small { IfOk result (λ x. x.1 ≤ 1048576) }
+{
+    let Some(path) = path_in(alloc, target)? else {
+        return Err(HeadError::Refused(HttpRefusal::BadHead));
+    };
+    let Some(size) = body_length(headers.as_slice()) else {
+        return Err(HeadError::Refused(HttpRefusal::BadHead));
+    };
+    let Some(method) = verb_of(method) else {
+        return Err(HeadError::Refused(HttpRefusal::Method));
+    };
+    if is_long(target) {
+        return Err(HeadError::Refused(HttpRefusal::PathTooLong));
+    }
+    if is_chunked(headers.as_slice()) {
+        return Err(HeadError::Refused(HttpRefusal::Chunked));
+    }
+    if size > 1_048_576 {
+        return Err(HeadError::Refused(HttpRefusal::BodyTooLarge));
+    }
+    if is_post(method) && is_multipart(headers.as_slice()) {
+        return Err(HeadError::Refused(HttpRefusal::Multipart));
+    }
+    let raw = lossy_text(alloc, cut(target, b'?').0)?;
+    let query = lossy_text(alloc, query_of(target))?;
+    let body = Bytes::new(alloc);
+    let request = Request {
+        method,
+        path,
+        raw,
+        query,
+        headers,
+        body,
+    };
+    Ok((request, size))
+}
+
+/// The request that a head begins, without its body, and how long that is.
+#[tactic(auto, unfolding(crate::specs::Messages::judged))]
+pub(crate) fn judge(alloc: Global, head: &[u8]) -> Result<(Request, usize), HeadError>
+    ensures is { Gives result (messages.judged head.now) }
+    ensures small { IfOk result (λ x. x.1 ≤ 1048576) }
+{
+    if count_lines(head) > 66 {
+        return Err(HeadError::Refused(HttpRefusal::HeadTooLarge));
+    }
+    let mut spans = [EMPTY_HEADER_SPAN; 64];
+    let Some(found) = parts_of(head, spans.as_mut_slice()) else {
+        return Err(HeadError::Refused(HttpRefusal::BadHead));
+    };
+    let headers = headers_at(alloc, head, &spans[..found.headers])?;
+    request_of(alloc, found.method.of(head), found.path.of(head), headers)
+}

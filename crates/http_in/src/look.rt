@@ -1,0 +1,84 @@
+ghost use Rattle.std.specs.Prelude.{◌≡◌, ◌≤◌, ◌+◌, Some, None, Ok, length, take, drop, IfOk};
+ghost use Rattle.http_in.specs.Ends.{head_end};
+ghost use Rattle.http_in.specs.Inside.{IsLook, IsPassed, looked_by};
+ghost use Rattle.http_in.specs.Messages as messages;
+
+use crate::ends::{Sought, search};
+use crate::head::judge;
+use crate::refusal::HeadError;
+use crate::{HttpRefusal, Message, Request};
+use std::alloc::Global;
+use zbase::{Bytes, Memory};
+
+/// What a look at the bytes of a stream came to.
+#[derive(Debug, Drop)]
+pub(crate) enum Looked {
+    /// They begin with this message, of this length.
+    Found(Message, usize),
+    /// No end of a head is there yet; none begins among the first so many bytes.
+    Head(usize),
+    /// The message will have so many bytes.
+    Body(usize),
+}
+
+/// A request whose head ends at this place, with its body.
+fn with_body(request: Request, bytes: &[u8], end: usize, size: usize) -> Result<Looked, Memory>
+    requires within { end ≤ length bytes.now }
+    requires fits { end + size ≤ 1064960 }
+    requires end { head_end (take 16384 bytes.now) ≡ Some end }
+    requires judged { messages.judged (take end bytes.now) ≡ Ok (request, size) }
+    ensures { IfOk result (λ look. IsLook bytes.now (looked_by look)) }
+{
+    let length = end + size;
+    if bytes.len() < length {
+        return Ok(Looked::Body(length));
+    }
+    let sent = bytes.split_at(end).1.split_at(size).0;
+    let mut request = request;
+    request.body = Bytes::from_slice(request.body.alloc(), sent)?;
+    Ok(Looked::Found(Message::Whole(request), length))
+}
+
+/// The message whose head ends at this place.
+fn behind_head(alloc: Global, bytes: &[u8], end: usize) -> Result<Looked, Memory>
+    requires end { head_end (take 16384 bytes.now) ≡ Some end }
+    ensures { IfOk result (λ look. IsLook bytes.now (looked_by look)) }
+{
+    match judge(alloc, bytes.split_at(end).0) {
+        Ok((request, size)) => with_body(request, bytes, end, size),
+        Err(HeadError::Refused(cause)) => Ok(Looked::Found(Message::Refused(cause), end)),
+        Err(HeadError::Memory) => Err(Memory),
+    }
+}
+
+/// The bytes in which a head must end.
+fn window_of(bytes: &[u8]) -> &[u8]
+    ensures { result.now ≡ take 16384 bytes.now }
+{
+    if bytes.len() > 16384 {
+        bytes.split_at(16384).0
+    } else {
+        bytes
+    }
+}
+
+/// Looks for the message that the bytes begin with, behind those that are passed.
+pub(crate) fn look(alloc: Global, bytes: &[u8], clean: usize) -> Result<Looked, Memory>
+    requires within { clean ≤ length bytes.now }
+    requires most { clean ≤ 16384 }
+    requires passed { IsPassed (take clean bytes.now) }
+    ensures { IfOk result (λ look. IsLook bytes.now (looked_by look)) }
+{
+    let window = window_of(bytes);
+    let rest = window.split_at(clean).1;
+    match search(rest) {
+        Sought::Ends(end) => behind_head(alloc, bytes, clean + end),
+        Sought::Goes(more) => {
+            if bytes.len() < 16384 {
+                Ok(Looked::Head(clean + more))
+            } else {
+                Ok(Looked::Found(Message::Refused(HttpRefusal::HeadTooLarge), 16384))
+            }
+        }
+    }
+}
