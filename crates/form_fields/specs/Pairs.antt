@@ -7,8 +7,8 @@ use Rattle.std.specs.Bool.{nat_eq}
 use Rattle.std.specs.Str.Lossy.{utf8_lossy}
 use Rattle.form_urlencoded.specs.Form as form
 use Rattle.http_in.specs.declared.message.Request.{Request}
-use Rattle.http_in.specs.declared.message.Verb.{Verb}
 use Rattle.http_in.specs.Headers.{first_value}
+use Rattle.http_in.specs.Messages.{is_post}
 
 abbrev pub decoded : List ℕ × List ℕ → List ℕ × List ℕ
 decoded x = (utf8_lossy (form.decode x.0), utf8_lossy (form.decode x.1))
@@ -16,11 +16,6 @@ decoded x = (utf8_lossy (form.decode x.0), utf8_lossy (form.decode x.1))
 -- the names and values of a form
 unfoldable pub pairs_of : List ℕ → List (List ℕ × List ℕ)
 pairs_of text = map decoded (form.raw_pairs text)
-
-abbrev pub is_post : Verb → Bool
-is_post Verb.Get = false
-is_post Verb.Head = false
-is_post Verb.Post = true
 
 abbrev pub content_type : List ℕ
 content_type = codes "Content-Type"
