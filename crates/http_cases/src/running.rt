@@ -1,5 +1,5 @@
 use crate::forms::{put_cookies, put_fields};
-use crate::streams::{put_cuts, put_stream};
+use crate::streams::{put_cuts, put_held, put_stream, put_taken};
 use crate::users::{put_credentials, put_found, put_kept};
 use cases::{Case, CasesRefusal, Part, Runner};
 use std::alloc::Global;
@@ -9,7 +9,9 @@ use std::alloc::Global;
 /// `stream` is read in one piece: `messages` comes of it, with the lines of each message one behind another, and `rest`
 /// with the number of bytes behind the last one. `cut WORDS` reads it anew in pieces, for each word in other ones: of so
 /// many bytes, or for `each` in two pieces that part at each of its places. `cuts same` comes where each reading gives
-/// the same, and `cuts other WORD` with the first word that doesn't.
+/// the same, and `cuts other WORD` with the first word that doesn't. Of `holding SIZE` comes `held` with the greatest
+/// number of bytes that the reader held, in pieces of that size. What is behind `take` is taken as one message: `taken`
+/// comes of it, with its lines or the word `none`.
 ///
 /// A message that is refused is the line `LENGTH refused CAUSE`. A whole one is `LENGTH METHOD`, and below it a line
 /// `segment` for each segment of its path, `raw` and `query`, a line `header` with name and value for each of its
@@ -30,7 +32,7 @@ pub struct HttpCases;
 impl Runner for HttpCases {
     fn knows(&self, key: &str) -> bool {
         [
-            "stream", "cut", "form", "jar", "header", "password", "user", "login",
+            "stream", "cut", "holding", "take", "form", "jar", "header", "password", "user", "login",
         ]
         .contains(&key)
     }
@@ -41,6 +43,8 @@ impl Runner for HttpCases {
             match part.key() {
                 "stream" => put_stream(alloc, part, &mut parts)?,
                 "cut" => put_cuts(alloc, case, part, &mut parts)?,
+                "holding" => put_held(alloc, case, part, &mut parts)?,
+                "take" => put_taken(alloc, part, &mut parts)?,
                 "form" => put_fields(alloc, part, &mut parts)?,
                 "jar" => put_cookies(alloc, part, &mut parts)?,
                 "header" => put_credentials(alloc, part, &mut parts)?,

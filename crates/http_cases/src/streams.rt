@@ -1,10 +1,11 @@
 use crate::showing::put_message;
 use cases::{Case, CasesRefusal, Part};
-use http_in::Reader;
+use http_in::{Reader, take_message};
 use std::alloc::Global;
 use zbase::{Bytes, Memory};
 
-// A stream that is being read: where its reader is in it, and the lines of its messages so far.
+// A stream that is being read: where its reader is in it, the lines of its messages so far, and the most bytes that the
+// reader held.
 #[derive(Drop)]
 struct Reading<'a> {
     alloc: Global,
@@ -12,6 +13,7 @@ struct Reading<'a> {
     reader: Reader,
     at: usize,
     lines: Bytes,
+    most: usize,
 }
 
 fn are_same(one: &[u8], other: &[u8]) -> bool {
@@ -27,6 +29,7 @@ impl Reading<'_> {
             reader: Reader::new(alloc),
             at: 0,
             lines: Bytes::new(alloc),
+            most: 0,
         }
     }
 
@@ -38,11 +41,7 @@ impl Reading<'_> {
         let taken = self.reader.taken();
         let end = self.at.saturating_add(taken.len());
         let there = self.stream.get(self.at..end).unwrap_or(&[]);
-        let mark = if are_same(there, taken) {
-            ""
-        } else {
-            " other"
-        };
+        let mark = if are_same(there, taken) { "" } else { " other" };
         put_message(self.alloc, &mut self.lines, &message, taken.len(), mark)?;
         self.at = end;
         Ok(true)
@@ -51,6 +50,7 @@ impl Reading<'_> {
     // Takes a piece, and the messages that have come then.
     fn take_piece(&mut self, piece: &[u8]) -> Result<(), Memory> {
         self.reader.feed(piece)?;
+        self.most = self.most.max(self.reader.held());
         for _ in 0..self.stream.len() {
             if !self.take_message()? {
                 break;
@@ -88,6 +88,37 @@ pub fn put_stream(alloc: Global, part: &Part, parts: &mut Vec<Part>) -> Result<(
     let rest = stream.len().saturating_sub(reading.at);
     parts.push(Part::with(alloc, "messages", reading.lines)?)?;
     parts.push(Part::new(alloc, 0, format!(in alloc; "rest {rest}")?.as_str())?)?;
+    Ok(())
+}
+
+/// Adds how many bytes the reader held at most, in pieces of the size that a part says.
+pub fn put_held(
+    alloc: Global,
+    case: &Case,
+    part: &Part,
+    parts: &mut Vec<Part>,
+) -> Result<(), CasesRefusal> {
+    let Some(source) = case.part("stream") else {
+        return Err(CasesRefusal::Missing);
+    };
+    let size = usize::try_from(part.number(1)?).unwrap_or(usize::MAX);
+    let most = read_by(alloc, source.bytes.as_slice(), size)?.most;
+    parts.push(Part::new(alloc, 0, format!(in alloc; "held {most}")?.as_str())?)?;
+    Ok(())
+}
+
+/// Adds the lines of the one message that the part's bytes are.
+pub fn put_taken(alloc: Global, part: &Part, parts: &mut Vec<Part>) -> Result<(), CasesRefusal> {
+    let bytes = part.bytes.as_slice();
+    let taken = match take_message(alloc, bytes)? {
+        Some(message) => {
+            let mut lines = Bytes::new(alloc);
+            put_message(alloc, &mut lines, &message, bytes.len(), "")?;
+            Part::with(alloc, "taken", lines)?
+        }
+        None => Part::new(alloc, 0, "taken none")?,
+    };
+    parts.push(taken)?;
     Ok(())
 }
 

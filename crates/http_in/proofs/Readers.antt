@@ -1,8 +1,11 @@
 -- What a reader keeps.
-use Rattle.std.proofs.Common.{◌≡◌, ℕ, ◌+◌, ◌-◌, ◌≤◌, List, ◌++◌, length, take, drop, take-append-drop, length-drop, length-take-le, sym, ap, ap₂, ◌∙◌, arith}
+use Rattle.std.proofs.Common.{◌≡◌, ℕ, ◌+◌, ◌-◌, ◌<◌, ◌≤◌, None, List, ◌++◌, length, take, drop, take-append-drop, length-drop, length-take-le, sym, ap, ap₂, ◌∙◌, arith}
 use Rattle.std.proofs.lemmas.List.{drop-drop}
 use Rattle.http_in.specs.EndLaws.{passes_none}
 use Rattle.http_in.specs.Inside.{Keeps}
+use Rattle.http_in.specs.Messages.{asked}
+use Rattle.http_in.specs.SizeLaws.{long_enough}
+use Rattle.http_in.specs.Streams.{Stream}
 
 pub taken_is : (bytes : List ℕ) (at n : ℕ) → n ≤ length (drop at bytes) → length (take (at + n - at) (drop at bytes)) ≡ n
 taken_is bytes at n within =
@@ -27,3 +30,12 @@ keeps_next bytes from to clean wanted n kept within small = record {
   passed = passes_none;
   short = λ more less. absurd (omega (arith, less));
 }
+
+-- what is kept is less than the last answered message, the longest message and a piece
+pub most_held : (items new : List ℕ) (start at n : ℕ) (old : Stream) → ◌≡◌ {A = Stream} (record { taken = take (at - start) (drop start items); rest = drop at items; held = length items }) (record { taken = old.taken; rest = old.rest; held = length old.taken + length old.rest }) → start ≤ at → at ≤ length items → length items ≤ length new → length new ≤ length items + n → asked old.rest ≡ None → length new < length (take (at - start) (drop start new)) + 1064960 + n
+most_held items new start at n old is ordered within longer most none =
+    let held : length items ≡ length old.taken + length old.rest = ap (λ (s : Stream). s.held) is in
+    let taken : length (take (at - start) (drop start items)) ≡ length old.taken = ap (λ (s : Stream). length s.taken) is in
+    let here : length (take (at - start) (drop start items)) ≡ at - start = length-take-le (at - start) (drop start items) (omega (arith, length-drop start items, ordered, within)) in
+    let there : length (take (at - start) (drop start new)) ≡ at - start = length-take-le (at - start) (drop start new) (omega (arith, length-drop start new, ordered, within, longer)) in
+    omega (arith, held, taken, here, there, most, long_enough old.rest none)

@@ -1,4 +1,4 @@
-ghost use Rattle.std.specs.Prelude.{◌≡◌, ◌≤◌, ◌++◌, ◌+◌, ◌-◌, [], Some, None, length, take, drop, IfOk, OnOk, OnErr, IfSome, IfNone};
+ghost use Rattle.std.specs.Prelude.{◌≡◌, ◌<◌, ◌≤◌, ◌++◌, ◌+◌, ◌-◌, [], Some, None, length, take, drop, IfOk, OnOk, OnErr, IfSome, IfNone};
 ghost use Rattle.http_in.specs.Messages.{asked, most_message};
 ghost use Rattle.http_in.specs.Inside.{Keeps};
 ghost use Rattle.http_in.specs.Streams.{Stream};
@@ -58,10 +58,12 @@ impl Reader {
     fn release(&mut self)
         ensures { self.new ≡ record { taken = self.old.taken; rest = self.old.rest; held = length self.old.taken + length self.old.rest } }
     {
-        let start = self.start;
-        drop_front(&mut self.bytes, start);
-        self.start = 0;
-        self.at -= start;
+        if self.start > 0 {
+            let start = self.start;
+            drop_front(&mut self.bytes, start);
+            self.start = 0;
+            self.at -= start;
+        }
     }
 
     /// Takes the next piece of the stream. For want of memory the stream stays as it was. Nothing is kept but the last
@@ -74,10 +76,9 @@ impl Reader {
         ensures ok { OnOk result (self.new.rest ≡ self.old.rest ++ piece.now) }
         ensures err { OnErr result (self.new.rest ≡ self.old.rest) }
         ensures held { self.new.held ≡ length self.new.taken + length self.new.rest }
+        ensures most { asked self.old.rest ≡ None → self.new.held < length self.new.taken + most_message + length piece.now }
     {
-        if self.start > 0 {
-            self.release();
-        }
+        self.release();
         self.bytes.extend_from_slice(piece)?;
         Ok(())
     }
