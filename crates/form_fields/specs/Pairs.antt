@@ -1,7 +1,7 @@
 -- The names and values of a request's forms: of its query, and of its body where that is a form.
 --
 -- URL Standard, "application/x-www-form-urlencoded".
-use Rattle.std.specs.Prelude.{ℕ, ◌&&◌, Bool, true, false, List, [], ◌++◌, map, Option, Some, None, if◌then◌else◌, codes}
+use Rattle.std.specs.Prelude.{ℕ, ◌&&◌, Bool, true, List, [], ◌++◌, map, Option, Some, None, if◌then◌else◌, codes}
 use Rattle.std.specs.List.{starts_with}
 use Rattle.std.specs.Bool.{nat_eq}
 use Rattle.std.specs.Str.Lossy.{utf8_lossy}

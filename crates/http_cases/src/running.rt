@@ -32,7 +32,8 @@ pub struct HttpCases;
 impl Runner for HttpCases {
     fn knows(&self, key: &str) -> bool {
         [
-            "stream", "cut", "holding", "take", "form", "jar", "header", "password", "user", "login",
+            "stream", "cut", "holding", "take", "form", "jar", "header", "password", "user",
+            "login",
         ]
         .contains(&key)
     }
