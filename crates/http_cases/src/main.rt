@@ -1,9 +1,12 @@
-//! Runs the cases of messages of HTTP, and tells which of them say something else than was wanted.
+//! Runs the cases of messages of HTTP, of forms, cookies, credentials and users, and tells which of them say something
+//! else than was wanted.
 #![tactic(auto)]
 
+mod forms;
 mod running;
 mod showing;
 mod streams;
+mod users;
 
 use cases::run_files;
 use running::HttpCases;

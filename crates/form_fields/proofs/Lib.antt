@@ -1,0 +1,9 @@
+pub mod Positions
+pub mod Firsting
+pub mod Grouped
+pub mod Suffixes
+pub mod Numerals
+pub mod Trimming
+pub mod Placing
+pub mod Joining
+pub mod Adding

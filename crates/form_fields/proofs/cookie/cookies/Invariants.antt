@@ -1,0 +1,12 @@
+use Rattle.std.proofs.Common.{◌≡◌, drop}
+use Rattle.std.specs.List.{flat_map, fold}
+use Rattle.form_fields.specs.Cookies as spec
+use Rattle.form_fields.specs.Firsts.{AreAt}
+use Rattle.form_fields.specs.Grouping.{names, with_cookie}
+use Rattle.form_fields.proofs.cookie.cookies.Given as goal
+
+-- the cookies so far become those of all headers with the other headers
+abbrev pub invariant-loop-header : goal.invariant-loop-header
+invariant-loop-header l =
+    (fold with_cookie l.cookies (flat_map spec.cookies_in (spec.cookie_values (drop l.header-index l.request.headers))) ≡ spec.cookies_of l.request)
+    × AreAt (names l.cookies) l.places

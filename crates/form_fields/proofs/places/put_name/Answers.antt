@@ -1,0 +1,11 @@
+use Rattle.std.proofs.Common.{◌≡◌, string_bytes}
+use Rattle.std.proofs.lemmas.Map.Text.{btree_map_updates_text}
+use Rattle.std.proofs.lemmas.Result.{IfOk-at_ok}
+use Rattle.form_fields.proofs.Placing.{places_push}
+use Rattle.form_fields.proofs.places.put_name.Goals as goal
+
+pub returns : goal.returns
+returns c =
+    let key_is = IfOk-at_ok (λ s. string_bytes s ≡ c.args.name.now) c.in_ok-key.was c.from_str.ensures.ok in
+    let sets = btree_map_updates_text (string_bytes c.in_ok-key.key) c.args.places.now c.insert.new.self _ c.in_ok-insert.ensures.updates in
+    λ names at none is. places_push c.args.places.now c.insert.new.self names c.args.name.now c.args.place at none is (rw key_is at sets)

@@ -1,0 +1,10 @@
+pub mod Pairs
+pub mod Names
+pub mod Numbers
+pub mod Rows
+pub mod Firsts
+pub mod Fields
+pub mod Cookies
+pub mod Grouping
+pub mod Views
+pub mod Worked
