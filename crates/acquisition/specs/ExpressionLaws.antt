@@ -54,12 +54,15 @@ module _ (k : ℕ → Option (Seen Shape)) (name : List ℕ) where
     where
       Deeper : Type 0
       Deeper = list_any (λ p. nat_eq p x) os ≡ true → run k (searched os name) ≡ Ok None → run k (Asks x (Step x q)) ≡ run k q
+
       same_or : (object : Shape) → k o ≡ Some (Here object) → child_in name object.form ≡ None → run k (searched os name) ≡ Ok None → Deeper → (b : Bool) → nat_eq o x ≡ b → run k (Asks x (Step x q)) ≡ run k q
       same_or object is none e deeper true t = ap (go_on x (λ y. run k (Step x q y))) (subst (λ p. k p ≡ Some (Here object)) (eqb-true o x t) is) ∙ ap (λ c. run k (or_search c q)) none
       same_or object is none e deeper false t = deeper (subst (λ b. (b || list_any (λ p. nat_eq p x) os) ≡ true) t m) e
+
       found : (object : Shape) → k o ≡ Some (Here object) → (c : Option ℕ) → child_in name object.form ≡ c → run k (or_search c (searched os name)) ≡ Ok None → Deeper → run k (Asks x (Step x q)) ≡ run k q
       found object is (Some c) none e deeper = absurd (let bad = e in cc)
       found object is None none e deeper = same_or object is none e deeper (nat_eq o x) refl
+
       at : (y : Option (Seen Shape)) → k o ≡ y → go_on o (λ y. run k (Step o (searched os name) y)) y ≡ Ok None → Deeper → run k (Asks x (Step x q)) ≡ run k q
       at None is e deeper = absurd (let bad = e in cc)
       at (Some Absent) is e deeper = absurd (let bad = e in cc)
@@ -253,14 +256,17 @@ module _ (k : ℕ → Option (Seen Shape)) where
     where
       Deeper : Type 0
       Deeper = (p : ℕ) → run k (upwards n (before ++ o ∷ []) p) ≡ Ok path → IsPath k p (before ++ o ∷ []) path
+
       ok_is : (a b : List ℕ) → ◌≡◌ {A = Result (List ℕ) (Halt ℕ Fault)} (Ok a) (Ok b) → a ≡ b
       ok_is a b e = cc
+
       root : (shape : Shape) → k o ≡ Some (Here shape) → (b : Bool) → nat_eq o 0 ≡ b → run k (if b then Done (before ++ o ∷ []) else upwards n (before ++ o ∷ []) shape.parent) ≡ Ok path → Deeper → IsPath k o before path
       root shape is true t e deeper = record { containment = Plain o; contains = (refl, eqb-true o 0 t); parts = sym (ok_is (before ++ o ∷ []) path e); here = ((shape, is), tt) }
       root shape is false t e deeper =
           let up = deeper shape.parent e in
           let other : o ≢ 0 = λ z. (let same = ap (λ m. nat_eq m 0) z in cc) in
           record { containment = Of (Plain o) up.containment; contains = (refl, other, (shape, is, up.contains)); parts = up.parts ∙ append_assoc before (o ∷ []) (leaves up.containment); here = ((shape, is), up.here) }
+
       at : (y : Option (Seen Shape)) → k o ≡ y → go_on o (λ seen. run k (present o seen >>= λ object. if nat_eq o 0 then Done (before ++ o ∷ []) else upwards n (before ++ o ∷ []) object.parent)) y ≡ Ok path → Deeper → IsPath k o before path
       at None is e deeper = absurd (let bad = e in cc)
       at (Some Absent) is e deeper = absurd (let bad = e in cc)

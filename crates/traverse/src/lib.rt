@@ -8,4 +8,3 @@ mod target;
 
 pub use publishing::publish;
 pub use target::{Target, TravRefusal};
-

@@ -36,7 +36,10 @@ fn add_row(alloc: Global, known: &mut Known, row: &Part) -> Result<(), CasesRefu
 }
 
 // What the object's fact came to.
-fn fact_of(alloc: Global, part: &Part) -> Result<Option<Result<Object, CodecRefusal>>, CasesRefusal> {
+fn fact_of(
+    alloc: Global,
+    part: &Part,
+) -> Result<Option<Result<Object, CodecRefusal>>, CasesRefusal> {
     match part.key() {
         "absent" => Ok(None),
         "unreadable" => Ok(Some(Err(CodecRefusal::BadRecord(0)))),

@@ -20,7 +20,12 @@ fn put_number(alloc: Global, line: &mut String, number: u64) -> Result<(), Cases
     Ok(())
 }
 
-fn put_word_and_number(alloc: Global, line: &mut String, word: &str, oid: Oid) -> Result<(), CasesRefusal> {
+fn put_word_and_number(
+    alloc: Global,
+    line: &mut String,
+    word: &str,
+    oid: Oid,
+) -> Result<(), CasesRefusal> {
     line.push_str(word)?;
     put_number(alloc, line, oid.0)
 }
@@ -36,7 +41,12 @@ fn put_refusal(alloc: Global, line: &mut String, refusal: AqRefusal) -> Result<(
 }
 
 /// What holds the object of the part.
-pub(crate) fn put_containers(alloc: Global, known: &Known, part: &Part, line: &mut String) -> Result<(), CasesRefusal> {
+pub(crate) fn put_containers(
+    alloc: Global,
+    known: &Known,
+    part: &Part,
+    line: &mut String,
+) -> Result<(), CasesRefusal> {
     line.push_str("containers")?;
     let oid = Oid(part.number(1)?);
     match containers(alloc, known, oid) {
@@ -63,7 +73,12 @@ fn reached(
 }
 
 /// The wrapper of the objects of the part.
-pub(crate) fn put_order(alloc: Global, known: &Known, part: &Part, line: &mut String) -> Result<(), CasesRefusal> {
+pub(crate) fn put_order(
+    alloc: Global,
+    known: &Known,
+    part: &Part,
+    line: &mut String,
+) -> Result<(), CasesRefusal> {
     line.push_str("order")?;
     match reached(alloc, known, part, 1)? {
         Ok(wrapper) => put_objects(alloc, line, wrapper.order()),
@@ -72,7 +87,11 @@ pub(crate) fn put_order(alloc: Global, known: &Known, part: &Part, line: &mut St
 }
 
 // What is found, or that nothing is.
-fn put_find(alloc: Global, line: &mut String, found: Result<Option<Wrapped>, AqRefusal>) -> Result<(), CasesRefusal> {
+fn put_find(
+    alloc: Global,
+    line: &mut String,
+    found: Result<Option<Wrapped>, AqRefusal>,
+) -> Result<(), CasesRefusal> {
     match found {
         Ok(Some(wrapper)) => put_objects(alloc, line, wrapper.order()),
         Ok(None) => Ok(line.push_str(" none")?),
@@ -81,7 +100,12 @@ fn put_find(alloc: Global, line: &mut String, found: Result<Option<Wrapped>, AqR
 }
 
 /// What the wrapper of the objects of the part finds under its name.
-pub(crate) fn put_found(alloc: Global, known: &Known, part: &Part, line: &mut String) -> Result<(), CasesRefusal> {
+pub(crate) fn put_found(
+    alloc: Global,
+    known: &Known,
+    part: &Part,
+    line: &mut String,
+) -> Result<(), CasesRefusal> {
     line.push_str("found")?;
     let name = part.word(1).unwrap_or("");
     match reached(alloc, known, part, 2)? {
@@ -102,7 +126,12 @@ fn segments_of(alloc: Global, path: &str) -> Result<Texts, CasesRefusal> {
 }
 
 /// What the path of the part leads to.
-pub(crate) fn put_leads(alloc: Global, known: &Known, part: &Part, line: &mut String) -> Result<(), CasesRefusal> {
+pub(crate) fn put_leads(
+    alloc: Global,
+    known: &Known,
+    part: &Part,
+    line: &mut String,
+) -> Result<(), CasesRefusal> {
     line.push_str("leads")?;
     let segments = segments_of(alloc, part.word(1).unwrap_or(""))?;
     match publish(alloc, known, segments.as_slice()) {
@@ -122,7 +151,12 @@ fn put_target(alloc: Global, line: &mut String, target: Target) -> Result<(), Ca
     }
 }
 
-fn put_page(alloc: Global, line: &mut String, object: &[Oid], client: &[Oid]) -> Result<(), CasesRefusal> {
+fn put_page(
+    alloc: Global,
+    line: &mut String,
+    object: &[Oid],
+    client: &[Oid],
+) -> Result<(), CasesRefusal> {
     line.push_str(" page")?;
     put_objects(alloc, line, object)?;
     line.push_str(" client")?;

@@ -38,7 +38,11 @@ impl Known {
     /// Adds what an object's fact came to: none where it has no value, or how its bytes were read. It comes in the
     /// stead of what was added before. For want of memory, also in reading, all stays as it was: an object that couldn't
     /// be read for it is never taken for one whose bytes are no record.
-    pub fn add(&mut self, oid: Oid, object: Option<Result<Object, CodecRefusal>>) -> Result<(), Memory>
+    pub fn add(
+        &mut self,
+        oid: Oid,
+        object: Option<Result<Object, CodecRefusal>>,
+    ) -> Result<(), Memory>
         ensures added { OnOk result (seen.Added oid object self.old self.new) }
         ensures stays { OnErr result ((o : ℕ) → seen.last_added self.new o ≡ seen.last_added self.old o) }
     {
