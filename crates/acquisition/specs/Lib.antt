@@ -1,0 +1,4 @@
+pub mod Acquiring
+pub mod Expressions
+pub mod ExpressionLaws
+pub mod Marks
