@@ -1,5 +1,9 @@
 #!/usr/bin/env python3
-"""Reads the fields of forms of 26,000 and of 260,000 names of three letters, in the program `forms/`: names in their order, names in an order that looks random, and a thousand names again and again."""
+"""Reads the fields of forms of 26,000 and of 260,000 names of three letters, in the program `forms/`.
+
+The names come in their order, in an order that looks random, or a thousand of them again and again. Beside it the names
+alone are put into an ordered map.
+"""
 
 import pathlib
 import tempfile
@@ -11,8 +15,9 @@ def main():
     with tempfile.TemporaryDirectory() as made:
         numbers = numbers_in(lines_of(scratch(pathlib.Path(made), "forms", ["zbase", "http_in", "form_fields"]), True))
     for order in ("rising", "scattered", "repeated"):
-        few, many = ((size, min(numbers[order, size]) / 1000, numbers[order + "-names", size][0]) for size in (104_000, 1_040_000))
-        print(f"{order}: {few[2]} fields in {few[1]:.2f} ms, {many[2]} in {many[1]:.2f} ms, ratio {many[1] / few[1]:.1f}")
+        for kind in ("", "-map"):
+            few, many = (min(numbers[order + kind, size]) / 1000 for size in (104_000, 1_040_000))
+            print(f"{order}{kind}: 26,000 names in {few:.2f} ms, 260,000 in {many:.2f} ms, ratio {many / few:.1f}")
 
 
 main()
