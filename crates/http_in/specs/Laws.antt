@@ -24,7 +24,7 @@ LongEnough = (bytes : List ℕ) → asked bytes ≡ None → length bytes < most
 abbrev pub LongestMessage : Type 0
 LongestMessage = (bytes : List ℕ) (x : Message × ℕ) → asked bytes ≡ Some x → x.1 ≤ most_message
 
--- What has still to come of a message is none yet.
+-- The front of a message is none yet.
 abbrev pub FrontIsNone : Type 0
 FrontIsNone = (front more : List ℕ) (m : Message) → one_message (front ++ more) ≡ Some m → 0 < length more → asked front ≡ None
 

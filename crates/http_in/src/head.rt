@@ -8,6 +8,7 @@ ghost use Rattle.http_in.specs.Paths as paths;
 ghost use Rattle.http_in.specs.Inside.{Gives, HasParts};
 
 use crate::headers::{body_length, headers_at, is_chunked, is_multipart, lossy_text};
+use crate::limits::{MOST_BODY, MOST_LINES, MOST_SEGMENTS, MOST_TARGET};
 use crate::path::{count_segments, cut, path_of};
 use crate::refusal::HeadError;
 use crate::{Headers, HttpRefusal, Request, Segments, Verb};
@@ -16,11 +17,17 @@ use httparse::spans::{EMPTY_HEADER_SPAN, HeaderSpan, RequestSpans, parse_request
 use std::alloc::Global;
 use zbase::{Bytes, Memory};
 
-fn count_lines(head: &[u8]) -> usize
-    ensures is { result ≡ count_by (λ b. b == 10) head.now }
-    ensures within { result ≤ length head.now }
+fn count_ends(head: &[u8]) -> usize
+    ensures { result ≡ count_by (λ b. b == 10) head.now }
 {
     head.iter().filter(|b| **b == b'\n').count()
+}
+
+/// How many lines a head has but for the first and the empty one.
+fn count_lines(head: &[u8]) -> usize
+    ensures { result ≡ header_lines head.now }
+{
+    count_ends(head).saturating_sub(2)
 }
 
 /// Where the parts of a head are, none where the bytes are no head.
@@ -78,7 +85,7 @@ fn path_in(alloc: Global, target: &[u8]) -> Result<Option<Segments>, Memory>
 fn is_long(target: &[u8]) -> bool
     ensures { result ≡ messages.is_long target.now }
 {
-    target.len() > 8192 || count_segments(cut(target, b'?').0) > 64
+    target.len() > MOST_TARGET || count_segments(cut(target, b'?').0) > MOST_SEGMENTS
 }
 
 fn is_post(verb: Verb) -> bool
@@ -126,7 +133,7 @@ fn request_of(
     if is_chunked(headers.as_slice()) {
         return Err(HeadError::Refused(HttpRefusal::Chunked));
     }
-    if size > 1_048_576 {
+    if size > MOST_BODY {
         return Err(HeadError::Refused(HttpRefusal::BodyTooLarge));
     }
     if is_post(method) && is_multipart(headers.as_slice()) {
@@ -152,10 +159,10 @@ pub(crate) fn judge(alloc: Global, head: &[u8]) -> Result<(Request, usize), Head
     ensures is { Gives result (messages.judged head.now) }
     ensures small { IfOk result (λ x. x.1 ≤ 1048576) }
 {
-    if count_lines(head) > 66 {
+    if count_lines(head) > MOST_LINES {
         return Err(HeadError::Refused(HttpRefusal::HeadTooLarge));
     }
-    let mut spans = [EMPTY_HEADER_SPAN; 64];
+    let mut spans = [EMPTY_HEADER_SPAN; MOST_LINES];
     let Some(found) = parts_of(head, spans.as_mut_slice()) else {
         return Err(HeadError::Refused(HttpRefusal::BadHead));
     };

@@ -9,6 +9,7 @@ mod ends;
 mod head;
 mod headers;
 mod laws;
+mod limits;
 mod look;
 mod message;
 mod path;

@@ -5,6 +5,7 @@ ghost use Rattle.http_in.specs.Messages as messages;
 
 use crate::ends::{Sought, search};
 use crate::head::judge;
+use crate::limits::MOST_HEAD;
 use crate::refusal::HeadError;
 use crate::{HttpRefusal, Message, Request};
 use std::alloc::Global;
@@ -55,8 +56,8 @@ fn behind_head(alloc: Global, bytes: &[u8], end: usize) -> Result<Looked, Memory
 fn window_of(bytes: &[u8]) -> &[u8]
     ensures { result.now ≡ take 16384 bytes.now }
 {
-    if bytes.len() > 16384 {
-        bytes.split_at(16384).0
+    if bytes.len() > MOST_HEAD {
+        bytes.split_at(MOST_HEAD).0
     } else {
         bytes
     }
@@ -74,10 +75,10 @@ pub(crate) fn look(alloc: Global, bytes: &[u8], clean: usize) -> Result<Looked, 
     match search(rest) {
         Sought::Ends(end) => behind_head(alloc, bytes, clean + end),
         Sought::Goes(more) => {
-            if bytes.len() < 16384 {
+            if bytes.len() < MOST_HEAD {
                 Ok(Looked::Head(clean + more))
             } else {
-                Ok(Looked::Found(Message::Refused(HttpRefusal::HeadTooLarge), 16384))
+                Ok(Looked::Found(Message::Refused(HttpRefusal::HeadTooLarge), MOST_HEAD))
             }
         }
     }

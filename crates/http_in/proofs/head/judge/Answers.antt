@@ -8,7 +8,7 @@ use Rattle.http_in.proofs.head.judge.Goals as goal
 pub returns-clause-is : goal.returns-clause-is
 returns-clause-is c =
     let parts = c.in-Some.ensures.some in
-    let few : header_lines c.args.head.now ≤ 64 = omega (arith, c.if-count_lines-gt66.false, c.count_lines.ensures.is) in
+    let few : header_lines c.args.head.now ≤ 64 = omega (arith, c.if-count_lines-gt-MOST_LINES.false, c.count_lines.ensures) in
     let e : judged c.args.head.now ≡ request_of c.of.result.now c.of-2.result.now c.in_ok-headers.headers =
     judged_is c.args.head.now parts.0 c.of.result.now c.of-2.result.now c.in_ok-headers.headers few parts.1
     (c.of.ensures ∙ parts.2.method) (c.of-2.ensures ∙ parts.2.path)

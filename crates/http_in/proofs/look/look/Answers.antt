@@ -14,24 +14,24 @@ behind_head-requires c =
     let found : head_end (drop c.args.clean (take 16384 c.args.bytes.now)) ≡ Some c.in-Ends.end = ap head_end (sym (c.split_at.ensures.back ∙ ap (drop c.args.clean) c.window_of-window.ensures)) ∙ c.in-Ends.ensures in
     record { end = end_behind c.args.bytes.now c.args.clean c.in-Ends.end c.requires.most c.requires.within c.requires.passed found }
 
-pub returns-then-bytes-lt16384 : goal.returns-then-bytes-lt16384
-returns-then-bytes-lt16384 c =
+pub returns-then-bytes-lt-MOST_HEAD : goal.returns-then-bytes-lt-MOST_HEAD
+returns-then-bytes-lt-MOST_HEAD c =
     let all : take 16384 c.args.bytes.now ≡ c.args.bytes.now = take_all 16384 c.args.bytes.now (omega arith) in
     let window : c.window_of-window.result.now ≡ c.args.bytes.now = c.window_of-window.ensures ∙ all in
     let back : c.split_at.result.1.now ≡ drop c.args.clean c.args.bytes.now = c.split_at.ensures.back ∙ ap (drop c.args.clean) window in
     let found : head_end (drop c.args.clean (take 16384 c.args.bytes.now)) ≡ None = ap head_end (sym (c.split_at.ensures.back ∙ ap (drop c.args.clean) c.window_of-window.ensures)) ∙ c.in-Goes.ensures.0 in
     let size : c.in-Goes.more ≤ length (drop c.args.clean c.args.bytes.now) = rw (← back) c.in-Goes.ensures.1 in
     let sum = length-drop c.args.clean c.args.bytes.now in (
-      none_yet c.args.bytes.now (none_behind c.args.bytes.now c.args.clean c.requires.most c.requires.within c.requires.passed found) c.if-bytes-lt16384.true,
+      none_yet c.args.bytes.now (none_behind c.args.bytes.now c.args.clean c.requires.most c.requires.within c.requires.passed found) c.if-bytes-lt-MOST_HEAD.true,
       omega (arith, size, sum, c.requires.within),
-      omega (arith, size, sum, c.requires.within, c.if-bytes-lt16384.true),
+      omega (arith, size, sum, c.requires.within, c.if-bytes-lt-MOST_HEAD.true),
       passed_on c.args.bytes.now c.args.clean c.in-Goes.more c.requires.passed (subst (λ b. IsPassed (take c.in-Goes.more b)) back c.in-Goes.ensures.2),
     )
 
-pub returns-else-bytes-lt16384 : goal.returns-else-bytes-lt16384
-returns-else-bytes-lt16384 c =
+pub returns-else-bytes-lt-MOST_HEAD : goal.returns-else-bytes-lt-MOST_HEAD
+returns-else-bytes-lt-MOST_HEAD c =
     let found : head_end (drop c.args.clean (take 16384 c.args.bytes.now)) ≡ None = ap head_end (sym (c.split_at.ensures.back ∙ ap (drop c.args.clean) c.window_of-window.ensures)) ∙ c.in-Goes.ensures.0 in
-    too_large c.args.bytes.now (none_behind c.args.bytes.now c.args.clean c.requires.most c.requires.within c.requires.passed found) c.if-bytes-lt16384.false
+    too_large c.args.bytes.now (none_behind c.args.bytes.now c.args.clean c.requires.most c.requires.within c.requires.passed found) c.if-bytes-lt-MOST_HEAD.false
 
 pub split_at-requires : goal.split_at-requires
 split_at-requires c = rw c.window_of-window.ensures (omega (arith, length-take 16384 c.args.bytes.now, c.requires.within, c.requires.most))
