@@ -2,10 +2,10 @@
 -- expression from left to right, each at its first place.
 --
 -- Zope Developer's Guide, "Acquisition": containment before context.
-use Rattle.std.specs.Prelude.{ℕ, zero, suc, ◌≡◌, nat_eq, Bool, true, false, List, [], ◌∷◌, ◌++◌, Option, Some, None, Result, Ok, Err, if◌then◌else◌}
+use Rattle.std.specs.Prelude.{ℕ, zero, suc, ◌≡◌, nat_eq, Bool, false, List, [], ◌∷◌, ◌++◌, Option, Some, None, if◌then◌else◌}
 use Rattle.std.specs.List.{list_any}
-use Rattle.zbase.specs.Query.{Query, Done, Stops, Asks, Halt, Need, Cause, ◌>>=◌, run}
-use Rattle.zobject.specs.Shapes.{Shape, child_in}
+use Rattle.zbase.specs.Query.{Query, Done, Stops, Asks, Halt, Need, Cause, ◌>>=◌}
+use Rattle.zobject.specs.Shapes.{child_in}
 use Rattle.zknown.specs.Seen.{Seen, Here, Absent, Unreadable, Shapes}
 use Rattle.acquisition.specs.declared.refusal.AqRefusal.{AqRefusal}
 use Rattle.acquisition.specs.declared.refusal.AqRefusal.TheVariants as refusal

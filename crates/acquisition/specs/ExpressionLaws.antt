@@ -1,12 +1,12 @@
 -- What is true of wrappers and the expressions for which they stand.
-use Rattle.std.proofs.Common.{ℕ, zero, suc, ◌≡◌, ◌≢◌, ◌≤◌, ◌<◌, ◌∙◌, refl, sym, ap, subst, arith, Bool, true, false, cond, List, [], ◌∷◌, ◌++◌, length, Option, Some, None, Result, Ok, Err, nat_eq, eqb-true, append_assoc, append-nil, ◌||◌, if◌then◌else◌}
+use Rattle.std.proofs.Common.{ℕ, zero, suc, ◌≡◌, ◌≢◌, ◌≤◌, ◌∙◌, refl, sym, ap, subst, arith, Bool, true, false, List, [], ◌∷◌, ◌++◌, length, Option, Some, None, Result, Ok, Err, nat_eq, eqb-true, append_assoc, append-nil, ◌||◌, if◌then◌else◌}
 use Rattle.std.specs.List.{list_any, AllByRecursion}
 use Rattle.std.proofs.lemmas.Bool.{eq-eqb}
-use Rattle.zbase.specs.Query.{Query, Done, Stops, Asks, Halt, Need, Cause, ◌>>=◌, run, go_on, and_then}
+use Rattle.zbase.specs.Query.{Done, Asks, Halt, ◌>>=◌, run, go_on, and_then}
 use Rattle.zbase.specs.QueryLaws.{run_then}
 use Rattle.zobject.specs.Shapes.{Shape, child_in}
 use Rattle.zknown.specs.Seen.{Seen, Here, Absent, Unreadable, Shapes}
-use Rattle.acquisition.specs.Acquiring.{Fault, TooDeep, Broken, IsOnce, here, present, or_search, searched, joined, put, has, upwards, containers, reached}
+use Rattle.acquisition.specs.Acquiring.{Fault, IsOnce, present, or_search, searched, joined, put, has, upwards, containers, reached}
 use Rattle.acquisition.specs.Expressions.{Expr, Plain, Of, leaves, Stands, Contains, IsHere, looked}
 
 -- ---- to look through a list is to look through each expression for which it stands

@@ -1,7 +1,8 @@
-ghost use Rattle.std.specs.Prelude.{◌≡◌, ◌++◌, ◌∷◌, [], ℕ, List, IfOk, OnOk};
+ghost use Rattle.std.specs.Prelude.{◌≡◌, ◌++◌, ◌∷◌, [], ℕ, List, IfOk, IfErr, OnOk};
 ghost use Rattle.zbase.specs.Query.{run, Answers};
 ghost use Rattle.zobject.specs.Shapes.{shape_of};
 ghost use Rattle.zknown.specs.Seen.{shapes, objects};
+ghost use Rattle.acquisition.specs.declared.refusal.AqRefusal.TheVariants as refusal;
 ghost use Rattle.acquisition.specs.Acquiring as acquiring;
 ghost use Rattle.acquisition.specs.Acquiring.{IsOnce};
 
@@ -40,6 +41,7 @@ impl Model for Wrapped {
 pub fn here(known: &Known, oid: Oid) -> Result<&Object, AqRefusal>
     ensures shape { Answers acquiring.told (λ o. shape_of o.now) result (run (shapes known.now) (acquiring.here oid)) }
     ensures whole { Answers acquiring.told (λ o. o.now) result (run (objects known.now) (acquiring.here oid)) }
+    ensures sure { IfErr result (λ e. e ≡ refusal.Memory → ⊥) }
 {
     match known.get(oid) {
         Got::Here(object) => Ok(object),

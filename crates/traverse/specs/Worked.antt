@@ -3,11 +3,10 @@ use Rattle.std.proofs.Common.{◌≡◌, ℕ, List, [], ◌∷◌, Option, Some,
 use Rattle.zbase.specs.Query.{run, Need, Cause}
 use Rattle.zobject.specs.declared.object.Child.{Child}
 use Rattle.zobject.specs.Shapes.{Shape, Form, Folder, Method, Document}
-use Rattle.zobject.specs.Folders.{child_of}
 use Rattle.zknown.specs.Seen.{Seen, Here, Absent}
 use Rattle.acquisition.specs.Acquiring.{found, reached, containers, searched, upwards}
 use Rattle.traverse.specs.declared.target.Target.TheVariants.{Page, Call}
-use Rattle.traverse.specs.Publishing.{Fault, NotFound, Broken, published, walked, stepped, child, page, index}
+use Rattle.traverse.specs.Publishing.{NotFound, Broken, published, walked, stepped, child, page, index}
 
 held : ℕ → Form → Seen Shape
 held parent form = Here (record { id = []; parent = parent; settings = []; locals = []; names = []; form = form })

@@ -1,5 +1,4 @@
-use Rattle.std.proofs.Common.{◌≡◌, ◌∙◌, refl, sym, ap, subst, Ok}
-use Rattle.zbase.specs.Query.{run}
+use Rattle.std.proofs.Common.{◌∙◌, refl, sym, ap, subst, Ok}
 use Rattle.zknown.specs.Seen.{shapes}
 use Rattle.acquisition.specs.Acquiring.{IsOnce, reached, containers}
 use Rattle.acquisition.specs.ExpressionLaws.{path_once}

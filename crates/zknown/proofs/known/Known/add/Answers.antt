@@ -1,4 +1,4 @@
-use Rattle.std.proofs.Common.{◌≡◌, refl, ℕ}
+use Rattle.std.proofs.Common.{refl}
 use Rattle.std.proofs.lemmas.Result.{on_ok_weaker}
 use Rattle.zknown.specs.declared.kept.Kept.TheVariants as kept
 use Rattle.zknown.proofs.known.Known.add.Goals as goal
