@@ -5,6 +5,7 @@ mod disk;
 mod file;
 mod laws;
 mod memory;
+mod queue;
 mod record;
 mod synced;
 
