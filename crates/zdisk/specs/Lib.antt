@@ -6,3 +6,9 @@ pub mod Crashes
 pub mod MomentLaws
 pub mod Recorded
 pub mod OneChange
+pub mod Arming
+pub mod Meeting
+pub mod ArmingLaws
+pub mod Seeds
+pub mod SeedLaws
+pub mod WorkedDisks

@@ -5,11 +5,12 @@ mod disk;
 mod file;
 mod laws;
 mod memory;
+mod queue;
 mod record;
 mod synced;
 
 pub use disk::Disk;
 pub use file::FileDisk;
-pub use laws::one_image;
+pub use laws::{one_image, seeds_name_images};
 pub use memory::MemoryDisk;
 pub use synced::{append_and_sync, cut_and_sync, overwrite_and_sync, write_and_sync};
