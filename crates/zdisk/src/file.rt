@@ -14,6 +14,8 @@ use zbase::{Failed, FaultCount, Memory};
 #[derive(Drop)]
 pub struct FileDisk<T> {
     file: T,
+    /// Where the file stands, where that is known: reads one after another need no seek between them.
+    place: Option<u64>,
     faults: FaultCount,
 }
 
@@ -25,6 +27,7 @@ impl<T: Read + Write + Seek + OpenFile> FileDisk<T> {
     {
         FileDisk {
             file,
+            place: None,
             faults: FaultCount::new(),
         }
     }
@@ -49,14 +52,17 @@ impl<T: Read + Write + Seek + OpenFile> Disk for FileDisk<T> {
     }
 
     fn read_at(&mut self, at: u64, buf: &mut [u8]) -> Result<(), Failed> {
-        self.faults.call(read_from(&mut self.file, at, buf))
+        let read = read_from(&mut self.file, &mut self.place, at, buf);
+        self.faults.call(read)
     }
 
     fn write_at(&mut self, at: u64, bytes: &[u8]) -> Result<(), Failed> {
+        self.place = None;
         self.faults.call(write_to(&mut self.file, at, bytes))
     }
 
     fn cut(&mut self, to: u64) -> Result<(), Failed> {
+        self.place = None;
         self.faults.call(self.file.set_len(to))
     }
 
@@ -66,9 +72,20 @@ impl<T: Read + Write + Seek + OpenFile> Disk for FileDisk<T> {
     }
 }
 
-fn read_from<T: Read + Seek>(file: &mut T, at: u64, buf: &mut [u8]) -> io::Result<()> {
-    file.seek(SeekFrom::Start(at))?;
-    file.read_exact(buf)
+// Reads at a place, to which the file goes where it doesn't stand there.
+fn read_from<T: Read + Seek>(
+    file: &mut T,
+    place: &mut Option<u64>,
+    at: u64,
+    buf: &mut [u8],
+) -> io::Result<()> {
+    if *place != Some(at) {
+        file.seek(SeekFrom::Start(at))?;
+    }
+    *place = None;
+    file.read_exact(buf)?;
+    *place = at.checked_add(buf.len() as u64);
+    Ok(())
 }
 
 fn write_to<T: Write + Seek>(file: &mut T, at: u64, bytes: &[u8]) -> io::Result<()> {
