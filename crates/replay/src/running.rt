@@ -207,10 +207,14 @@ pub fn replay<D: Disk + Drop, E: Evaluator, K: Sink>(
             held.flush(out)?;
             Ok(disk)
         }
-        Err(RunRefusal::Output) => Err(RunRefusal::Output),
-        Err(refusal) => {
+        Err(RunRefusal::BadLine(number)) => {
             held.flush(out)?;
-            Err(refusal)
+            Err(RunRefusal::BadLine(number))
         }
+        Err(RunRefusal::Memory) => {
+            held.flush(out)?;
+            Err(RunRefusal::Memory)
+        }
+        Err(RunRefusal::Output) => Err(RunRefusal::Output),
     }
 }

@@ -6,7 +6,7 @@ use Rattle.schedule.specs.Moments.{clocked}
 use Rattle.fs_store.specs.Stores.{StoreView}
 use Rattle.txn_core.specs.Slots.{moment_of}
 use Rattle.replay.specs.Printed.{Prints, closing}
-use Rattle.replay.proofs.LineRefusals.{no_line, outside_counts}
+use Rattle.replay.proofs.LineRefusals.{no_line, outside_counts, same_refusal}
 use Rattle.replay.proofs.LostMarks.{marks_of_slots}
 use Rattle.replay.proofs.WholeReport.{whole}
 use Rattle.replay.proofs.running.run_and_close.Goals as goal
@@ -35,3 +35,6 @@ returns-in_err-put_closing-in-Ok-run_items-clause-counts g c =
     let p = err_from_is_err_and c.from_residual.result c.from_residual.ensures.1 in
     counts_then (counts_as c.in-Ok-run_items.ensures.counts (λ e. cc) (λ none. absurd none)) (λ none. none)
     (outside_counts _ _ c.put_closing.result c.from_residual.result c.in_err-put_closing-in-Ok-run_items.field-0.0 _ c.in_err-put_closing-in-Ok-run_items.was p.1 p.2 c.put_closing.ensures.counts)
+
+pub returns-in-Err-run_items-clause-counts : goal.returns-in-Err-run_items-clause-counts
+returns-in-Err-run_items-clause-counts g c = same_refusal _ _ c.in-Err-run_items.refusal c.in-Err-run_items.ensures.counts
