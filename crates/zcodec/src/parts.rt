@@ -3,9 +3,10 @@ ghost use Rattle.zcodec.specs.Reading.{Gives, and_name, child_at, children_at, d
 ghost use Rattle.zcodec.specs.Given.{Knows};
 
 use crate::fields::{count_of, source_of, text_of, u64_of};
+use crate::keys::names_differ;
 use crate::lists::{items_of, list_of};
 use crate::reading::proxy_of;
-use crate::rows::{RisingChildRow, UserRow};
+use crate::rows::{ChildRow, UserRow};
 use crate::unread::Unread;
 use std::alloc::Global;
 use std::collections::BTreeSet;
@@ -67,13 +68,19 @@ fn told_apart_of(alloc: Global, count: u16, bytes: &[u8]) -> Result<(Children, &
     Ok((children, rest))
 }
 
-/// So many children, each name once. Where their names rise, each is compared with the one before it alone.
-#[tactic(auto, using(crate::proofs::Risen::risen))]
+/// So many children, each name once. Where their names rise or have different keys they need no set.
+#[tactic(auto, using(crate::proofs::Distinct::told_apart))]
 fn each_child_of(alloc: Global, count: u16, bytes: &[u8]) -> Result<(Children, &[u8]), Unread>
     ensures { Gives (λ x. (x.0, x.1.now)) result (items_at child_at and_name count [] bytes.now) }
 {
-    match items_of(alloc, &RisingChildRow, count, bytes) {
-        Ok(children) => Ok(children),
+    match items_of(alloc, &ChildRow, count, bytes) {
+        Ok((children, rest)) => {
+            if names_differ(alloc, children.as_slice())? {
+                Ok((children, rest))
+            } else {
+                told_apart_of(alloc, count, bytes)
+            }
+        }
         Err(Unread::Memory) => Err(Unread::Memory),
         Err(Unread::Bad(_)) => told_apart_of(alloc, count, bytes),
     }

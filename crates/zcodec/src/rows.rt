@@ -1,6 +1,6 @@
 ghost use Rattle.std.specs.Prelude.{◌≡◌, option_map};
 ghost use Rattle.zobject.specs.Rules.{comes_before};
-ghost use Rattle.zcodec.specs.Given.{rising_child_at};
+ghost use Rattle.zcodec.specs.Given.{any_child_at};
 ghost use Rattle.zcodec.specs.Reading.{Gives, line_at, local_at, name_at, permission_at, property_at, rises, role_at, roles_at, setting_at, user_at};
 
 use crate::fields::{byte_of, flag_of, text_of, u64_of};
@@ -242,27 +242,23 @@ impl Row for UserRow {
     }
 }
 
-/// A child whose name comes behind the last one's.
+/// A child, whatever the others are.
 #[derive(Clone, Copy)]
-pub(crate) struct RisingChildRow;
+pub(crate) struct ChildRow;
 
-impl Row for RisingChildRow {
+impl Row for ChildRow {
     type Item = Child;
 
-    ghost next = { λ row. rising_child_at };
+    ghost next = { λ row. any_child_at };
 
-    #[tactic(auto, unfolding(crate::specs::Given::rising_child_at))]
+    #[tactic(auto, unfolding(crate::specs::Given::any_child_at))]
     fn read<'a>(
         &self,
         alloc: Global,
         last: Option<&Child>,
         bytes: &'a [u8],
     ) -> Result<(Child, &'a [u8]), Unread> {
-        let earlier = match last {
-            Some(last) => Some(&last.name),
-            None => None,
-        };
-        let (name, rest) = name_of(Rule::ChildName, earlier, bytes)?;
+        let (name, rest) = text_of(Rule::ChildName, bytes)?;
         let (oid, rest) = u64_of(rest)?;
         let name = Text::from_str(alloc, name)?;
         let oid = Oid(oid);
