@@ -20,7 +20,7 @@ namesakes c d = bytes_eq c.name d.name
 abbrev AreNew : List (List ℕ) → List Child → Type 0
 AreNew earlier cs = AllByRecursion (λ (c : Child). list_any (bytes_eq c.name) earlier ≡ false) cs
 
-flipped : (m n : List ℕ) → bytes_eq m n ≡ false → bytes_eq n m ≡ false
+pub flipped : (m n : List ℕ) → bytes_eq m n ≡ false → bytes_eq n m ≡ false
 flipped m n e = at (bytes_eq n m) refl
   where
     at : (b : Bool) → bytes_eq n m ≡ b → b ≡ false

@@ -1,5 +1,4 @@
 ghost use Rattle.std.specs.Prelude.{◌≡◌, ◌+◌, ◌*◌, ◌≤◌, List, ℕ, length, map, take, drop, IfOk, IsTrue};
-ghost use Rattle.std.specs.Cmp.Lexicographic.{slice_cmp};
 ghost use Rattle.std.specs.Int.{w64, from_be_bytes};
 ghost use Rattle.std.specs.List.{IsDistinct};
 ghost use Rattle.std.specs.List.Sorted.{IsStrictlySortedBy};
@@ -102,27 +101,11 @@ fn keys_differ(keys: &mut [u64]) -> bool
     keys_rise(keys)
 }
 
-/// Whether each name comes behind the last one.
-fn names_rise(children: &[Child]) -> bool
-    ensures { IsTrue result → IsStrictlySortedBy (slice_cmp nat_cmp) (map (λ (c : AChild). c.name) children.now) }
-{
-    for later in 1..children.len() {
-        if children[later - 1].name.as_str() >= children[later].name.as_str() {
-            return false;
-        }
-    }
-    true
-}
-
-/// Whether it shows without a comparison of each name with each other one that the names of children differ: they rise, or
-/// else their keys differ.
-#[tactic(auto, using(crate::proofs::Told::risen, crate::proofs::Told::by_keys))]
+/// Whether the keys of children's names differ, so that the names do.
+#[tactic(auto, using(crate::proofs::Told::by_keys))]
 pub(crate) fn names_differ(alloc: Global, children: &[Child]) -> Result<bool, Memory>
     ensures { IfOk result (λ yes. IsTrue yes → IsDistinct (λ (c d : AChild). bytes_eq c.name d.name) children.now) }
 {
-    if names_rise(children) {
-        return Ok(true);
-    }
     let mut keys = keys_of(alloc, children)?;
     Ok(keys_differ(keys.as_mut_slice()))
 }
