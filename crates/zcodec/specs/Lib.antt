@@ -1,4 +1,5 @@
 pub mod Record
 pub mod Reading
+pub mod Keys
 pub mod Given
 pub mod Worked

@@ -6,6 +6,7 @@
 
 mod codec;
 mod fields;
+mod keys;
 mod laws;
 mod lists;
 mod parts;

@@ -1,11 +1,16 @@
-ghost use Rattle.std.specs.Prelude.{◌∷◌, [], ℕ, List, IfOk};
-ghost use Rattle.zcodec.specs.Reading.{Gives, and_name, child_at, children_at, document_at, folder_at, items_at, method_at, new_name_at, part_at, user_folder_at};
-ghost use Rattle.zcodec.specs.Given.{Knows};
+ghost use Rattle.std.specs.Prelude.{◌≡◌, ◌∷◌, ◌&&◌, [], ℕ, List, IfOk, IsTrue, None, option_map};
+ghost use Rattle.std.specs.List.{IsDistinct};
+ghost use Rattle.std.specs.Str.{bytes_eq};
+ghost use Rattle.zobject.specs.Rules.{comes_before};
+ghost use Rattle.zobject.specs.declared.object.Child.{Child as AChild};
+ghost use Rattle.zcodec.specs.Reading.{Gives, and_name, child_at, children_at, document_at, folder_at, items_at, last_one, method_at, new_name_at, part_at, rises, user_folder_at};
+ghost use Rattle.zcodec.specs.Given.{Knows, any_child_at};
 
 use crate::fields::{count_of, source_of, text_of, u64_of};
-use crate::lists::{items_of, list_of};
+use crate::keys::names_differ;
+use crate::lists::list_of;
 use crate::reading::proxy_of;
-use crate::rows::{RisingChildRow, UserRow};
+use crate::rows::UserRow;
 use crate::unread::Unread;
 use std::alloc::Global;
 use std::collections::BTreeSet;
@@ -67,13 +72,64 @@ fn told_apart_of(alloc: Global, count: u16, bytes: &[u8]) -> Result<(Children, &
     Ok((children, rest))
 }
 
-/// So many children, each name once. Where their names rise, each is compared with the one before it alone.
-#[tactic(auto, using(crate::proofs::Risen::risen))]
+/// A child, whatever the others are.
+#[tactic(auto, unfolding(crate::specs::Given::any_child_at))]
+fn any_child_of(alloc: Global, bytes: &[u8]) -> Result<(Child, &[u8]), Unread>
+    ensures { Gives (λ x. (x.0, x.1.now)) result (any_child_at None bytes.now) }
+{
+    let (name, rest) = text_of(Rule::ChildName, bytes)?;
+    let (oid, rest) = u64_of(rest)?;
+    let name = Text::from_str(alloc, name)?;
+    let oid = Oid(oid);
+    Ok((Child { name, oid }, rest))
+}
+
+/// Whether names that rise go on rising with a child behind the last one.
+fn goes_on_rising(rising: bool, last: Option<&Child>, child: &Child) -> bool
+    ensures { result ≡ (rising && rises comes_before (option_map (λ c. c.now.name) last.entry) child.now.name) }
+{
+    match last {
+        Some(last) => rising && last.name.as_str() < child.name.as_str(),
+        None => rising,
+    }
+}
+
+/// So many children, whatever their names are, and whether these rise.
+fn any_children_of(
+    alloc: Global,
+    count: u16,
+    bytes: &[u8],
+) -> Result<(Children, bool, &[u8]), Unread>
+    ensures gives { Gives (λ x. (x.0, x.2.now)) result (items_at any_child_at last_one count None bytes.now) }
+    ensures apart { IfOk result (λ x. IsTrue x.1 → IsDistinct (λ (c d : AChild). bytes_eq c.name d.name) x.0) }
+{
+    let mut children = Items::new(alloc);
+    let mut rising = true;
+    let mut rest = bytes;
+    for _ in 0..count {
+        let (child, after) = any_child_of(alloc, rest)?;
+        rising = goes_on_rising(rising, children.as_slice().last(), &child);
+        children.push(child)?;
+        rest = after;
+    }
+    Ok((children, rising, rest))
+}
+
+/// So many children, each name once. Where their names rise or have different keys they need no set.
+#[tactic(auto, using(crate::proofs::Distinct::told_apart))]
 fn each_child_of(alloc: Global, count: u16, bytes: &[u8]) -> Result<(Children, &[u8]), Unread>
     ensures { Gives (λ x. (x.0, x.1.now)) result (items_at child_at and_name count [] bytes.now) }
 {
-    match items_of(alloc, &RisingChildRow, count, bytes) {
-        Ok(children) => Ok(children),
+    match any_children_of(alloc, count, bytes) {
+        Ok((children, rising, rest)) => {
+            if rising {
+                Ok((children, rest))
+            } else if names_differ(alloc, children.as_slice())? {
+                Ok((children, rest))
+            } else {
+                told_apart_of(alloc, count, bytes)
+            }
+        }
         Err(Unread::Memory) => Err(Unread::Memory),
         Err(Unread::Bad(_)) => told_apart_of(alloc, count, bytes),
     }

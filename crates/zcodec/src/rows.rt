@@ -1,15 +1,14 @@
 ghost use Rattle.std.specs.Prelude.{◌≡◌, option_map};
 ghost use Rattle.zobject.specs.Rules.{comes_before};
-ghost use Rattle.zcodec.specs.Given.{rising_child_at};
 ghost use Rattle.zcodec.specs.Reading.{Gives, line_at, local_at, name_at, permission_at, property_at, rises, role_at, roles_at, setting_at, user_at};
 
-use crate::fields::{byte_of, flag_of, text_of, u64_of};
+use crate::fields::{byte_of, flag_of, text_of};
 use crate::lists::{Row, list_of};
 use crate::reading::value_of;
 use crate::unread::Unread;
 use std::alloc::Global;
-use zbase::{Oid, Text};
-use zobject::{Child, Local, Property, Roles, Rule, Setting, User, Version};
+use zbase::Text;
+use zobject::{Local, Property, Roles, Rule, Setting, User, Version};
 
 /// A role, by bytes behind the last one.
 #[derive(Clone, Copy)]
@@ -239,33 +238,5 @@ impl Row for UserRow {
             },
             rest,
         ))
-    }
-}
-
-/// A child whose name comes behind the last one's.
-#[derive(Clone, Copy)]
-pub(crate) struct RisingChildRow;
-
-impl Row for RisingChildRow {
-    type Item = Child;
-
-    ghost next = { λ row. rising_child_at };
-
-    #[tactic(auto, unfolding(crate::specs::Given::rising_child_at))]
-    fn read<'a>(
-        &self,
-        alloc: Global,
-        last: Option<&Child>,
-        bytes: &'a [u8],
-    ) -> Result<(Child, &'a [u8]), Unread> {
-        let earlier = match last {
-            Some(last) => Some(&last.name),
-            None => None,
-        };
-        let (name, rest) = name_of(Rule::ChildName, earlier, bytes)?;
-        let (oid, rest) = u64_of(rest)?;
-        let name = Text::from_str(alloc, name)?;
-        let oid = Oid(oid);
-        Ok((Child { name, oid }, rest))
     }
 }
