@@ -2,12 +2,13 @@
 use Rattle.std.proofs.Common.{◌≡◌, ℕ, ◌+◌, ◌<◌, ◌≤◌, min, List, Option, Some, None, false, refl, arith}
 use Rattle.std.specs.Prelude.{IsSome}
 use Rattle.std.proofs.lemmas.Bool.{false≢true}
-use Rattle.zbase.specs.Faults.{Counter, Counts, IsFaultless, last_count}
+use Rattle.zbase.specs.Faults.{Counter, Counts, IsFaultless}
+use Rattle.zbase.specs.Limits.{greatest_number}
 use Rattle.zdisk.specs.Crashes.{LeavesFrom}
 use Rattle.zdisk.specs.Disk.{Told}
 use Rattle.fs_store.specs.Stores.{StoreView, IsSteady}
 
-same_rose : (old new : ℕ) → new ≡ old → old < last_count → min (old + 1) last_count ≤ new → ⊥
+same_rose : (old new : ℕ) → new ≡ old → old < greatest_number → min (old + 1) greatest_number ≤ new → ⊥
 same_rose old new e below rose = omega (arith, e, below, rose)
 
 -- a faultless disk fails no call

@@ -6,6 +6,9 @@
 /// The length of what a file begins with, `FS21`.
 pub const MAGIC_LEN: usize = 4;
 
+/// The length of an id, a place, and every other number of 64 bits.
+pub const NUMBER_LEN: usize = 8;
+
 /// The greatest length of a file.
 pub const MAX_LENGTH: u64 = 281_474_976_710_655;
 
@@ -14,6 +17,18 @@ pub(crate) const TXN_LENGTH_AT: usize = 8;
 
 /// Where the status stands in the head of a transaction record.
 pub const STATUS_AT: usize = 16;
+
+/// The status of a transaction that counts.
+pub const STATUS_COUNTED: u8 = b' ';
+
+/// The status of a transaction that counts, and that a pack went over.
+pub const STATUS_PACKED: u8 = b'p';
+
+/// The status of a transaction that was undone in the old manner, and doesn't count.
+pub const STATUS_UNDONE: u8 = b'u';
+
+/// The status of a transaction that isn't finished.
+pub const STATUS_WAITING: u8 = b'c';
 
 /// Where the length of the user's name stands in the head of a transaction record.
 pub(crate) const USER_AT: usize = 17;

@@ -25,7 +25,8 @@ pub use laws::{
 };
 pub use layout::{
     BACK_LEN, BACK_RECORD_LEN, BARE_TXN_LEN, DATA_HEAD_LEN, DATA_LENGTH_AT, MAGIC_LEN, MAX_LENGTH,
-    STATUS_AT, TAIL_LEN, TXN_HEAD_LEN,
+    NUMBER_LEN, STATUS_AT, STATUS_COUNTED, STATUS_PACKED, STATUS_UNDONE, STATUS_WAITING, TAIL_LEN,
+    TXN_HEAD_LEN,
 };
 pub use reading::{read_data_head, read_txn_head};
 pub use sizes::{record_size, texts_end, texts_size};

@@ -5,7 +5,7 @@ ghost use Rattle.fs_record.specs.Sizes.{record_size, records_size, texts_size};
 ghost use Rattle.fs_record.specs.Spelling.{txn_head, data_head, data_spelling, texts_spelling, inside_spelling, block_spelling, Records};
 ghost use Rattle.fs_record.specs.Written.{data_of, records_of, transaction, HasBody, FitsItem, IsWritable};
 
-use crate::layout::{DATA_HEAD_LEN, TAIL_LEN, TXN_HEAD_LEN};
+use crate::layout::{DATA_HEAD_LEN, NUMBER_LEN, TAIL_LEN, TXN_HEAD_LEN};
 use crate::sizes::txn_size;
 use crate::{Body, DataHead, Item, TxnHead, TxnTexts};
 use std::mem;
@@ -28,9 +28,9 @@ fn put(out: &mut Vec<u8>, bytes: &[u8])
 
 #[tactic(auto, unfolding(zbase::specs::Numbers::be64))]
 fn put_u64(out: &mut Vec<u8>, n: u64)
-    requires { length out.old.items + 8 ≤ vec_capacity out.old }
+    requires { length out.old.items + NUMBER_LEN ≤ vec_capacity out.old }
     ensures items { out.new.items ≡ out.old.items ++ be64 n }
-    ensures len { length out.new.items ≡ length out.old.items + 8 }
+    ensures len { length out.new.items ≡ length out.old.items + NUMBER_LEN }
     ensures fits { n < 2 ^ 64 }
     ensures capacity { vec_capacity out.old ≤ vec_capacity out.new }
 {

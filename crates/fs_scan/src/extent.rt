@@ -1,7 +1,9 @@
 ghost use Rattle.std.specs.Prelude.{◌≡◌, ◌+◌, ◌<◌, ◌≤◌, ◌==◌, ◌^◌, length, drop, if◌then◌else◌};
 ghost use Rattle.fs_scan.specs.Extent.{PartsSay};
 
-use fs_record::{RecordRefusal, TAIL_LEN, TxnHead, read_txn_head, texts_end};
+use fs_record::{
+    RecordRefusal, STATUS_UNDONE, STATUS_WAITING, TAIL_LEN, TxnHead, read_txn_head, texts_end,
+};
 use zbase::{Tid, u64_at};
 
 /// A transaction whose texts lie within it, in bytes from its start.
@@ -49,7 +51,7 @@ pub fn whole_at(rest: &[u8]) -> Parts
         Ok(head) => head,
         Err(RecordRefusal::Short) => return Parts::End,
     };
-    if head.status == b'c' {
+    if head.status == STATUS_WAITING {
         return Parts::End;
     }
     if head.status == 0 {
@@ -75,9 +77,9 @@ pub fn whole_at(rest: &[u8]) -> Parts
 /// The id of the last transaction that counts, behind this one: of one undone in the old manner the id isn't looked
 /// at.
 pub fn last_behind(extent: &Extent, last: Tid) -> Tid
-    ensures { result ≡ (if extent.now.head.status == 117 then last else extent.now.head.tid) }
+    ensures { result ≡ (if extent.now.head.status == STATUS_UNDONE then last else extent.now.head.tid) }
 {
-    if extent.head.status == b'u' {
+    if extent.head.status == STATUS_UNDONE {
         last
     } else {
         extent.head.tid

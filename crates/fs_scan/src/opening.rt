@@ -12,7 +12,7 @@ use crate::places::Places;
 use crate::step::{Step, take_one};
 use crate::walk::Walk;
 use crate::window::{read_range, read_window};
-use fs_record::{Damage, MAGIC_LEN, TAIL_LEN};
+use fs_record::{Damage, MAGIC_LEN, STATUS_PACKED, STATUS_UNDONE, TAIL_LEN};
 use std::alloc::{AllocError, Global};
 use zbase::{Failed, Memory, Oid, Rows, Tid};
 use zdisk::Disk;
@@ -102,17 +102,17 @@ impl Tally {
         requires place { self.at + extent.now.long + TAIL_LEN < 2 ^ 64 }
         requires few { self.count ≤ self.at }
         ensures at { result.at ≡ self.at + (extent.now.long + TAIL_LEN) }
-        ensures last { result.last ≡ (if extent.now.head.status == 117 then self.last else extent.now.head.tid) }
-        ensures floor { result.floor ≡ (if extent.now.head.status == 112 then extent.now.head.tid else self.floor) }
-        ensures count { result.count ≡ (if extent.now.head.status == 117 then self.count else self.count + 1) }
+        ensures last { result.last ≡ (if extent.now.head.status == STATUS_UNDONE then self.last else extent.now.head.tid) }
+        ensures floor { result.floor ≡ (if extent.now.head.status == STATUS_PACKED then extent.now.head.tid else self.floor) }
+        ensures count { result.count ≡ (if extent.now.head.status == STATUS_UNDONE then self.count else self.count + 1) }
         ensures few { result.count ≤ result.at }
     {
         let status = extent.head.status;
-        let counts = if status == b'u' { 0 } else { 1 };
+        let counts = if status == STATUS_UNDONE { 0 } else { 1 };
         Tally {
             at: self.at + extent.size(),
             last: last_behind(extent, self.last),
-            floor: if status == b'p' {
+            floor: if status == STATUS_PACKED {
                 extent.head.tid
             } else {
                 self.floor

@@ -7,7 +7,7 @@ use crate::extent::{Extent, Parts, whole_at};
 use crate::judging::Marks;
 use crate::places::Places;
 use crate::records::read_records;
-use fs_record::Damage;
+use fs_record::{Damage, STATUS_COUNTED, STATUS_PACKED, STATUS_UNDONE};
 use zbase::{Memory, Rows, Tid};
 
 /// What stands behind a file's transactions.
@@ -35,7 +35,7 @@ fn fault(last: Tid, tid: Tid, status: u8, tail: u64, long: u64, marks: Marks) ->
     if !marks.back {
         return Some(Damage::BadBack);
     }
-    if status != b' ' && status != b'p' {
+    if status != STATUS_COUNTED && status != STATUS_PACKED {
         return Some(Damage::BadStatus);
     }
     if tail != long {
@@ -58,7 +58,7 @@ fn take_records(
     requires place { place + length rest.now < 2 ^ 64 }
     requires before { RiseWithin 0 place places.old }
     requires whole { IsWhole rest.now extent.now }
-    requires read { extent.now.head.status ≢ 117 }
+    requires read { extent.now.head.status ≢ STATUS_UNDONE }
     ensures ok { IfOk result (λ s. StepLeads rest.now place last places.old places.new s) }
     ensures err { OnErr result (Grows places.old places.new) }
 {
@@ -94,7 +94,7 @@ pub fn take_one(places: &mut Places, rest: &[u8], place: u64, last: Tid) -> Resu
         Parts::Bad => return Ok(Step::Damaged(Damage::BadLength)),
         Parts::Whole(extent) => extent,
     };
-    if extent.head.status == b'u' {
+    if extent.head.status == STATUS_UNDONE {
         if extent.tail != extent.head.length {
             return Ok(Step::Damaged(Damage::BadTail));
         }

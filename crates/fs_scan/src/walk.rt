@@ -19,7 +19,7 @@ use crate::step::{Step, take_one};
 use crate::valued::read_whole_in;
 use crate::window::{read_range, read_window};
 use crate::{ScanRefusal, Whole};
-use fs_record::{Damage, MAGIC_LEN};
+use fs_record::{Damage, MAGIC_LEN, STATUS_UNDONE};
 use std::alloc::Global;
 use std::marker::Model;
 use zbase::{Memory, Oid, Rows, Tid};
@@ -175,7 +175,7 @@ impl Walk {
                 Step::Damaged(kind) => return Err(ScanRefusal::Damaged(kind, at)),
                 Step::Right(extent) => extent,
             };
-            if extent.head.status != b'u' {
+            if extent.head.status != STATUS_UNDONE {
                 return self.whole_in(disk, len, &window, at, &extent);
             }
             at += extent.size();

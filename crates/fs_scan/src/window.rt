@@ -7,7 +7,7 @@ ghost use Rattle.fs_record.specs.Opening.{is_end};
 ghost use Rattle.fs_scan.specs.Windows.{Shows};
 
 use crate::ScanRefusal;
-use fs_record::{TAIL_LEN, TXN_HEAD_LEN, read_txn_head};
+use fs_record::{STATUS_WAITING, TAIL_LEN, TXN_HEAD_LEN, read_txn_head};
 use std::alloc::Global;
 use zdisk::Disk;
 
@@ -44,7 +44,7 @@ fn window_size(head: &[u8], left: u64) -> Option<u64>
     let Ok(head) = read_txn_head(head) else {
         unreachable!();
     };
-    if head.status == b'c' || head.status == 0 || head.length > left - TAIL_LEN as u64 {
+    if head.status == STATUS_WAITING || head.status == 0 || head.length > left - TAIL_LEN as u64 {
         return None;
     }
     Some((head.length + TAIL_LEN as u64).max(TXN_HEAD_LEN as u64))

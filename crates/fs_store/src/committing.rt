@@ -31,7 +31,10 @@ use crate::waiting::Waiting;
 use crate::{LoadRefusal, Seen, VoteRefusal};
 use evaluator::Draft;
 use fs_index::Index;
-use fs_record::{Item, STATUS_AT, TXN_HEAD_LEN, TxnTexts, record_size, texts_size, write_txn};
+use fs_record::{
+    Item, STATUS_AT, STATUS_COUNTED, STATUS_WAITING, TXN_HEAD_LEN, TxnTexts, record_size,
+    texts_size, write_txn,
+};
 use std::alloc::Global;
 use zbase::{Bytes, Failed, Memory, Tid};
 use zdisk::{Disk, append_and_sync, cut_and_sync, overwrite_and_sync};
@@ -62,10 +65,10 @@ fn write_behind<D: Disk>(
     requires description { length texts.now.description < 2 ^ 16 }
     requires extension { length texts.now.extension < 2 ^ 16 }
     requires bodies { All HasBody items.now }
-    requires fits { end + length (block_spelling (transaction end tid 99 texts.now items.now)) < 2 ^ 63 }
-    ensures any_moment { LeavesFrom (D.told disk.old) (D.told disk.new) (λ file image. IsTorn file (block_spelling (transaction end tid 99 texts.now items.now)) image) }
-    ensures written { OnOk result (Becomes (D.told disk.old) (D.told disk.new) (λ file. file ++ block_spelling (transaction end tid 99 texts.now items.now))) }
-    ensures writable { OnOk result (IsWritable end tid 99 texts.now items.now) }
+    requires fits { end + length (block_spelling (transaction end tid STATUS_WAITING texts.now items.now)) < 2 ^ 63 }
+    ensures any_moment { LeavesFrom (D.told disk.old) (D.told disk.new) (λ file image. IsTorn file (block_spelling (transaction end tid STATUS_WAITING texts.now items.now)) image) }
+    ensures written { OnOk result (Becomes (D.told disk.old) (D.told disk.new) (λ file. file ++ block_spelling (transaction end tid STATUS_WAITING texts.now items.now))) }
+    ensures writable { OnOk result (IsWritable end tid STATUS_WAITING texts.now items.now) }
     ensures spare { OnOk result ((2 ≤ D.spare_calls disk.new) × (1 ≤ D.spare_bytes disk.new)) }
     ensures calls { OnOk result ((D.counter disk.new).calls ≡ counted (counted (D.counter disk.old).calls)) }
     ensures twice { OnOk result (Twice (D.counter disk.old) (D.counter disk.new)) }
@@ -73,7 +76,7 @@ fn write_behind<D: Disk>(
     ensures counts { Counts (D.counter disk.old) (D.counter disk.new) (IsErrOf result LoadRefusal.Disk) }
 {
     let mut piece = Bytes::new(alloc);
-    write_txn(&mut piece, end, tid, b'c', texts, items)?;
+    write_txn(&mut piece, end, tid, STATUS_WAITING, texts, items)?;
     disk.reserve(4, piece.len() as u64 + 1)?;
     append_and_sync(disk, end, piece.as_slice())?;
     Ok(())
@@ -206,7 +209,7 @@ pub(crate) fn finish_on<D: Disk>(
     ensures twice { OnOk result (Twice (D.counter disk.old) (D.counter disk.new)) }
     ensures counts { Counts (D.counter disk.old) (D.counter disk.new) (IsErr result) }
 {
-    overwrite_and_sync(disk, known.end + STATUS_AT as u64, b' ')?;
+    overwrite_and_sync(disk, known.end + STATUS_AT as u64, STATUS_COUNTED)?;
     know(known, &waiting);
     Ok(())
 }

@@ -14,7 +14,7 @@ ghost use Rattle.fs_store.specs.declared.opening.OpenRefusal.TheVariants as refu
 
 use crate::known::Known;
 use fs_index::Index;
-use fs_record::{Damage, MAX_LENGTH, STATUS_AT, TXN_HEAD_LEN};
+use fs_record::{Damage, MAX_LENGTH, STATUS_AT, STATUS_WAITING, TXN_HEAD_LEN};
 use fs_scan::{ScanRefusal, Scanned, scan};
 use std::alloc::Global;
 use zbase::{Failed, Memory, Oid, Row};
@@ -139,7 +139,7 @@ fn stays_torn<D: Disk>(disk: &mut D, end: u64, torn: u64) -> Result<bool, Failed
     }
     let mut status = [0];
     disk.read_at(end.saturating_add(STATUS_AT as u64), &mut status)?;
-    Ok(status[0] == b'c' || status[0] == 0)
+    Ok(status[0] == STATUS_WAITING || status[0] == 0)
 }
 
 // Sees to it that the rest behind the file's end is torn whichever of its bytes are lost: else it gets the status `c`,

@@ -19,7 +19,7 @@ use crate::finding::find;
 use crate::known::Known;
 use byteorder::{BigEndian, ByteOrder};
 use evaluator::{Draft, Entry, Hole, Name};
-use fs_record::{Body, Item, TxnTexts};
+use fs_record::{Body, Item, NUMBER_LEN, TxnTexts};
 use std::alloc::Global;
 use zbase::{Bytes, Failed, Items, Memory, Oid, Tid};
 use zdisk::Disk;
@@ -33,10 +33,10 @@ pub(crate) struct Settled {
 
 // Puts an id into the eight bytes at a place.
 fn put_id(bytes: &mut [u8], at: usize, id: u64)
-    requires { at + 8 ≤ length bytes.old }
-    ensures { bytes.new ≡ take at bytes.old ++ to_be_bytes w64 id ++ drop (at + 8) bytes.old }
+    requires { at + NUMBER_LEN ≤ length bytes.old }
+    ensures { bytes.new ≡ take at bytes.old ++ to_be_bytes w64 id ++ drop (at + NUMBER_LEN) bytes.old }
 {
-    BigEndian::write_u64(&mut bytes[at..at + 8], id);
+    BigEndian::write_u64(&mut bytes[at..at + NUMBER_LEN], id);
 }
 
 // A copy of the bytes with the ids of the new objects in the holes; the first new object has the id `first`.

@@ -1,6 +1,7 @@
 -- A disk that a steady store leaves is printed whole: it holds a file of the store's history, and can't fail.
 use Rattle.std.proofs.Common.{◌≡◌, ℕ, ◌+◌, ◌≤◌, min, true, List, [], length, Option, Some, None, IfSome, IsSome, refl, sym, ap, subst, ◌∙◌, append-nil, arith}
-use Rattle.zbase.specs.Faults.{Counter, Counts, IsFaultless, last_count}
+use Rattle.zbase.specs.Faults.{Counter, Counts, IsFaultless}
+use Rattle.zbase.specs.Limits.{greatest_number}
 use Rattle.zbase.specs.History.{History}
 use Rattle.zdisk.specs.Crashes.{IsSynced}
 use Rattle.zdisk.specs.Disk.{Told, content}
@@ -43,5 +44,5 @@ no_damage (Some t) store kind place X same told whole damaged =
 -- what can't fail tells no fault
 pub no_fault : (old new : Counter) (F : Type 0) → IsFaultless old → Counts old new F → F → ⊥
 no_fault old new F calm counts fault =
-    let rose : min (old.count + 1) last_count ≤ new.count = counts.cause fault in
+    let rose : min (old.count + 1) greatest_number ≤ new.count = counts.cause fault in
     omega (arith, rose, calm.below, (counts.calm calm).1)

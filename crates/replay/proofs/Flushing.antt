@@ -1,7 +1,8 @@
 -- A run whose last lines were written at its end: what was due by then is what was written.
 use Rattle.std.proofs.Common.{◌≡◌, ◌+◌, ◌<◌, ◌≤◌, ℕ, min, List, [], Option, sym, ap, subst, arith, ◌∙◌}
 use Rattle.std.specs.Io.KnownBytes.{append_known}
-use Rattle.zbase.specs.Faults.{Counter, Counts, last_count}
+use Rattle.zbase.specs.Faults.{Counter, Counts}
+use Rattle.zbase.specs.Limits.{greatest_number}
 use Rattle.zbase.specs.History.{History}
 use Rattle.schedule.specs.declared.item.Item2.{Item2}
 use Rattle.schedule.specs.Moments.{Terms}

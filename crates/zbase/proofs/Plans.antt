@@ -2,7 +2,8 @@
 use Rattle.std.proofs.Common.{◌≡◌, ℕ, ◌+◌, ◌<◌, ◌==◌, ◌&&◌, ◌||◌, Bool, true, false, List, [], ◌∷◌, min, refl, arith, nat_le}
 use Rattle.std.specs.List.{list_all, list_any}
 use Rattle.std.proofs.lemmas.Bool.Decides.{nat_tests}
-use Rattle.zbase.specs.Faults.{Counter, Counts, last_count, no_arms, hits_none, spends_none}
+use Rattle.zbase.specs.Faults.{Counter, Counts, no_arms, hits_none, spends_none}
+use Rattle.zbase.specs.Limits.{greatest_number}
 
 -- the count that contracts see
 abbrev pub planned : List ℕ → ℕ → ℕ → Counter
@@ -29,7 +30,7 @@ still_behind (n ∷ ns) calls number is all = go (nat_le n calls) refl (nat_le n
     go true below false past all deeper = absurd (grind (arith, nat_tests, below, past, is))
     go false above b now all deeper = cc
 
-pub call_fails : (failing : List ℕ) (calls number count raised : ℕ) → count < 18446744073709551616 → number ≡ calls + 1 → list_any (λ n. n == number) failing ≡ true → raised ≡ min (count + 1) last_count → Counts (planned failing calls count) (planned failing number raised) (true ≡ true)
+pub call_fails : (failing : List ℕ) (calls number count raised : ℕ) → count < 18446744073709551616 → number ≡ calls + 1 → list_any (λ n. n == number) failing ≡ true → raised ≡ min (count + 1) greatest_number → Counts (planned failing calls count) (planned failing number raised) (true ≡ true)
 call_fails failing calls number count raised small is any up = record {
   later = omega (arith, up, small);
   told = λ _. refl;

@@ -3,6 +3,7 @@
 use Rattle.std.specs.Prelude.{◌≡◌, ℕ, ◌+◌, ◌<◌, ◌≤◌, min, Bool, true, false, List, [], ◌∷◌, ◌++◌, refl}
 use Rattle.std.proofs.Common.{arith, ◌∙◌, sym, ap}
 use Rattle.zbase.specs.declared.faults.Arm.{Arm}
+use Rattle.zbase.specs.Limits.{greatest_number}
 
 -- ---- what is armed
 
@@ -56,25 +57,21 @@ pub record IsWaiting (a : Arms) : Type 0 where
 
 -- ---- counts
 
--- how often an object has failed, whether it can't fail any more, how many calls it has had (0 for one that doesn't count
--- them), and what is armed
+-- How often an object has failed (a count stays at 2^64 - 1), whether it can't fail any more, how many calls it has had (0
+-- for one that doesn't count them), and what is armed.
 pub record Counter : Type 0 where
   pub count : ℕ
   pub sound : Bool
   pub calls : ℕ
   pub arms : Arms
 
--- a count stays at 2^64 - 1
-abbrev pub last_count : ℕ
-last_count = 18446744073709551615
-
 pub record IsFaultless (c : Counter) : Type 0 where
   pub sound : c.sound ≡ true
-  pub below : c.count < last_count
+  pub below : c.count < greatest_number
 
 -- the count rose, or stands at its last value
 abbrev pub Rose : Counter → Counter → Type 0
-Rose old new = min (old.count + 1) last_count ≤ new.count
+Rose old new = min (old.count + 1) greatest_number ≤ new.count
 
 -- What a call makes of the counts: they never fall, a fault is told exactly where the count of faults rose (at its last
 -- value it may be told without), and a faultless object stays so. What is armed is hit where a fault is told.
@@ -88,7 +85,7 @@ pub record Counts (old new : Counter) (fault : Type 0) : Type 0 where
 
 -- at least so many calls were made: so many fewer are left to the first entry, where one waits
 pub record Makes (n : ℕ) (old new : Counter) : Type 0 where
-  pub calls : min (old.calls + n) last_count ≤ new.calls
+  pub calls : min (old.calls + n) greatest_number ≤ new.calls
   pub left : (old.arms.queue ≡ [] → ⊥) → new.arms.left + n ≤ old.arms.left
 
 abbrev pub Once : Counter → Counter → Type 0
@@ -136,7 +133,7 @@ counts_then {a} {b} {c} h none k =
     record {
       later = omega (arith, h.later, k.later);
       told = λ r. k.told (omega arith);
-      cause = λ g. let m : min (b.count + 1) last_count ≤ c.count = k.cause g in rw (← same) m;
+      cause = λ g. let m : min (b.count + 1) greatest_number ≤ c.count = k.cause g in rw (← same) m;
       calm = λ f. let p : IsFaultless b × (b.count ≡ a.count) = h.calm f in let q : IsFaultless c × (c.count ≡ b.count) = k.calm p.0 in (q.0, q.1 ∙ p.1);
       calls = omega (arith, h.calls, k.calls);
       arms = hits_then h.arms none k.arms;

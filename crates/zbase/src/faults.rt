@@ -1,6 +1,7 @@
 ghost use Rattle.std.specs.Prelude.{◌≡◌, ◌+◌, ⊤, false, true, min, nat_le, IsErr, MatchResult, Ok};
 ghost use Rattle.std.specs.List.{list_all};
-ghost use Rattle.zbase.specs.Faults.{Counter, Counts, Once, last_count, no_arms};
+ghost use Rattle.zbase.specs.Faults.{Counter, Counts, Once, no_arms};
+ghost use Rattle.zbase.specs.Limits.{greatest_number};
 
 use std::alloc::{AllocError, AllocFailed, Global};
 use std::marker::Model;
@@ -85,7 +86,7 @@ impl FaultPlan {
     /// Counts a call, which fails where its number is in the list.
     pub fn call(&mut self) -> Result<(), Failed>
         ensures counts { Counts self.old self.new (IsErr result) }
-        ensures call { self.new.calls ≡ min (self.old.calls + 1) last_count }
+        ensures call { self.new.calls ≡ min (self.old.calls + 1) greatest_number }
         ensures once { Once self.old self.new }
     {
         let Some(number) = self.calls.checked_add(1) else {
@@ -126,7 +127,7 @@ impl FaultCount {
     pub fn call<T: Drop, E: Drop>(&mut self, answer: Result<T, E>) -> Result<T, Failed>
         ensures value { MatchResult answer (λ value. result ≡ Ok value) (λ _. IsErr result) }
         ensures counts { Counts self.old self.new (IsErr result) }
-        ensures call { self.new.calls ≡ min (self.old.calls + 1) last_count }
+        ensures call { self.new.calls ≡ min (self.old.calls + 1) greatest_number }
         ensures once { Once self.old self.new }
     {
         self.calls = self.calls.saturating_add(1);

@@ -2,15 +2,16 @@
 use Rattle.std.proofs.Common.{◌≡◌, ℕ, ◌<◌, ◌≤◌, Bool, true, false, List, [], ◌∷◌, length, refl, sym, subst, ◌∙◌, arith, nat_lt, if◌then◌else◌}
 use Rattle.std.proofs.lemmas.Bool.Decides.{nat_tests}
 use Rattle.zbase.specs.declared.faults.Arm.{Arm}
-use Rattle.zbase.specs.Faults.{Arms, Counter, Counts, IsFaultless, IsWaiting, Makes, Spends, last_count}
+use Rattle.zbase.specs.Faults.{Arms, Counter, Counts, IsFaultless, IsWaiting, Makes, Spends}
+use Rattle.zbase.specs.Limits.{greatest_number}
 use Rattle.zdisk.specs.Arming.{called, called_by, failed, is_calm, met, met_first, met_of, spent}
 use Rattle.zdisk.specs.Meeting.{IsFault}
 use Rattle.zdisk.specs.declared.queue.Met.{Met}
 
 -- the counts are numbers of the machine, and whether the disk can fail is told by what is armed
 pub record IsCounter (c : Counter) : Type 0 where
-  pub count : c.count ≤ last_count
-  pub calls : c.calls ≤ last_count
+  pub count : c.count ≤ greatest_number
+  pub calls : c.calls ≤ greatest_number
   pub sound : c.sound ≡ is_calm c.arms.queue c.arms.stopped
   pub waits : IsWaiting c.arms
 

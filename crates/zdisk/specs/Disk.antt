@@ -4,7 +4,7 @@
 -- member of its own.
 use Rattle.std.specs.Prelude.{◌≡◌, ℕ, ◌+◌, ◌≤◌, min, List, [], length, take, drop, Option, IfOk, OnOk, IfSome, Result}
 use Rattle.std.specs.Option.{ForSome}
-use Rattle.zbase.specs.Faults.{last_count}
+use Rattle.zbase.specs.Limits.{greatest_number}
 
 -- the content of a file at a moment, and the contents that it had before since the last sync that succeeded,
 -- newest first
@@ -48,4 +48,4 @@ HasPlace disk at = ForSome disk (λ told. at ≤ length (content told))
 
 -- one call more; a count of calls stands still at its last value
 abbrev pub counted : ℕ → ℕ
-counted n = min (n + 1) last_count
+counted n = min (n + 1) greatest_number

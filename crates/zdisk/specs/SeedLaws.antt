@@ -1,6 +1,7 @@
 -- The image that a seed names is one that the disk may leave.
 use Rattle.std.proofs.Common.{◌≡◌, ℕ, zero, suc, ◌+◌, ◌<◌, Bool, true, false, List, [], ◌∷◌, length, get_or, refl, sym, ap, subst, ◌∙◌, arith, inl, inr}
 use Rattle.std.proofs.lemmas.List.{ext_get_or}
+use Rattle.zbase.specs.Limits.{greatest_number}
 use Rattle.zdisk.specs.Disk.{Held}
 use Rattle.zdisk.specs.Images.{HasByte, HasLength, IsImage, IsMixture, contents}
 use Rattle.zdisk.specs.Seeds.{byte_chosen, bytes_chosen, chosen, image_of, last_synced, length_chosen, synced_of, takes_new}
@@ -32,12 +33,12 @@ takes_one place = refl
 
 pub image_before : (old new : List ℕ) → image_of 0 old new ≡ old
 image_before old new =
-    let long : length (image_of 0 old new) ≡ length old = length-image 0 old new ∙ ap (λ (b : Bool). length (chosen b old new)) (takes_zero 18446744073709551615) in
+    let long : length (image_of 0 old new) ≡ length old = length-image 0 old new ∙ ap (λ (b : Bool). length (chosen b old new)) (takes_zero greatest_number) in
     ext_get_or 0 (image_of 0 old new) old long (λ i lt. get_or-image 0 i old new lt ∙ ap (λ (b : Bool). get_or (chosen b old new) i 0) (takes_zero i))
 
 pub image_after : (old new : List ℕ) → image_of 1 old new ≡ new
 image_after old new =
-    let long : length (image_of 1 old new) ≡ length new = length-image 1 old new ∙ ap (λ (b : Bool). length (chosen b old new)) (takes_one 18446744073709551615) in
+    let long : length (image_of 1 old new) ≡ length new = length-image 1 old new ∙ ap (λ (b : Bool). length (chosen b old new)) (takes_one greatest_number) in
     ext_get_or 0 (image_of 1 old new) new long (λ i lt. get_or-image 1 i old new lt ∙ ap (λ (b : Bool). get_or (chosen b old new) i 0) (takes_one i))
 
 -- ---- it may be left
@@ -63,7 +64,7 @@ pub image_named : (seed : ℕ) (held : Held) → IsImage held (image_of seed (la
 image_named seed held =
     let image = image_of seed (last_synced held) held.now in
     record {
-      long = subst (HasLength (contents held)) (sym (length-image seed (last_synced held) held.now)) (either_long held (takes_new seed 18446744073709551615));
+      long = subst (HasLength (contents held)) (sym (length-image seed (last_synced held) held.now)) (either_long held (takes_new seed greatest_number));
       each = λ i lt. subst (HasByte (contents held) i) (sym (get_or-image seed i (last_synced held) held.now lt)) (either_byte held (takes_new seed i) i);
     }
 

@@ -1,6 +1,6 @@
 ghost use Rattle.std.specs.Prelude.{◌≡◌, None};
 ghost use Rattle.std.specs.declared.option.Option.{Option};
-ghost use Rattle.zbase.specs.Faults.{last_count};
+ghost use Rattle.zbase.specs.Limits.{greatest_number};
 
 use crate::Disk;
 use std::fs::OpenFile;
@@ -38,9 +38,9 @@ impl<T: Read + Write + Seek + OpenFile> Disk for FileDisk<T> {
 
     ghost counter = { λ disk. disk.faults };
 
-    ghost spare_calls = { λ _. last_count };
+    ghost spare_calls = { λ _. greatest_number };
 
-    ghost spare_bytes = { λ _. last_count };
+    ghost spare_bytes = { λ _. greatest_number };
 
     fn reserve(&mut self, _calls: u64, _bytes: u64) -> Result<(), Memory> {
         Ok(())

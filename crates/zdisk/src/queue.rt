@@ -1,5 +1,6 @@
 ghost use Rattle.std.specs.Prelude.{◌≡◌, ◌<◌, ◌≤◌, All, false, true, drop, length, take, OnErr, OnOk, []};
-ghost use Rattle.zbase.specs.Faults.{Counts, IsFaultless, IsWaiting, Once, begun, calls_of_first, hit, last_count, no_arms};
+ghost use Rattle.zbase.specs.Faults.{Counts, IsFaultless, IsWaiting, Once, begun, calls_of_first, hit, no_arms};
+ghost use Rattle.zbase.specs.Limits.{greatest_number};
 ghost use Rattle.zdisk.specs.Arming.{armed, called, called_by, counter_of, disarmed, is_calm, met, resumed};
 ghost use Rattle.zdisk.specs.Disk.{counted};
 ghost use Rattle.zdisk.specs.Meeting.{IsFault};
@@ -39,7 +40,7 @@ pub struct Queue {
     ghost waiting: { hits < length arms.items → 1 ≤ left },
     ghost halted: { stopped ≡ true → left ≡ calls_of_first (drop hits arms.items) },
     ghost running: { stopped ≡ false → count ≡ hits },
-    ghost small: { (count ≤ last_count) × (calls ≤ last_count) },
+    ghost small: { (count ≤ greatest_number) × (calls ≤ greatest_number) },
 }
 
 // At how many calls the entry is hit that stands there, 0 where none does.
@@ -140,7 +141,7 @@ impl Queue {
     // What the next call meets.
     fn next(&self) -> Met
         ensures met { result ≡ met self.now.arms }
-        ensures counted { (self.now.count ≤ last_count) × (self.now.calls ≤ last_count) }
+        ensures counted { (self.now.count ≤ greatest_number) × (self.now.calls ≤ greatest_number) }
         ensures sound { self.now.sound ≡ is_calm self.now.arms.queue self.now.arms.stopped }
         ensures waits { IsWaiting self.now.arms }
     {

@@ -1,7 +1,7 @@
 -- What a call of a hub makes of the connection that it names.
 use Rattle.std.specs.Prelude.{◌≡◌, ℕ, ◌+◌, ◌<◌, min, true, false, List, [], ◌++◌, length, take, Option, None, Some, MatchOption}
 use Rattle.std.specs.Option.{ForSome}
-use Rattle.zbase.specs.Faults.{last_count}
+use Rattle.zbase.specs.Limits.{greatest_number}
 use Rattle.zio.specs.Hubs.{Connection, Peers, Accepts, change_at, is_open, left_at}
 
 -- the connection is open, where the hub tells
@@ -19,10 +19,10 @@ abbrev pub with_more : List ℕ → Connection → Connection
 with_more bytes c = record { number = c.number; left = c.left; written = c.written ++ bytes; open_ = c.open_; read_faults = c.read_faults; write_faults = c.write_faults }
 
 abbrev pub with_read_fault : Connection → Connection
-with_read_fault c = record { number = c.number; left = c.left; written = c.written; open_ = c.open_; read_faults = min (c.read_faults + 1) last_count; write_faults = c.write_faults }
+with_read_fault c = record { number = c.number; left = c.left; written = c.written; open_ = c.open_; read_faults = min (c.read_faults + 1) greatest_number; write_faults = c.write_faults }
 
 abbrev pub with_write_fault : Connection → Connection
-with_write_fault c = record { number = c.number; left = c.left; written = c.written; open_ = c.open_; read_faults = c.read_faults; write_faults = min (c.write_faults + 1) last_count }
+with_write_fault c = record { number = c.number; left = c.left; written = c.written; open_ = c.open_; read_faults = c.read_faults; write_faults = min (c.write_faults + 1) greatest_number }
 
 abbrev pub without_peer : Connection → Connection
 without_peer c = record { number = c.number; left = c.left; written = c.written; open_ = false; read_faults = c.read_faults; write_faults = c.write_faults }

@@ -1,6 +1,6 @@
 //! Commands over an input that never ends, and over files that are longer than any machine could hold.
 ghost use Rattle.std.specs.Prelude.{None};
-ghost use Rattle.zbase.specs.Faults.{last_count};
+ghost use Rattle.zbase.specs.Limits.{greatest_number};
 
 use std::alloc::Global;
 use std::test::Fail;
@@ -37,9 +37,9 @@ impl Disk for LongDisk {
 
     ghost counter = { λ disk. disk.faults };
 
-    ghost spare_calls = { λ _. last_count };
+    ghost spare_calls = { λ _. greatest_number };
 
-    ghost spare_bytes = { λ _. last_count };
+    ghost spare_bytes = { λ _. greatest_number };
 
     fn reserve(&mut self, _calls: u64, _bytes: u64) -> Result<(), Memory> {
         Ok(())
