@@ -14,7 +14,7 @@ module _ {K X : Type 0} (e : K → K → Bool) (f : X → X → Bool) (key : X �
   each_apart x [] all = tt
   each_apart x (y ∷ ys) all = (kept x y all.0, each_apart x ys all.1)
 
-  apart : (xs : List X) → IsDistinct e (map key xs) → IsDistinct f xs
+  pub apart : (xs : List X) → IsDistinct e (map key xs) → IsDistinct f xs
   unfolding IsDistinct
   apart [] all = tt
   apart (x ∷ xs) all = (each_apart x xs all.0, apart xs all.1)
