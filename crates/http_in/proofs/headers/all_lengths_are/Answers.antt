@@ -1,5 +1,5 @@
-use Rattle.std.proofs.Common.{◌≡◌, ◌∙◌, ◌<◌, Bool, length, get_or, sym, arith}
-use Rattle.http_in.specs.Headers.{Header, is_same_length}
+use Rattle.std.proofs.Common.{◌∙◌, ◌<◌, length, get_or, sym, arith}
+use Rattle.http_in.specs.Headers.{is_same_length}
 use Rattle.http_in.proofs.Placing.{no_header}
 use Rattle.http_in.proofs.Scans.{all_passes, all_stops, not_false, not_true}
 use Rattle.http_in.proofs.headers.all_lengths_are.Goals as goal

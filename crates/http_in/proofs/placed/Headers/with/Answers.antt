@@ -1,4 +1,4 @@
-use Rattle.std.proofs.Common.{◌∙◌, [], ◌∷◌, ◌++◌, List, ap, ap₂}
+use Rattle.std.proofs.Common.{◌∙◌, [], ◌∷◌, ◌++◌, List, ap₂}
 use Rattle.std.specs.Str.Lossy.{utf8_lossy}
 use Rattle.http_in.specs.Headers.{Header}
 use Rattle.http_in.proofs.Placing.{with_one, made_once}
