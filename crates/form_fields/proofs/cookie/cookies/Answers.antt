@@ -20,12 +20,12 @@ loop-at-preserved c =
     elim c.if-is_named.branch [
       | then-is_named+in_ok-add_cookies w ↦ (
         next_cookies c.args.request.now.headers c.loop-at.at no_header less c.loop-at.cookies c.if-is_named.cookies w.value.result.now (cookies_of c.args.request.now)
-        (sym (c.is_named.ensures no_header) ∙ w.if-is_named.true) (w.value.ensures no_header) (w.cookies-is ∙ w.in_ok-add_cookies.ensures.cookies) c.loop-at.invariant.0,
+            (sym (c.is_named.ensures no_header) ∙ w.if-is_named.true) (w.value.ensures no_header) (w.cookies-is ∙ w.in_ok-add_cookies.ensures.cookies) c.loop-at.invariant.0,
         subst (λ (p : BTreeMap (String Global) ℕ). AreAt (names c.if-is_named.cookies) p) (sym w.places-is) (subst (λ (f : List Field). AreAt (names f) w.add_cookies.new.places) (sym w.cookies-is) w.in_ok-add_cookies.ensures.places),
       )
       | else-is_named w ↦ (
         next_header c.args.request.now.headers c.loop-at.at no_header less c.loop-at.cookies c.if-is_named.cookies (cookies_of c.args.request.now)
-        (sym (c.is_named.ensures no_header) ∙ w.if-is_named.false) w.cookies-is c.loop-at.invariant.0,
+            (sym (c.is_named.ensures no_header) ∙ w.if-is_named.false) w.cookies-is c.loop-at.invariant.0,
         subst (λ (p : BTreeMap (String Global) ℕ). AreAt (names c.if-is_named.cookies) p) (sym w.places-is) (subst (λ (f : List Field). AreAt (names f) c.loop-at.places) (sym w.cookies-is) c.loop-at.invariant.1),
       )
     ]
