@@ -2,8 +2,7 @@
 """Reads the fields of forms of 26,000 and of 260,000 names of three letters, in the program `forms/`.
 
 The names come in their order, in an order that looks random, in that order with one of them twice, or a thousand of them
-again and again. Beside it the names
-alone are put into an ordered map.
+again and again. Beside it the names alone are put into an ordered map.
 """
 
 import pathlib
