@@ -23,7 +23,7 @@ names_stay rows [] = refl
 names_stay rows (n ∷ ns) = ap (λ ms. n ∷ ms) (names_stay rows ns)
 
 -- a name that isn't among the first ones has no row
-none_named : (n : List ℕ) (rows : List Row) → has n (map (λ r. r.name) rows) ≡ false → rows_named n rows ≡ []
+pub none_named : (n : List ℕ) (rows : List Row) → has n (map (λ r. r.name) rows) ≡ false → rows_named n rows ≡ []
 none_named n [] lacks = refl
 none_named n (r ∷ rows) lacks = go (bytes_eq r.name n) refl (none_named n rows)
   where
@@ -56,7 +56,7 @@ field_apart rows r n apart = ap (λ xs. record { name = n; value = value_of xs }
     tail = rw apart refl
 
 -- names that lack it stay
-stay : (f g : List ℕ → Field) (n : List ℕ) → ((m : List ℕ) → bytes_eq m n ≡ false → g m ≡ f m) → (js : List (List ℕ)) → has n js ≡ false → map g js ≡ map f js
+pub stay : (f g : List ℕ → Field) (n : List ℕ) → ((m : List ℕ) → bytes_eq m n ≡ false → g m ≡ f m) → (js : List (List ℕ)) → has n js ≡ false → map g js ≡ map f js
 stay f g n others [] lacks = refl
 stay f g n others (j ∷ js) lacks = go (bytes_eq j n) refl (stay f g n others js)
   where

@@ -7,3 +7,5 @@ pub mod Trimming
 pub mod Placing
 pub mod Joining
 pub mod Adding
+pub mod Apart
+pub mod CookieSteps

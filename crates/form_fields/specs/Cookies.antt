@@ -3,9 +3,8 @@
 -- RFC 6265, "The Cookie Header": names and values with `=` between them, and `;` between the pairs.
 use Rattle.std.specs.Prelude.{ℕ, ◌==◌, nat_lt, List, [], ◌∷◌, length, map, filter, reverse, Option, Some, None, if◌then◌else◌, codes}
 use Rattle.std.specs.List.{flat_map, filter_map, slice_split, position_or_len, before_first, after_first}
-use Rattle.http_in.specs.declared.message.Header.{Header}
 use Rattle.http_in.specs.declared.message.Request.{Request}
-use Rattle.http_in.specs.Headers.{is_named}
+use Rattle.http_in.specs.Headers.{Header, is_named}
 use Rattle.form_fields.specs.Firsts.{firsts}
 use Rattle.form_fields.specs.declared.field.Field.{Field}
 use Rattle.form_fields.specs.declared.field.FieldValue.{FieldValue}

@@ -4,7 +4,6 @@ ghost use Rattle.form_fields.specs.Cookies as spec;
 ghost use Rattle.form_fields.specs.Firsts.{AreAt};
 ghost use Rattle.form_fields.specs.Grouping.{names, with_cookie};
 
-use crate::headers::is_named;
 use crate::places::{Places, place_of, put_name};
 use crate::{Field, FieldValue, Fields, Scalar};
 use http_in::Request;
@@ -81,9 +80,10 @@ pub fn cookies(alloc: Global, request: &Request) -> Result<Fields, Memory>
 {
     let mut cookies = Items::new(alloc);
     let mut places = BTreeMap::new(alloc);
-    for header in request.headers.as_slice() {
-        if is_named("Cookie", header) {
-            add_cookies(alloc, header.value.as_str(), &mut cookies, &mut places)?;
+    let headers = &request.headers;
+    for at in 0..headers.len() {
+        if headers.is_named(at, "Cookie") {
+            add_cookies(alloc, headers.value(at), &mut cookies, &mut places)?;
         }
     }
     Ok(cookies)

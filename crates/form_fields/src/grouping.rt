@@ -3,6 +3,7 @@ ghost use Rattle.form_fields.specs.Firsts.{AreAt};
 ghost use Rattle.form_fields.specs.Fields.{fields_by};
 ghost use Rattle.form_fields.specs.Grouping as spec;
 
+use crate::keys::names_differ;
 use crate::places::{Places, place_of, put_name};
 use crate::rows::Row;
 use crate::{Field, FieldValue, Fields, Scalar};
@@ -79,8 +80,8 @@ fn add_row(
     }
 }
 
-/// The fields of these rows: one for each name, in the order in which the names come first.
-pub(crate) fn grouped(alloc: Global, rows: Vec<Row>) -> Result<Fields, Memory>
+// The fields of these rows, whose names may come again: a map tells where a name stands.
+fn grouped_by_places(alloc: Global, rows: Vec<Row>) -> Result<Fields, Memory>
     ensures { IfOk result (λ fields. fields ≡ fields_by rows.items) }
 {
     let mut fields = Vec::new(alloc);
@@ -89,4 +90,27 @@ pub(crate) fn grouped(alloc: Global, rows: Vec<Row>) -> Result<Fields, Memory>
         add_row(alloc, row, &mut fields, &mut places)?;
     }
     Ok(Items::from_vec(fields))
+}
+
+// The fields of these rows, one of each.
+fn each_alone(alloc: Global, rows: Vec<Row>) -> Result<Fields, Memory>
+    ensures { IfOk result (λ fields. fields ≡ map spec.field_by rows.items) }
+{
+    let mut fields = Vec::with_capacity(alloc, rows.len())?;
+    for row in rows {
+        fields.push(field_by(alloc, row)?)?;
+    }
+    Ok(Items::from_vec(fields))
+}
+
+/// The fields of these rows: one for each name, in the order in which the names come first.
+#[tactic(auto, using(crate::proofs::Apart::apart_fields))]
+pub(crate) fn grouped(alloc: Global, rows: Vec<Row>) -> Result<Fields, Memory>
+    ensures { IfOk result (λ fields. fields ≡ fields_by rows.items) }
+{
+    if names_differ(alloc, rows.as_slice())? {
+        each_alone(alloc, rows)
+    } else {
+        grouped_by_places(alloc, rows)
+    }
 }

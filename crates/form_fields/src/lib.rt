@@ -9,6 +9,7 @@ mod cookie;
 mod field;
 mod grouping;
 mod headers;
+mod keys;
 mod names;
 mod numbers;
 mod pairs;

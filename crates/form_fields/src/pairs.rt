@@ -36,7 +36,7 @@ fn has_form(request: &Request) -> bool
 {
     match request.method {
         Verb::Get | Verb::Head => false,
-        Verb::Post => is_form(request.headers.as_slice()),
+        Verb::Post => is_form(&request.headers),
     }
 }
 

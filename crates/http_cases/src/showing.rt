@@ -43,10 +43,11 @@ fn put_request(out: &mut Bytes, request: &Request) -> Result<(), Memory> {
     }
     put_line(out, b"raw", request.raw.as_bytes())?;
     put_line(out, b"query", request.query.as_bytes())?;
-    for header in request.headers.as_slice() {
+    let headers = &request.headers;
+    for at in 0..headers.len() {
         out.append(b"header")?;
-        put_text(out, header.name.as_bytes())?;
-        put_text(out, header.value.as_bytes())?;
+        put_text(out, headers.name(at).as_bytes())?;
+        put_text(out, headers.value(at).as_bytes())?;
         out.push(b'\n')?;
     }
     put_line(out, b"body", request.body.as_slice())

@@ -1,8 +1,10 @@
 -- What a reader keeps.
-use Rattle.std.proofs.Common.{◌≡◌, ℕ, ◌+◌, ◌-◌, ◌<◌, ◌≤◌, None, List, ◌++◌, length, take, drop, take-append-drop, length-drop, length-take-le, sym, ap, ap₂, ◌∙◌, arith}
-use Rattle.std.proofs.lemmas.List.{drop-drop}
-use Rattle.http_in.specs.EndLaws.{passes_none}
-use Rattle.http_in.specs.Inside.{Keeps}
+use Rattle.std.proofs.Common.{◌≡◌, ◌≢◌, ℕ, ◌+◌, ◌-◌, ◌<◌, ◌≤◌, None, List, [], ◌++◌, length, take, drop, take-append-drop, length-drop, length-take-le, append-nil, slice_index, subst, sym, ap, ap₂, ◌∙◌, arith}
+use Rattle.std.proofs.lemmas.List.{drop-drop, get_or-drop, take_all}
+use Rattle.http_in.specs.Ends.{head_end}
+use Rattle.http_in.specs.EndLaws.{passed_on, passes_none, passes_text}
+use Rattle.http_in.specs.Inside.{IsPassed, Keeps}
+use Rattle.http_in.specs.MessageLaws.{none_yet}
 use Rattle.http_in.specs.Messages.{asked}
 use Rattle.http_in.specs.SizeLaws.{long_enough}
 use Rattle.http_in.specs.Streams.{Stream}
@@ -39,3 +41,16 @@ most_held items new start at n old is ordered within longer most none =
     let here : length (take (at - start) (drop start items)) ≡ at - start = length-take-le (at - start) (drop start items) (omega (arith, length-drop start items, ordered, within)) in
     let there : length (take (at - start) (drop start new)) ≡ at - start = length-take-le (at - start) (drop start new) (omega (arith, length-drop start new, ordered, within, longer)) in
     omega (arith, held, taken, here, there, most, long_enough old.rest none)
+
+-- one byte more is passed where it is no LF
+pub one_passed : (bytes : List ℕ) (clean : ℕ) → IsPassed (take clean bytes) → (length bytes ≡ clean + 1) × (length bytes < 16384) × (slice_index bytes clean ≢ 10)
+    → (asked bytes ≡ None) × (clean + 1 ≤ length bytes) × (clean + 1 ≤ 16384) × IsPassed (take (clean + 1) bytes)
+one_passed bytes clean passed one =
+    let there : slice_index (drop clean bytes) 0 ≡ slice_index bytes clean = get_or-drop clean bytes 0 0 ∙ ap (slice_index bytes) (omega arith) in
+    let next : IsPassed (take 1 (drop clean bytes)) = passes_text (drop clean bytes) 1
+    (λ k less is. let zero : k ≡ 0 = omega (arith, less) in one.2 (sym there ∙ ap (slice_index (drop clean bytes)) (sym zero) ∙ is))
+    (omega (arith, length-drop clean bytes, one.0)) in
+    let all : IsPassed (take (clean + 1) bytes) = passed_on bytes clean 1 passed next in
+    let whole : IsPassed bytes = subst IsPassed (take_all (clean + 1) bytes (omega (arith, one.0))) all in
+    let ended : head_end bytes ≡ None = ap head_end (sym (append-nil bytes)) ∙ whole [] in
+    (none_yet bytes (ap head_end (take_all 16384 bytes (omega (arith, one.1))) ∙ ended) one.1, omega (arith, one.0), omega (arith, one.0, one.1), all)

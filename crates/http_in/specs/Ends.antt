@@ -2,7 +2,7 @@
 --
 -- RFC 9112, "Message Format": a head is lines, and an empty line ends it; "Message Parsing": a line may end in LF
 -- alone.
-use Rattle.std.specs.Prelude.{ℕ, ◌+◌, ◌-◌, ◌==◌, List, [], ◌∷◌, Option, Some, None, if◌then◌else◌}
+use Rattle.std.specs.Prelude.{ℕ, ◌+◌, ◌-◌, ◌==◌, ◌&&◌, not, nat_lt, Bool, List, [], ◌∷◌, length, slice_index, Option, Some, None, if◌then◌else◌}
 use Rattle.std.specs.List.{count_by}
 
 -- how long the empty line at the front is, none where none stands there
@@ -32,3 +32,7 @@ head_end (b ∷ bytes) =
 -- the lines of a head but for the first and the empty one
 abbrev pub header_lines : List ℕ → ℕ
 header_lines head = count_by (λ b. b == 10) head - 2
+
+-- no empty line stands at the front
+abbrev pub begins_with_text : List ℕ → Bool
+begins_with_text head = nat_lt 0 (length head) && (not (slice_index head 0 == 10) && not (slice_index head 0 == 13))

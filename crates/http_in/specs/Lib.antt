@@ -2,6 +2,7 @@ pub mod Ends
 pub mod HeadText
 pub mod Paths
 pub mod Headers
+pub mod Placed
 pub mod Messages
 pub mod EndLaws
 pub mod Cuts

@@ -4,14 +4,13 @@
 use Rattle.std.specs.Prelude.{ℕ, ◌+◌, ◌==◌, ◌&&◌, ◌||◌, nat_lt, Bool, true, false, List, [], length, take, drop, map, slice_index, Option, Some, None, Result, Ok, Err, if◌then◌else◌, codes}
 use Rattle.std.specs.Str.{bytes_eq}
 use Rattle.httparse.specs.Grammar.{RequestHead}
-use Rattle.http_in.specs.declared.message.Header.{Header}
 use Rattle.http_in.specs.declared.message.HttpRefusal.{HttpRefusal}
 use Rattle.http_in.specs.declared.message.Message.{Message}
 use Rattle.http_in.specs.declared.message.Request.{Request}
 use Rattle.http_in.specs.declared.message.Verb.{Verb}
 use Rattle.http_in.specs.Ends.{head_end, header_lines}
 use Rattle.http_in.specs.HeadText.{head_of}
-use Rattle.http_in.specs.Headers.{body_length, header_of, is_chunked, is_multipart, lossy}
+use Rattle.http_in.specs.Headers.{Header, body_length, header_of, is_chunked, is_multipart, lossy}
 use Rattle.http_in.specs.Paths.{count_segments, path_of, query_of, raw_of}
 
 -- ---- limits, in bytes, lines and segments

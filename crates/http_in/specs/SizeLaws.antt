@@ -5,14 +5,13 @@ use Rattle.std.specs.List.{All, concat}
 use Rattle.std.proofs.lemmas.Bool.Decides.{nat_tests}
 use Rattle.std.proofs.lemmas.List.Elements.{All-head, All-tail}
 use Rattle.httparse.specs.Grammar.{RequestHead}
-use Rattle.http_in.specs.declared.message.Header.{Header}
 use Rattle.http_in.specs.declared.message.HttpRefusal.{HttpRefusal}
 use Rattle.http_in.specs.declared.message.Message.{Message}
 use Rattle.http_in.specs.declared.message.Request.{Request}
 use Rattle.http_in.specs.declared.message.Verb.{Verb}
 use Rattle.http_in.specs.Ends.{head_end, header_lines}
 use Rattle.http_in.specs.HeadText.{head_of}
-use Rattle.http_in.specs.Headers.{body_length, header_of, is_chunked, is_multipart, lossy}
+use Rattle.http_in.specs.Headers.{Header, body_length, header_of, is_chunked, is_multipart, lossy}
 use Rattle.http_in.specs.Paths.{query_of, raw_of}
 use Rattle.http_in.specs.Laws.{FewReads, LongEnough, LongestMessage}
 use Rattle.http_in.specs.MessageLaws.{head_fits}

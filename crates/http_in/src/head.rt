@@ -1,7 +1,7 @@
-ghost use Rattle.std.specs.Prelude.{◌≡◌, ◌≤◌, ◌==◌, ℕ, length, IfOk, IfSome, IfNone, option_map, None, Some};
+ghost use Rattle.std.specs.Prelude.{◌≡◌, ◌≤◌, ◌==◌, ℕ, true, nat_lt, length, IfOk, IfSome, IfNone, option_map, None, Some};
 ghost use Rattle.std.specs.List.{count_by};
 ghost use Rattle.httparse.specs.Spans.{IsRequestWithin};
-ghost use Rattle.http_in.specs.Ends.{header_lines};
+ghost use Rattle.http_in.specs.Ends.{begins_with_text, header_lines};
 ghost use Rattle.http_in.specs.HeadText.{head_of};
 ghost use Rattle.http_in.specs.Messages as messages;
 ghost use Rattle.http_in.specs.Paths as paths;
@@ -30,13 +30,13 @@ fn count_lines(head: &[u8]) -> usize
     count_ends(head).saturating_sub(2)
 }
 
-/// Where the parts of a head are, none where the bytes are no head.
+/// Where the parts of a head are, none where the bytes are no head, or one of too many lines.
 fn parts_of(head: &[u8], spans: &mut [HeaderSpan]) -> Option<RequestSpans>
-    requires room { length spans.old ≡ 64 }
-    requires few { header_lines head.now ≤ 64 }
+    requires { length spans.old ≡ 64 }
     ensures within { IfSome result (IsRequestWithin head.now spans.new) }
     ensures some { IfSome result (HasParts head.now spans.new) }
-    ensures none { IfNone result (head_of head.now ≡ None) }
+    ensures few { IfSome result (λ found. begins_with_text head.now ≡ true → header_lines head.now ≤ 64) }
+    ensures none { IfNone result (header_lines head.now ≤ 64 → head_of head.now ≡ None) }
 {
     match parse_request(head, spans) {
         Ok(Status::Complete(found)) => {
@@ -48,6 +48,28 @@ fn parts_of(head: &[u8], spans: &mut [HeaderSpan]) -> Option<RequestSpans>
         }
         Ok(Status::Partial) => None,
         Err(_) => None,
+    }
+}
+
+/// Whether no empty line stands at the front.
+fn begins_with_text(head: &[u8]) -> bool
+    ensures { result ≡ begins_with_text head.now }
+{
+    !head.is_empty() && head[0] != b'\n' && head[0] != b'\r'
+}
+
+/// Whether a head has more header lines than may be.
+///
+/// Where its parts were found it has a line for each header, and one for each empty line before it. So the lines are
+/// counted only where there are such lines, or no parts.
+fn has_many_lines(head: &[u8], found: Option<RequestSpans>) -> bool
+    requires { IfSome found (λ parts. begins_with_text head.now ≡ true → header_lines head.now ≤ 64) }
+    ensures { result ≡ nat_lt 64 (header_lines head.now) }
+{
+    if found.is_some() && begins_with_text(head) {
+        false
+    } else {
+        count_lines(head) > MOST_LINES
     }
 }
 
@@ -121,7 +143,7 @@ fn request_of(
     let Some(path) = path_in(alloc, target)? else {
         return Err(HeadError::Refused(HttpRefusal::BadHead));
     };
-    let Some(size) = body_length(headers.as_slice()) else {
+    let Some(size) = body_length(&headers) else {
         return Err(HeadError::Refused(HttpRefusal::BadHead));
     };
     let Some(method) = verb_of(method) else {
@@ -130,13 +152,13 @@ fn request_of(
     if is_long(target) {
         return Err(HeadError::Refused(HttpRefusal::PathTooLong));
     }
-    if is_chunked(headers.as_slice()) {
+    if is_chunked(&headers) {
         return Err(HeadError::Refused(HttpRefusal::Chunked));
     }
     if size > MOST_BODY {
         return Err(HeadError::Refused(HttpRefusal::BodyTooLarge));
     }
-    if is_post(method) && is_multipart(headers.as_slice()) {
+    if is_post(method) && is_multipart(&headers) {
         return Err(HeadError::Refused(HttpRefusal::Multipart));
     }
     let raw = lossy_text(alloc, cut(target, b'?').0)?;
@@ -159,11 +181,12 @@ pub(crate) fn judge(alloc: Global, head: &[u8]) -> Result<(Request, usize), Head
     ensures is { Gives result (messages.judged head.now) }
     ensures small { IfOk result (λ x. x.1 ≤ 1048576) }
 {
-    if count_lines(head) > MOST_LINES {
+    let mut spans = [EMPTY_HEADER_SPAN; MOST_LINES];
+    let found = parts_of(head, spans.as_mut_slice());
+    if has_many_lines(head, found) {
         return Err(HeadError::Refused(HttpRefusal::HeadTooLarge));
     }
-    let mut spans = [EMPTY_HEADER_SPAN; MOST_LINES];
-    let Some(found) = parts_of(head, spans.as_mut_slice()) else {
+    let Some(found) = found else {
         return Err(HeadError::Refused(HttpRefusal::BadHead));
     };
     let headers = headers_at(alloc, head, &spans[..found.headers])?;

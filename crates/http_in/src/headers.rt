@@ -1,14 +1,14 @@
-ghost use Rattle.std.specs.Prelude.{◌≡◌, ◌<◌, ◌≤◌, ℕ, slice_index_or, length, map, option_map, IfOk, Some, true};
+ghost use Rattle.std.specs.Prelude.{◌≡◌, ◌++◌, ◌∷◌, [], ◌<◌, ◌≤◌, ℕ, slice_index_or, length, map, not, option_map, IfOk, OnOk, Some, true};
 ghost use Rattle.std.specs.Char.{is_ascii_digit};
 ghost use Rattle.std.specs.List.{list_all};
 ghost use Rattle.std.specs.Str.Parse.{digits_value};
 ghost use Rattle.httparse.specs.Spans.{IsHeaderWithin, header_bytes};
 ghost use Rattle.http_in.specs.Headers as headers;
 
-use crate::{Header, Headers};
+use crate::Headers;
 use httparse::spans::HeaderSpan;
 use std::alloc::Global;
-use zbase::{Items, Memory, Text};
+use zbase::{Memory, Text};
 
 /// The bytes as text, with U+FFFD where they aren't UTF-8.
 pub(crate) fn lossy_text(alloc: Global, bytes: &[u8]) -> Result<Text, Memory>
@@ -23,17 +23,19 @@ pub(crate) fn lossy_text(alloc: Global, bytes: &[u8]) -> Result<Text, Memory>
     }
 }
 
-fn header_at(alloc: Global, head: &[u8], span: HeaderSpan) -> Result<Header, Memory>
-    requires { IsHeaderWithin (length head.now) span }
-    ensures { IfOk result (λ header. header ≡ headers.header_by (header_bytes head.now span)) }
+/// The headers at these places of a head that isn't ASCII.
+fn lossy_headers_at(alloc: Global, head: &[u8], spans: &[HeaderSpan]) -> Result<Headers, Memory>
+    requires { (k : ℕ) (d : _) → k < length spans.now → IsHeaderWithin (length head.now) (slice_index_or spans.now k d) }
+    ensures { IfOk result (λ all. all ≡ map (λ span. headers.header_by (header_bytes head.now span)) spans.now) }
 {
-    Ok(Header {
-        name: lossy_text(alloc, span.name.of(head))?,
-        value: lossy_text(alloc, span.value.of(head))?,
-    })
+    let mut all = Headers::new(alloc);
+    for span in spans {
+        all = all.with(alloc, span.name.of(head), span.value.of(head))?;
+    }
+    Ok(all)
 }
 
-/// The headers at these places of a head.
+/// The headers at these places of a head. A head of ASCII is text as it stands.
 pub(crate) fn headers_at(
     alloc: Global,
     head: &[u8],
@@ -42,33 +44,30 @@ pub(crate) fn headers_at(
     requires { (k : ℕ) (d : _) → k < length spans.now → IsHeaderWithin (length head.now) (slice_index_or spans.now k d) }
     ensures { IfOk result (λ all. all ≡ map (λ span. headers.header_by (header_bytes head.now span)) spans.now) }
 {
-    let mut all = Vec::with_capacity(alloc, spans.len())?;
-    for span in spans {
-        all.push(header_at(alloc, head, *span)?)?;
-    }
-    Ok(Items::from_vec(all))
-}
-
-fn is_named(name: &str, header: &Header) -> bool
-    ensures { result ≡ headers.is_named name.now header.now }
-{
-    header.name.as_bytes().eq_ignore_ascii_case(name.as_bytes())
-}
-
-/// The value of the first header of that name.
-fn first_value<'a>(name: &str, all: &'a [Header]) -> Option<&'a str>
-    ensures { option_map (λ value. value.now) result ≡ headers.first_value name.now all.now }
-{
-    match all.iter().find(|header| is_named(name, *header)) {
-        Some(header) => Some(header.value.as_str()),
-        None => None,
+    if head.is_ascii() {
+        Headers::in_ascii(alloc, head, spans)
+    } else {
+        lossy_headers_at(alloc, head, spans)
     }
 }
 
-fn all_lengths_are(value: &str, all: &[Header]) -> bool
+/// Whether the header at a place is a length, and another one.
+fn has_other_length(value: &str, all: &Headers, at: usize) -> bool
+    requires { at < length all.now }
+    ensures { (d : _) → result ≡ not (headers.is_same_length value.now (slice_index_or all.now at d)) }
+{
+    all.is_named(at, "Content-Length") && all.value(at) != value
+}
+
+fn all_lengths_are(value: &str, all: &Headers) -> bool
     ensures { result ≡ headers.all_lengths_are value.now all.now }
 {
-    all.iter().all(|header| !is_named("Content-Length", header) || header.value.as_str() == value)
+    for at in 0..all.len() {
+        if has_other_length(value, all, at) {
+            return false;
+        }
+    }
+    true
 }
 
 fn are_digits(bytes: &[u8]) -> bool
@@ -93,10 +92,10 @@ fn number_of(value: &str) -> Option<usize>
 
 /// The length of the body, 0 without a Content-Length; none where one isn't 1 to 18 digits, or two differ.
 #[tactic(auto, unfolding(crate::specs::Headers::body_length))]
-pub(crate) fn body_length(all: &[Header]) -> Option<usize>
+pub(crate) fn body_length(all: &Headers) -> Option<usize>
     ensures { result ≡ headers.body_length all.now }
 {
-    let Some(value) = first_value("Content-Length", all) else {
+    let Some(value) = all.first_value("Content-Length") else {
         return Some(0);
     };
     if is_length(value) && all_lengths_are(value, all) {
@@ -107,10 +106,10 @@ pub(crate) fn body_length(all: &[Header]) -> Option<usize>
 }
 
 #[tactic(auto, unfolding(crate::specs::Headers::is_chunked))]
-pub(crate) fn is_chunked(all: &[Header]) -> bool
+pub(crate) fn is_chunked(all: &Headers) -> bool
     ensures { result ≡ headers.is_chunked all.now }
 {
-    first_value("Transfer-Encoding", all).is_some()
+    all.first_value("Transfer-Encoding").is_some()
 }
 
 fn begins_multipart(value: &str) -> bool
@@ -124,10 +123,10 @@ fn begins_multipart(value: &str) -> bool
 }
 
 #[tactic(auto, unfolding(crate::specs::Headers::is_multipart))]
-pub(crate) fn is_multipart(all: &[Header]) -> bool
+pub(crate) fn is_multipart(all: &Headers) -> bool
     ensures { result ≡ headers.is_multipart all.now }
 {
-    match first_value("Content-Type", all) {
+    match all.first_value("Content-Type") {
         Some(value) => begins_multipart(value),
         None => false,
     }

@@ -13,11 +13,13 @@ mod limits;
 mod look;
 mod message;
 mod path;
+mod placed;
 mod reader;
 mod refusal;
 mod taking;
 
 pub use laws::{any_cutting, one_connection, one_message_alone};
-pub use message::{Header, Headers, HttpRefusal, Message, Request, Segments, Verb};
+pub use message::{HttpRefusal, Message, Request, Segments, Verb};
+pub use placed::Headers;
 pub use reader::Reader;
 pub use taking::take_message;

@@ -1,4 +1,4 @@
-ghost use Rattle.std.specs.Prelude.{◌≡◌, ◌≤◌, ◌+◌, Some, None, Ok, length, take, drop, IfOk};
+ghost use Rattle.std.specs.Prelude.{◌≡◌, ◌≢◌, ◌<◌, ◌≤◌, ◌+◌, IsTrue, slice_index, Some, None, Ok, length, take, drop, IfOk};
 ghost use Rattle.http_in.specs.Ends.{head_end};
 ghost use Rattle.http_in.specs.Inside.{IsLook, IsPassed, looked_by};
 ghost use Rattle.http_in.specs.Messages as messages;
@@ -63,6 +63,14 @@ fn window_of(bytes: &[u8]) -> &[u8]
     }
 }
 
+/// Whether one byte has come behind those that are passed, which is no LF, in a head that may go on.
+fn has_one_more(bytes: &[u8], clean: usize) -> bool
+    requires { clean ≤ length bytes.now }
+    ensures { IsTrue result → (length bytes.now ≡ clean + 1) × (length bytes.now < 16384) × (slice_index bytes.now clean ≢ 10) }
+{
+    bytes.len() == clean + 1 && bytes.len() < MOST_HEAD && bytes[clean] != b'\n'
+}
+
 /// Looks for the message that the bytes begin with, behind those that are passed.
 pub(crate) fn look(alloc: Global, bytes: &[u8], clean: usize) -> Result<Looked, Memory>
     requires within { clean ≤ length bytes.now }
@@ -70,6 +78,9 @@ pub(crate) fn look(alloc: Global, bytes: &[u8], clean: usize) -> Result<Looked, 
     requires passed { IsPassed (take clean bytes.now) }
     ensures { IfOk result (λ look. IsLook bytes.now (looked_by look)) }
 {
+    if has_one_more(bytes, clean) {
+        return Ok(Looked::Head(clean + 1));
+    }
     let window = window_of(bytes);
     let rest = window.split_at(clean).1;
     match search(rest) {

@@ -19,6 +19,19 @@ fn drop_front(bytes: &mut Vec<u8>, count: usize)
     bytes.truncate(left);
 }
 
+/// Adds a piece at the end. One byte alone is pushed, which takes less time than a copy.
+fn append(bytes: &mut Vec<u8>, piece: &[u8]) -> Result<(), Memory>
+    ensures ok { OnOk result (bytes.new.items ≡ bytes.old.items ++ piece.now) }
+    ensures err { OnErr result (bytes.new.items ≡ bytes.old.items) }
+{
+    if piece.len() == 1 {
+        bytes.push(piece[0])?;
+    } else {
+        bytes.extend_from_slice(piece)?;
+    }
+    Ok(())
+}
+
 /// A reader of the messages of one stream, which comes in any pieces. It keeps its allocator.
 #[derive(Debug, Drop)]
 pub struct Reader {
@@ -79,7 +92,7 @@ impl Reader {
         ensures most { asked self.old.rest ≡ None → self.new.held < length self.new.taken + most_message + length piece.now }
     {
         self.release();
-        self.bytes.extend_from_slice(piece)?;
+        append(&mut self.bytes, piece)?;
         Ok(())
     }
 

@@ -1,74 +1,13 @@
-ghost use Rattle.std.specs.Prelude.{◌≡◌, ◌+◌, ◌*◌, ◌≤◌, List, ℕ, length, map, take, drop, IfOk, IsTrue};
-ghost use Rattle.std.specs.Int.{w64, from_be_bytes};
+ghost use Rattle.std.specs.Prelude.{◌≡◌, map, IfOk, IsTrue};
 ghost use Rattle.std.specs.List.{IsDistinct};
-ghost use Rattle.std.specs.List.Sorted.{IsStrictlySortedBy};
-ghost use Rattle.std.specs.Ordering.{eq_by_cmp, nat_cmp};
 ghost use Rattle.std.specs.Str.{bytes_eq};
+ghost use Rattle.name_keys.specs.Keys.{name_key};
 ghost use Rattle.zobject.specs.declared.object.Child.{Child as AChild};
-ghost use Rattle.zcodec.specs.Keys.{mixed, words_key, bytes_key, name_key};
 
+use name_keys::{keys_differ, name_key};
 use std::alloc::Global;
 use zbase::Memory;
 use zobject::Child;
-
-/// An odd number, whose product with a word carries each of the word's bits up.
-const FACTOR: u64 = 0x9e37_79b9_7f4a_7c15;
-
-/// How far a product is turned, so that its upper bits count in the next product.
-const TURN: u32 = 29;
-
-/// A key with a word mixed into it.
-#[tactic(auto, unfolding(crate::specs::Keys::mixed))]
-fn mixed(key: u64, word: u64) -> u64
-    ensures { result ≡ mixed key word }
-{
-    key.wrapping_add(word)
-        .wrapping_mul(FACTOR)
-        .rotate_left(TURN)
-}
-
-/// The word of eight bytes at a place.
-fn word_at(bytes: &[u8], at: usize) -> u64
-    requires { at + 8 ≤ length bytes.now }
-    ensures { result ≡ from_be_bytes w64 (take 8 (drop at bytes.now)) }
-{
-    let word = &bytes[at..at + 8];
-    u64::from_be_bytes([
-        word[0], word[1], word[2], word[3], word[4], word[5], word[6], word[7],
-    ])
-}
-
-/// The key of a name's length and so many of its words.
-fn words_key(name: &[u8], words: usize) -> u64
-    requires { 8 * words ≤ length name.now }
-    ensures { result ≡ words_key words name.now }
-{
-    let mut key = name.len() as u64;
-    for word in 0..words {
-        key = mixed(key, word_at(name, 8 * word));
-    }
-    key
-}
-
-/// A key with bytes mixed into it.
-fn bytes_key(start: u64, bytes: &[u8]) -> u64
-    ensures { result ≡ bytes_key start (length bytes.now) bytes.now }
-{
-    let mut key = start;
-    for at in 0..bytes.len() {
-        key = mixed(key, bytes[at] as u64);
-    }
-    key
-}
-
-/// The key of a name.
-#[tactic(auto, unfolding(crate::specs::Keys::name_key))]
-fn name_key(name: &[u8]) -> u64
-    ensures { result ≡ name_key name.now }
-{
-    let words = name.len() / 8;
-    bytes_key(words_key(name, words), &name[8 * words..])
-}
 
 /// The keys of the names of children.
 fn keys_of(alloc: Global, children: &[Child]) -> Result<Vec<u64>, Memory>
@@ -79,26 +18,6 @@ fn keys_of(alloc: Global, children: &[Child]) -> Result<Vec<u64>, Memory>
         keys.push(name_key(child.name.as_bytes()))?;
     }
     Ok(keys)
-}
-
-/// Whether each key is below the next one.
-fn keys_rise(keys: &[u64]) -> bool
-    ensures { IsTrue result → IsStrictlySortedBy nat_cmp keys.now }
-{
-    for later in 1..keys.len() {
-        if keys[later - 1] >= keys[later] {
-            return false;
-        }
-    }
-    true
-}
-
-/// Whether each key stands there once. It sorts them.
-fn keys_differ(keys: &mut [u64]) -> bool
-    ensures { IsTrue result → IsDistinct (eq_by_cmp nat_cmp) keys.old }
-{
-    keys.sort_unstable();
-    keys_rise(keys)
 }
 
 /// Whether the keys of children's names differ, so that the names do.

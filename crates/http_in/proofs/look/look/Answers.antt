@@ -4,6 +4,7 @@ use Rattle.http_in.specs.Ends.{head_end}
 use Rattle.http_in.specs.Inside.{IsPassed}
 use Rattle.http_in.specs.EndLaws.{end_stands, passed_on}
 use Rattle.http_in.specs.MessageLaws.{end_behind, none_behind, none_yet, too_large}
+use Rattle.http_in.proofs.Readers.{one_passed}
 use Rattle.http_in.proofs.look.look.Goals as goal
 
 pub overflow_add-clean : goal.overflow_add-clean
@@ -35,3 +36,6 @@ returns-else-bytes-lt-MOST_HEAD c =
 
 pub split_at-requires : goal.split_at-requires
 split_at-requires c = rw c.window_of-window.ensures (omega (arith, length-take 16384 c.args.bytes.now, c.requires.within, c.requires.most))
+
+pub returns-then-has_one_more : goal.returns-then-has_one_more
+returns-then-has_one_more c = one_passed c.args.bytes.now c.args.clean c.requires.passed (c.has_one_more.ensures c.if-has_one_more.true)

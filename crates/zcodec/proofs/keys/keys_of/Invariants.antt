@@ -1,6 +1,6 @@
 use Rattle.std.proofs.Common.{◌≡◌, map, take}
 use Rattle.zobject.specs.declared.object.Child.{Child}
-use Rattle.zcodec.specs.Keys.{name_key}
+use Rattle.name_keys.specs.Keys.{name_key}
 use Rattle.zcodec.proofs.keys.keys_of.Given as goal
 
 -- the keys so far

@@ -1,7 +1,7 @@
 use Rattle.std.proofs.Common.{◌∙◌, ap, refl, sym, arith, slice_index_or}
-use Rattle.zcodec.specs.Keys.{mixed, bytes_key}
-use Rattle.zcodec.proofs.Told.{bytes_more}
-use Rattle.zcodec.proofs.keys.bytes_key.Goals as goal
+use Rattle.name_keys.specs.Keys.{mixed, bytes_key}
+use Rattle.name_keys.proofs.Mixing.{bytes_more}
+use Rattle.name_keys.proofs.keys.bytes_key.Goals as goal
 
 pub loop-at-init : goal.loop-at-init
 unfolding bytes_key

@@ -1,7 +1,7 @@
 use Rattle.std.proofs.Common.{◌∙◌, ap, ap₂, refl, sym, arith}
-use Rattle.zcodec.specs.Keys.{mixed, words_key}
-use Rattle.zcodec.proofs.Told.{words_more}
-use Rattle.zcodec.proofs.keys.words_key.Goals as goal
+use Rattle.name_keys.specs.Keys.{mixed, words_key}
+use Rattle.name_keys.proofs.Mixing.{words_more}
+use Rattle.name_keys.proofs.keys.words_key.Goals as goal
 
 pub loop-word-init : goal.loop-word-init
 unfolding words_key

@@ -1,6 +1,6 @@
 use Rattle.std.proofs.Common.{◌≡◌, ◌+◌, ◌-◌, ◌<◌, sym, subst, arith, below_more, slice_index_or}
 use Rattle.std.proofs.lemmas.Map.Keys.{sorted_from_strictly_increasing}
-use Rattle.zcodec.proofs.keys.keys_rise.Goals as goal
+use Rattle.name_keys.proofs.keys.keys_rise.Goals as goal
 
 pub loop-later-init : goal.loop-later-init
 loop-later-init c = λ k h. absurd (omega arith)

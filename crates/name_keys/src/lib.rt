@@ -1,0 +1,8 @@
+//! Keys of names: numbers of 64 bits, which sort faster than the names, and tell that they differ.
+//!
+//! `specs/Keys` says what a name's key is, and `specs/KeyLaws` that names with different keys differ.
+#![tactic(auto)]
+
+mod keys;
+
+pub use keys::{keys_differ, name_key};
