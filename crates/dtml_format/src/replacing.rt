@@ -72,10 +72,16 @@ fn near_staying_len(mark: Mark, bytes: &[u8]) -> usize
     bytes.iter().take_while(|byte| mark.stays(**byte)).count()
 }
 
-/// How many bytes at the front stay as they are.
+/// How many bytes at the front stay as they are. The first one is looked at by itself, since bytes that change often stand
+/// together, as at the end of a line.
 fn staying_len(mark: Mark, bytes: &[u8]) -> usize
     ensures { result ≡ prefix_len (stays mark) bytes.now }
 {
+    if let Some(byte) = bytes.first()
+        && !mark.stays(*byte)
+    {
+        return 0;
+    }
     let mut at = 0;
     while BLOCK <= bytes.len() - at {
         let changed = mark.changed_among(u8x32::from_slice(&bytes[at..]));
