@@ -1,12 +1,16 @@
-ghost use Rattle.std.specs.Prelude.{◌≡◌, ℕ, true, IfOk};
+ghost use Rattle.std.specs.Prelude.{◌≡◌, ◌++◌, ℕ, true, IfOk, OnOk};
+ghost use Rattle.std.specs.List.{filter, list_any};
 ghost use Rattle.acquisition.specs.Acquiring.{IsOnce, has, joined};
-ghost use Rattle.acquisition.specs.Marks.{AreMarked};
+ghost use Rattle.acquisition.specs.Marks.{AreMarked, is_marked, others};
 
 use std::alloc::Global;
 use zbase::{Items, Memory, Oid, Oids};
 
 // How many marks there are: so many that those of a path leave most other objects unmarked.
-const MARKS: usize = 1024;
+const MARKS: usize = 8192;
+
+// How many objects are looked at together.
+const BLOCK: usize = 32;
 
 /// The same objects in a list of their own.
 pub(crate) fn list_of(alloc: Global, oids: &[Oid]) -> Result<Oids, Memory>
@@ -28,6 +32,17 @@ fn marks_of(path: &[Oid]) -> [bool; MARKS]
     marks
 }
 
+// Whether one of the objects is marked. It goes on behind one that is, so that there is no branch for each.
+fn any_is_marked(marks: &[bool; MARKS], oids: &[Oid]) -> bool
+    ensures { result ≡ list_any (is_marked marks.now) oids.now }
+{
+    let mut any = false;
+    for oid in oids {
+        any |= marks[oid.0 as usize % MARKS];
+    }
+    any
+}
+
 // Whether the object is on the path, which has these marks.
 fn is_on(path: &[Oid], marks: &[bool; MARKS], oid: Oid) -> bool
     requires { AreMarked marks.now path.now }
@@ -36,17 +51,54 @@ fn is_on(path: &[Oid], marks: &[bool; MARKS], oid: Oid) -> bool
     marks[oid.0 as usize % MARKS] && path.contains(&oid)
 }
 
+// Puts those objects of a block that aren't on the path, one by one.
+fn push_others(
+    out: &mut Vec<Oid>,
+    path: &[Oid],
+    marks: &[bool; MARKS],
+    block: &[Oid],
+) -> Result<(), Memory>
+    requires { AreMarked marks.now path.now }
+    ensures { OnOk result (out.new.items ≡ out.old.items ++ others path.now block.now) }
+{
+    for oid in block {
+        if !is_on(path, marks, *oid) {
+            out.push(*oid)?;
+        }
+    }
+    Ok(())
+}
+
+// The same, in one piece where no object of the block is marked.
+fn put_others(
+    out: &mut Vec<Oid>,
+    path: &[Oid],
+    marks: &[bool; MARKS],
+    block: &[Oid],
+) -> Result<(), Memory>
+    requires { AreMarked marks.now path.now }
+    ensures { OnOk result (out.new.items ≡ out.old.items ++ others path.now block.now) }
+{
+    if any_is_marked(marks, block) {
+        return push_others(out, path, marks, block);
+    }
+    out.extend_from_slice(block)?;
+    Ok(())
+}
+
 /// The objects of a path, and behind them those of the order that aren't on it.
 pub(crate) fn join(alloc: Global, path: &[Oid], order: &[Oid]) -> Result<Oids, Memory>
     requires { IsOnce order.now }
     ensures { IfOk result (λ list. list ≡ joined path.now order.now) }
 {
     let marks = marks_of(path);
-    let mut out = list_of(alloc, path)?;
-    for oid in order {
-        if !is_on(path, &marks, *oid) {
-            out.push(*oid)?;
-        }
+    let mut out = Vec::with_capacity(alloc, path.len() + order.len())?;
+    out.extend_from_slice(path)?;
+    let mut rest = order;
+    while !rest.is_empty() {
+        let (block, behind) = rest.split_at(rest.len().min(BLOCK));
+        put_others(&mut out, path, &marks, block)?;
+        rest = behind;
     }
-    Ok(out)
+    Ok(Items::from_vec(out))
 }

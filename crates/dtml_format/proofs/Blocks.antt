@@ -1,35 +1,14 @@
--- Whole blocks at the front of a text.
-use Rattle.std.proofs.Common.{◌≡◌, ℕ, zero, suc, ◌+◌, ◌-◌, ◌<◌, ◌≤◌, ◌&&◌, Bool, true, false, cond, List, [], ◌∷◌, ◌++◌, length, get_or, take, drop, refl, sym, ap, ◌∙◌, append_assoc, arith, nat_lt, if◌then◌else◌}
-use Rattle.std.specs.List.{list_all, prefix_len}
+-- Whole blocks at the front of a text, and the characters that begin in them.
+use Rattle.std.proofs.Common.{◌≡◌, ℕ, zero, suc, ◌+◌, ◌-◌, ◌<◌, ◌≤◌, Bool, true, false, List, [], ◌∷◌, ◌++◌, length, get_or, take, drop, refl, sym, ap, ◌∙◌, append_assoc, arith, nat_lt, if◌then◌else◌}
 use Rattle.std.specs.Str.{IsCharBoundary}
 use Rattle.std.proofs.lemmas.Bool.Decides.{nat_tests}
 use Rattle.std.proofs.lemmas.List.{take-append-drop, length-take, length-drop, drop-drop, get_or-drop, take_all, take_more}
 use mir.Val.{bool_byte}
 use Rattle.dtml_format.specs.Shaping.{begins, first_chars, chars}
 
-both : (a b : Bool) → (a && b) ≡ true → (a ≡ true) × (b ≡ true)
-both true b e = (refl, e)
-both false b e = absurd (let bad = e in cc)
-
--- ---- bytes that stay
-
-passed : (p : ℕ → Bool) (ys zs : List ℕ) → list_all p ys ≡ true → prefix_len p (ys ++ zs) ≡ length ys + prefix_len p zs
-passed p [] zs all = omega arith
-passed p (y ∷ ys) zs all =
-    let h = both (p y) (list_all p ys) all in
-    let rest = passed p ys zs h.1 in
-    ap (λ t. cond t (1 + prefix_len p (ys ++ zs)) 0) h.0 ∙ omega (arith, rest)
-
 parts : (at n : ℕ) (xs : List ℕ) → at + n ≤ length xs → (drop at xs ≡ take n (drop at xs) ++ drop (at + n) xs) × (length (take n (drop at xs)) ≡ n)
 parts at n xs le =
     (sym (take-append-drop n (drop at xs)) ∙ ap (λ r. take n (drop at xs) ++ r) (drop-drop n at xs), omega (arith, length-take n (drop at xs), length-drop at xs))
-
--- a block that stays as it is
-pub block_stays : (p : ℕ → Bool) (xs : List ℕ) (at n total : ℕ) → at + n ≤ length xs → list_all p (take n (drop at xs)) ≡ true → total ≡ at + prefix_len p (drop at xs) → total ≡ (at + n) + prefix_len p (drop (at + n) xs)
-block_stays p xs at n total le all is =
-    let cut = parts at n xs le in
-    let one : prefix_len p (drop at xs) ≡ n + prefix_len p (drop (at + n) xs) = ap (prefix_len p) cut.0 ∙ passed p (take n (drop at xs)) (drop (at + n) xs) all ∙ ap (λ k. k + prefix_len p (drop (at + n) xs)) cut.1 in
-    omega (arith, one, is)
 
 -- ---- characters
 

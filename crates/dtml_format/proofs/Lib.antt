@@ -1,4 +1,5 @@
 pub mod Escapes
+pub mod Looks
 pub mod Runs
 pub mod Blocks
 pub mod Sizes

@@ -9,7 +9,11 @@ abbrev pub byte_of : Mark → ℕ → List ℕ
 byte_of Html b = html_byte b
 byte_of Lines b = line_byte b
 
+-- whether a mark changes a byte
+abbrev pub changes : Mark → ℕ → Bool
+changes Html b = b == 38 || b == 60 || b == 62 || b == 34
+changes Lines b = b == 13 || b == 10
+
 -- whether a byte stays as it is
 abbrev pub stays : Mark → ℕ → Bool
-stays Html b = not (b == 38 || b == 60 || b == 62 || b == 34)
-stays Lines b = not (b == 13 || b == 10)
+stays mark b = not (changes mark b)

@@ -1,12 +1,10 @@
-use Rattle.std.proofs.Common.{◌≡◌, drop}
-use Rattle.acquisition.specs.Acquiring.{IsOnce, joined}
-use Rattle.acquisition.proofs.Joining.{OnlyPath}
+use Rattle.std.proofs.Common.{◌≡◌, ◌++◌, length}
+use Rattle.acquisition.specs.Marks.{others}
 use Rattle.acquisition.proofs.join.join.Given as goal
 
--- what is left comes behind those so far, and is told from them by the path alone
-abbrev pub invariant-loop-oid : goal.invariant-loop-oid
-invariant-loop-oid l = record {
-  same : joined l.out (drop l.oid-index l.order) ≡ joined l.fn.path l.fn.order;
-  once : IsOnce (drop l.oid-index l.order);
-  only : OnlyPath l.fn.path l.out (drop l.oid-index l.order);
-}
+-- what was put, and those of the rest that aren't on the path
+abbrev pub invariant-loop-rest : goal.invariant-loop-rest
+invariant-loop-rest l = l.out.items ++ others l.path l.rest ≡ l.fn.path ++ others l.fn.path l.fn.order
+
+abbrev pub decreases-loop-rest : goal.decreases-loop-rest
+decreases-loop-rest l = length l.rest
