@@ -1,8 +1,8 @@
 -- Laws of the least common role.
-use Rattle.std.proofs.Common.{ℕ, ◌≡◌, ◌∙◌, ◌||◌, refl, sym, ap, subst, Bool, true, false, cond, if◌then◌else◌, List, [], ◌∷◌, Option, None, Some}
+use Rattle.std.proofs.Common.{ℕ, ◌≡◌, ◌∙◌, ◌||◌, refl, sym, ap, subst, Bool, true, false, cond, if◌then◌else◌, List, [], ◌∷◌, Option, None, Some, Ordering, Less, Equal, Greater}
 use Rattle.std.specs.List.{filter}
 use Rattle.std.specs.Str.{bytes_eq}
-use Rattle.std.specs.Ordering.{Ordering, Less, Equal, Greater, nat_cmp, is_lt, ordering_reverse}
+use Rattle.std.specs.Ordering.{nat_cmp, is_lt, ordering_reverse}
 use Rattle.std.specs.Cmp.Lexicographic.{slice_cmp}
 use Rattle.std.proofs.lemmas.Cmp.{nat_list_cmp_total}
 use Rattle.std.proofs.lemmas.Slice.Eq.{bytes_eq-Decides}
@@ -68,81 +68,93 @@ first_among : (a : Role) (rest : List Role) → is_among (a ∷ rest) a ≡ true
 first_among a rest = ap (λ b. b || is_among rest a) (same_itself a)
 
 module _ (mine : List Role) where
-  filtered : Bool → Role → List Role → List Role
+  abbrev filtered : Bool → Role → List Role → List Role
   filtered b g gs = cond b (g ∷ filter (is_among mine) gs) (filter (is_among mine) gs)
 
-  pub are_both : (given : List Role) (role : Role) → is_among (filter (is_among mine) given) role ≡ true → (is_among given role ≡ true) × (is_among mine role ≡ true)
-  are_both [] role t = absurd (let bad = t in cc)
-  are_both (g ∷ gs) role t = at (is_among mine g) refl t
-    where
-      here : (b : Bool) → bytes_eq role g ≡ b → is_among mine g ≡ true → (b || is_among (filter (is_among mine) gs) role) ≡ true → ((b || is_among gs role) ≡ true) × (is_among mine role ≡ true)
-      here true e m t = (refl, subst (λ r. is_among mine r ≡ true) (sym (same role g e)) m)
-      here false e m t = are_both gs role t
+  abbrev Both : List Role → Role → Type 0
+  Both given role = (is_among given role ≡ true) × (is_among mine role ≡ true)
 
-      at : (b : Bool) → is_among mine g ≡ b → is_among (filtered b g gs) role ≡ true → (is_among (g ∷ gs) role ≡ true) × (is_among mine role ≡ true)
-      at true m t = here (bytes_eq role g) refl m t
-      at false m t = let both = are_both gs role t in (or_right (bytes_eq role g) (is_among gs role) both.0, both.1)
+  pub are_both : (given : List Role) (role : Role) → is_among (filter (is_among mine) given) role ≡ true → Both given role
+  are_both [] role t = absurd (let bad = t in cc)
+  are_both (g ∷ gs) role t = at (is_among mine g) refl t (λ t. are_both gs role t)
+    where
+      Deeper : Type 0
+      Deeper = is_among (filter (is_among mine) gs) role ≡ true → Both gs role
+
+      or_further : Both gs role → Both (g ∷ gs) role
+      or_further both = (or_right (bytes_eq role g) (is_among gs role) both.0, both.1)
+
+      here : (b : Bool) → bytes_eq role g ≡ b → is_among mine g ≡ true → (b || is_among (filter (is_among mine) gs) role) ≡ true → Deeper → Both (g ∷ gs) role
+      here true e m t deeper = (ap (λ b. b || is_among gs role) e, subst (λ r. is_among mine r ≡ true) (sym (same role g e)) m)
+      here false e m t deeper = or_further (deeper t)
+
+      at : (b : Bool) → is_among mine g ≡ b → is_among (filtered b g gs) role ≡ true → Deeper → Both (g ∷ gs) role
+      at true m t deeper = here (bytes_eq role g) refl m t deeper
+      at false m t deeper = or_further (deeper t)
 
   in_both : (given : List Role) (role : Role) → is_among given role ≡ true → is_among mine role ≡ true → is_among (filter (is_among mine) given) role ≡ true
   in_both [] role g m = g
-  in_both (x ∷ xs) role g m = here (bytes_eq role x) refl g
+  in_both (x ∷ xs) role g m = here (bytes_eq role x) refl g (λ g. in_both xs role g m)
     where
       further : (b : Bool) → is_among (filter (is_among mine) xs) role ≡ true → is_among (filtered b x xs) role ≡ true
       further true t = or_right (bytes_eq role x) _ t
       further false t = t
 
-      here : (b : Bool) → bytes_eq role x ≡ b → (b || is_among xs role) ≡ true → is_among (filtered (is_among mine x) x xs) role ≡ true
-      here true e g = subst (λ b. is_among (filtered b x xs) role ≡ true) (sym (subst (λ r. is_among mine r ≡ true) (same role x e) m)) (ap (λ b. b || is_among (filter (is_among mine) xs) role) e)
-      here false e g = further (is_among mine x) (in_both xs role g m)
+      here : (b : Bool) → bytes_eq role x ≡ b → (b || is_among xs role) ≡ true → (is_among xs role ≡ true → is_among (filter (is_among mine) xs) role ≡ true) → is_among (filtered (is_among mine x) x xs) role ≡ true
+      here true e g deeper = subst (λ b. is_among (filtered b x xs) role ≡ true) (sym (subst (λ r. is_among mine r ≡ true) (same role x e) m)) (ap (λ b. b || is_among (filter (is_among mine) xs) role) e)
+      here false e g deeper = further (is_among mine x) (deeper g)
 
 -- ---- the least
 
+unsome : (a b : Role) → Some a ≡ Some b → a ≡ b
+unsome a b e = cc
+
 pub least_is_among : (xs : List Role) (role : Role) → least xs ≡ Some role → is_among xs role ≡ true
 least_is_among [] role e = absurd (let bad = e in cc)
-least_is_among (x ∷ xs) role e = at (least xs) refl e
+least_is_among (x ∷ xs) role e = at (least xs) refl e (λ best is. least_is_among xs best is)
   where
-    unsome : (a b : Role) → Some a ≡ Some b → a ≡ b
-    unsome a b e = cc
+    Deeper : Type 0
+    Deeper = (best : Role) → least xs ≡ Some best → is_among xs best ≡ true
 
-    by : (best : Role) (b : Bool) → least xs ≡ Some best → (if b then best else x) ≡ role → is_among (x ∷ xs) role ≡ true
-    by best true is e = subst (λ r. is_among (x ∷ xs) r ≡ true) e (or_right (bytes_eq best x) (is_among xs best) (least_is_among xs best is))
-    by best false is e = subst (λ r. is_among (x ∷ xs) r ≡ true) e (first_among x xs)
+    by : (best : Role) (b : Bool) → least xs ≡ Some best → Deeper → (if b then best else x) ≡ role → is_among (x ∷ xs) role ≡ true
+    by best true is deeper e = subst (λ r. is_among (x ∷ xs) r ≡ true) e (or_right (bytes_eq best x) (is_among xs best) (deeper best is))
+    by best false is deeper e = subst (λ r. is_among (x ∷ xs) r ≡ true) e (first_among x xs)
 
-    at : (o : Option Role) → least xs ≡ o → Some (lesser x o) ≡ Some role → is_among (x ∷ xs) role ≡ true
-    at None is e = subst (λ r. is_among (x ∷ xs) r ≡ true) (unsome x role e) (first_among x xs)
-    at (Some best) is e = by best (comes_before best x) is (unsome (lesser x (Some best)) role e)
+    at : (o : Option Role) → least xs ≡ o → Some (lesser x o) ≡ Some role → Deeper → is_among (x ∷ xs) role ≡ true
+    at None is e deeper = subst (λ r. is_among (x ∷ xs) r ≡ true) (unsome x role e) (first_among x xs)
+    at (Some best) is e deeper = by best (comes_before best x) is deeper (unsome (lesser x (Some best)) role e)
+
+none_among : (ys : List Role) (other : Role) → least ys ≡ None → is_among ys other ≡ true → ⊥
+none_among [] other is t = (let bad = t in cc)
+none_among (y ∷ ys) other is t = (let bad = is in cc)
 
 pub least_is_first : (xs : List Role) (role other : Role) → least xs ≡ Some role → is_among xs other ≡ true → comes_before other role ≡ false
 least_is_first [] role other e t = absurd (let bad = e in cc)
-least_is_first (x ∷ xs) role other e t = at (least xs) refl e
+least_is_first (x ∷ xs) role other e t = at (least xs) refl e (λ best is t. least_is_first xs best other is t)
   where
-    unsome : (a b : Role) → Some a ≡ Some b → a ≡ b
-    unsome a b e = cc
-
-    none_left : (ys : List Role) → least ys ≡ None → is_among ys other ≡ true → ⊥
-    none_left [] is t = (let bad = t in cc)
-    none_left (y ∷ ys) is t = (let bad = is in cc)
+    Deeper : Type 0
+    Deeper = (best : Role) → least xs ≡ Some best → is_among xs other ≡ true → comes_before other best ≡ false
 
     -- the least of those behind comes before x, or it doesn't
-    is_best : (best : Role) → least xs ≡ Some best → comes_before best x ≡ true → (b : Bool) → bytes_eq other x ≡ b → (b || is_among xs other) ≡ true → comes_before other best ≡ false
-    is_best best is before true same_x t = subst (λ r. comes_before r best ≡ false) (sym (same other x same_x)) (not_both_ways best x before)
-    is_best best is before false same_x t = least_is_first xs best other is t
+    is_best : (best : Role) → least xs ≡ Some best → Deeper → comes_before best x ≡ true → (b : Bool) → bytes_eq other x ≡ b → (b || is_among xs other) ≡ true → comes_before other best ≡ false
+    is_best best is deeper before true here t = subst (λ r. comes_before r best ≡ false) (sym (same other x here)) (not_both_ways best x before)
+    is_best best is deeper before false here t = deeper best is t
 
-    is_x : (best : Role) → least xs ≡ Some best → comes_before best x ≡ false → (b : Bool) → bytes_eq other x ≡ b → (b || is_among xs other) ≡ true → comes_before other x ≡ false
-    is_x best is not true same_x t = subst (λ r. comes_before r x ≡ false) (sym (same other x same_x)) (not_before_itself x)
-    is_x best is not false same_x t = before_neither other x best (least_is_first xs best other is t) not
+    is_x : (best : Role) → least xs ≡ Some best → Deeper → comes_before best x ≡ false → (b : Bool) → bytes_eq other x ≡ b → (b || is_among xs other) ≡ true → comes_before other x ≡ false
+    is_x best is deeper not true here t = subst (λ r. comes_before r x ≡ false) (sym (same other x here)) (not_before_itself x)
+    is_x best is deeper not false here t = before_neither other x best (deeper best is t) not
 
     is_only : least xs ≡ None → (b : Bool) → bytes_eq other x ≡ b → (b || is_among xs other) ≡ true → comes_before other x ≡ false
-    is_only is true same_x t = subst (λ r. comes_before r x ≡ false) (sym (same other x same_x)) (not_before_itself x)
-    is_only is false same_x t = absurd (none_left xs is t)
+    is_only is true here t = subst (λ r. comes_before r x ≡ false) (sym (same other x here)) (not_before_itself x)
+    is_only is false here t = absurd (none_among xs other is t)
 
-    by : (best : Role) (b : Bool) → comes_before best x ≡ b → least xs ≡ Some best → (if b then best else x) ≡ role → comes_before other role ≡ false
-    by best true before is e = subst (λ r. comes_before other r ≡ false) e (is_best best is before (bytes_eq other x) refl t)
-    by best false not is e = subst (λ r. comes_before other r ≡ false) e (is_x best is not (bytes_eq other x) refl t)
+    by : (best : Role) (b : Bool) → comes_before best x ≡ b → least xs ≡ Some best → Deeper → (if b then best else x) ≡ role → comes_before other role ≡ false
+    by best true before is deeper e = subst (λ r. comes_before other r ≡ false) e (is_best best is deeper before (bytes_eq other x) refl t)
+    by best false not is deeper e = subst (λ r. comes_before other r ≡ false) e (is_x best is deeper not (bytes_eq other x) refl t)
 
-    at : (o : Option Role) → least xs ≡ o → Some (lesser x o) ≡ Some role → comes_before other role ≡ false
-    at None is e = subst (λ r. comes_before other r ≡ false) (unsome x role e) (is_only is (bytes_eq other x) refl t)
-    at (Some best) is e = by best (comes_before best x) refl is (unsome (lesser x (Some best)) role e)
+    at : (o : Option Role) → least xs ≡ o → Some (lesser x o) ≡ Some role → Deeper → comes_before other role ≡ false
+    at None is e deeper = subst (λ r. comes_before other r ≡ false) (unsome x role e) (is_only is (bytes_eq other x) refl t)
+    at (Some best) is e deeper = by best (comes_before best x) refl is deeper (unsome (lesser x (Some best)) role e)
 
 pub common_given : (mine given : List Role) (role : Role) → least_common mine given ≡ Some role → (is_among given role ≡ true) × (is_among mine role ≡ true)
 common_given mine given role e = are_both mine given role (least_is_among (filter (is_among mine) given) role e)

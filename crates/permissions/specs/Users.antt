@@ -48,6 +48,10 @@ abbrev pub granted_user : ℕ → List ℕ → Option Who → Shapes Fault (Opti
 granted_user permission path None = Done None
 granted_user permission path (Some user) = judged user permission path >>= λ verdict. Done (if_granted user verdict)
 
+-- the user of that name and password in a folder's user folder, where he is granted it
+unfoldable pub taken_at : Credentials → ℕ → List ℕ → ℕ → Shapes Fault (Option Who)
+taken_at credentials permission path folder = user_at credentials folder >>= granted_user permission path
+
 abbrev pub or_further : Option Who → Shapes Fault Who → Shapes Fault Who
 or_further None further = further
 or_further (Some user) further = Done user
@@ -56,8 +60,7 @@ or_further (Some user) further = Done user
 unfoldable pub sought : Credentials → ℕ → List ℕ → List ℕ → Shapes Fault Who
 sought credentials permission path [] = Done Anonymous
 sought credentials permission path (folder ∷ folders) = do
-  found ← user_at credentials folder
-  user ← granted_user permission path found
+  user ← taken_at credentials permission path folder
   or_further user (sought credentials permission path folders)
 
 -- the folders from an object upwards: those of its path, it among them where it is one

@@ -14,7 +14,7 @@ use Rattle.permissions.specs.declared.who.Who.TheVariants.{Anonymous, Known}
 use Rattle.permissions.specs.declared.who.Verdict.TheVariants.{Granted, Denied}
 use Rattle.permissions.specs.Roles.{roles, local_roles, locals_on, has}
 use Rattle.permissions.specs.Verdicts.{judged, verdict_on, least_common, acting}
-use Rattle.permissions.specs.Users.{who, known_user, sought, user_at}
+use Rattle.permissions.specs.Users.{who, known_user, sought, taken_at, user_at}
 
 held : ℕ → List Setting → List Local → Form → Seen Shape
 held parent settings locals form = Here (record { id = []; parent = parent; settings = settings; locals = locals; names = []; form = form })
@@ -85,24 +85,24 @@ proxy_views = refl
 -- ---- the user of a request
 
 ann_is_found : run site (who (Some (codes "ann", codes "secret")) 3 1) ≡ Ok (Known (codes "ann") [] 0)
-unfolding site held lists sets named known_user sought user_at containers upwards judged roles has locals_on local_roles encode_symbols sha1 digest_bytes hash_after compress rounds schedule first_words
+unfolding site held lists sets named known_user sought taken_at user_at containers upwards judged roles has locals_on local_roles encode_symbols sha1 digest_bytes hash_after compress rounds schedule first_words
 ann_is_found = refl
 
 -- a permission that isn't granted, another password, a user of another branch, and no credentials
 others_are_not : map (λ (c : Option (List ℕ × List ℕ)). run site (who c 3 1)) (Some (codes "ann", codes "Secret") ∷ Some (codes "eve", codes "secret") ∷ None ∷ []) ≡ Ok Anonymous ∷ Ok Anonymous ∷ Ok Anonymous ∷ []
-unfolding site held lists sets named known_user sought user_at containers upwards judged roles has locals_on local_roles encode_symbols sha1 digest_bytes hash_after compress rounds schedule first_words
+unfolding site held lists sets named known_user sought taken_at user_at containers upwards judged roles has locals_on local_roles encode_symbols sha1 digest_bytes hash_after compress rounds schedule first_words
 others_are_not = refl
 
 not_for_managing : run site (who (Some (codes "ann", codes "secret")) 3 9) ≡ Ok Anonymous
-unfolding site held lists sets named known_user sought user_at containers upwards judged roles has locals_on local_roles encode_symbols sha1 digest_bytes hash_after compress rounds schedule first_words
+unfolding site held lists sets named known_user sought taken_at user_at containers upwards judged roles has locals_on local_roles encode_symbols sha1 digest_bytes hash_after compress rounds schedule first_words
 not_for_managing = refl
 
 -- a call on a folder begins at the folder itself
 eve_at_home : run site (who (Some (codes "eve", codes "secret")) 5 9) ≡ Ok (Known (codes "eve") (codes "Manager" ∷ []) 5)
-unfolding site held lists sets named known_user sought user_at containers upwards judged roles has locals_on local_roles encode_symbols sha1 digest_bytes hash_after compress rounds schedule first_words
+unfolding site held lists sets named known_user sought taken_at user_at containers upwards judged roles has locals_on local_roles encode_symbols sha1 digest_bytes hash_after compress rounds schedule first_words
 eve_at_home = refl
 
 -- a user folder on the way that is no record
 no_record_on_the_way : run site (who (Some (codes "ann", codes "secret")) 8 1) ≡ Err (Cause (Broken 9))
-unfolding site held lists sets named known_user sought user_at containers upwards judged roles has locals_on local_roles
+unfolding site held lists sets named known_user sought taken_at user_at containers upwards judged roles has locals_on local_roles
 no_record_on_the_way = refl

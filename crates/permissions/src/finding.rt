@@ -43,6 +43,7 @@ fn known_at(alloc: Global, home: Oid, user: Option<&User>) -> Result<Option<Who>
     Ok(Some(Who::Known { name, roles, home }))
 }
 
+#[tactic(auto, using(crate::proofs::Steps::goes, crate::proofs::Steps::passes), unfolding(zobject::specs::Shapes::shape_of))]
 fn user_under(
     alloc: Global,
     known: &Known,
@@ -61,6 +62,7 @@ fn user_under(
 }
 
 // The user of that name and password in a folder's user folder.
+#[tactic(auto, using(crate::proofs::Steps::goes_so, crate::proofs::Steps::passes), unfolding(crate::specs::Users::user_at, zobject::specs::Shapes::shape_of))]
 fn user_at(
     alloc: Global,
     known: &Known,
@@ -94,7 +96,25 @@ fn granted_user(
     }
 }
 
+// The user of that name and password in a folder's user folder, where he is granted it.
+#[tactic(auto, using(crate::proofs::Steps::goes, crate::proofs::Steps::passes), unfolding(crate::specs::Users::taken_at))]
+fn taken_at(
+    alloc: Global,
+    known: &Known,
+    credentials: &(Text, Text),
+    path: &[Oid],
+    permission: u8,
+    folder: Oid,
+) -> Result<Option<Who>, AqRefusal>
+    requires { AllByRecursion (IsHere (shapes known.now)) path.now }
+    ensures { Answers acquiring.told (λ who. who) result (run (shapes known.now) (spec.taken_at credentials.now permission path.now folder)) }
+{
+    let found = user_at(alloc, known, credentials, folder)?;
+    Ok(granted_user(alloc, known, path, permission, found)?)
+}
+
 // The first of these folders decides that has a user who is granted it.
+#[tactic(auto, unfolding(crate::specs::Users::sought))]
 fn seek(
     alloc: Global,
     known: &Known,
@@ -107,8 +127,8 @@ fn seek(
     ensures { Answers acquiring.told (λ who. who) result (run (shapes known.now) (spec.sought credentials.now permission path.now folders.now)) }
 {
     for folder in folders {
-        let found = user_at(alloc, known, credentials, *folder)?;
-        if let Some(user) = granted_user(alloc, known, path, permission, found)? {
+        let taken = taken_at(alloc, known, credentials, path, permission, *folder)?;
+        if let Some(user) = taken {
             return Ok(user);
         }
     }
@@ -128,6 +148,8 @@ fn folders_of<'a>(part: &Part2, path: &'a [Oid]) -> &'a [Oid]
     }
 }
 
+// The user of that name and password who needs this permission on this object.
+#[tactic(auto, using(crate::proofs::Steps::goes_told, crate::proofs::Steps::passes), unfolding(crate::specs::Users::known_user, zobject::specs::Shapes::shape_of))]
 fn find_known(
     alloc: Global,
     known: &Known,

@@ -34,6 +34,7 @@ fn with_roles(alloc: Global, roles: &[Text]) -> Result<Option<Who>, Memory>
 /// name who has them everywhere; no one where it has none, so that the user stays who he is.
 ///
 /// The one error is want of memory. Zope Book, "Users and Security": proxy roles.
+#[tactic(auto, unfolding(zobject::specs::Shapes::shape_of))]
 pub fn acting(alloc: Global, object: &Object) -> Result<Option<Who>, Memory>
     ensures is { IfOk result (λ other. other ≡ spec.proxy_user (shape_of object.now)) }
     ensures acts { IfOk result (λ other. (user : Who) → spec.or_user user other ≡ spec.acting user (shape_of object.now)) }

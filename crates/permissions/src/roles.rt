@@ -82,7 +82,7 @@ fn append_default(alloc: Global, roles: &mut Roles, permission: u8) -> Result<()
 ///
 /// The path is the object and its containers up to the root, each of which must be here. The nearest setting decides, and
 /// those above it only where it acquires. The one error is want of memory. Zope Book, "Users and Security".
-#[tactic(auto, using(crate::proofs::Steps::says_nothing), unfolding(crate::specs::Roles::roles))]
+#[tactic(auto, unfolding(crate::specs::Roles::roles))]
 pub fn roles_for(
     alloc: Global,
     known: &Known,

@@ -93,6 +93,7 @@ pub fn verdict(
 }
 
 /// Whether a user has a permission on an object; or why the object has no path to the root.
+#[tactic(auto, using(crate::proofs::Steps::goes, crate::proofs::Steps::passes), unfolding(crate::specs::Verdicts::verdict_on))]
 pub fn verdict_on(
     alloc: Global,
     who: &Who,
