@@ -1,7 +1,9 @@
 use crate::reading::{permission_at, roles_from, who_of, word_at};
 use acquisition::{AqRefusal, containers, containers_are_here, here};
 use cases::{CasesRefusal, Part};
-use permissions::{Verdict, Who, acting, allowed, find_user, roles_for, user_roles, verdict, verdict_on};
+use permissions::{
+    Verdict, Who, acting, allowed, find_user, roles_for, user_roles, verdict, verdict_on,
+};
 use std::alloc::Global;
 use zbase::{Oid, Text};
 use zknown::Known;
@@ -80,12 +82,7 @@ fn put_who(alloc: Global, line: &mut String, who: &Who) -> Result<(), CasesRefus
 }
 
 // The roles to which a permission is given on an object.
-fn given_on(
-    alloc: Global,
-    known: &Known,
-    oid: Oid,
-    permission: u8,
-) -> Result<Roles, AqRefusal> {
+fn given_on(alloc: Global, known: &Known, oid: Oid, permission: u8) -> Result<Roles, AqRefusal> {
     containers_are_here();
     let path = containers(alloc, known, oid)?;
     Ok(roles_for(alloc, known, path.as_slice(), permission)?)

@@ -87,15 +87,19 @@ module _ (k : ℕ → Option (Seen Shape)) (path : List ℕ) (i o : ℕ) (shape 
     ends_here s some alone new grew = sym at_item ∙ ap (behind old) (says_alone k permission o (drop (i + 1) path) shape there s some alone) ∙ ap Ok (sym grew)
 
     pub goes_up : (s : Setting) → setting_of permission shape.settings ≡ Some s → s.acquire ≡ true → (new : List Role) → new ≡ old ++ s.roles → AllByRecursion (IsHere k) (drop (i + 1) path) × (behind new (run k (roles permission (drop (i + 1) path))) ≡ r)
-    goes_up s some too new grew =
-        (left_here, ap (λ first. behind first (run k (roles permission (drop (i + 1) path)))) grew ∙ sym (behind_both old s.roles (run k (roles permission (drop (i + 1) path))))
-        ∙ ap (behind old) (sym (acquires k permission o (drop (i + 1) path) shape there s some too)) ∙ at_item)
+    goes_up s some too new grew = (
+      left_here,
+      ap (λ first. behind first (run k (roles permission (drop (i + 1) path)))) grew ∙ sym (behind_both old s.roles (run k (roles permission (drop (i + 1) path))))
+          ∙ ap (behind old) (sym (acquires k permission o (drop (i + 1) path) shape there s some too)) ∙ at_item,
+    )
 
   pub more_locals : (name : List ℕ) (old new : List Role) (r : Result (List Role) (Halt ℕ Fault)) → behind old (run k (locals_on name (drop i path))) ≡ r → new ≡ old ++ local_roles name shape.locals →
       AllByRecursion (IsHere k) (drop (i + 1) path) × (behind new (run k (locals_on name (drop (i + 1) path))) ≡ r)
-  more_locals name old new r so grew =
-      (left_here, ap (λ first. behind first (run k (locals_on name (drop (i + 1) path)))) grew ∙ sym (behind_both old (local_roles name shape.locals) (run k (locals_on name (drop (i + 1) path))))
-      ∙ ap (behind old) (sym (local_next k name o (drop (i + 1) path) shape there)) ∙ subst (λ p. behind old (run k (locals_on name p)) ≡ r) (next_of path i o h item) so)
+  more_locals name old new r so grew = (
+    left_here,
+    ap (λ first. behind first (run k (locals_on name (drop (i + 1) path)))) grew ∙ sym (behind_both old (local_roles name shape.locals) (run k (locals_on name (drop (i + 1) path))))
+        ∙ ap (behind old) (sym (local_next k name o (drop (i + 1) path) shape there)) ∙ subst (λ p. behind old (run k (locals_on name p)) ≡ r) (next_of path i o h item) so,
+  )
 
 -- ---- a user's roles
 

@@ -118,12 +118,7 @@ fn append_local(roles: &mut Roles, name: &str, locals: &[Local]) -> Result<(), M
 }
 
 #[tactic(auto, unfolding(crate::specs::Roles::locals_on))]
-fn append_locals(
-    roles: &mut Roles,
-    name: &str,
-    known: &Known,
-    path: &[Oid],
-) -> Result<(), Memory>
+fn append_locals(roles: &mut Roles, name: &str, known: &Known, path: &[Oid]) -> Result<(), Memory>
     requires { AllByRecursion (IsHere (shapes known.now)) path.now }
     ensures { OnOk result (spec.behind roles.old (run (shapes known.now) (spec.locals_on name.now path.now)) ≡ Ok roles.new) }
 {

@@ -10,11 +10,7 @@ pub enum Who {
     Anonymous,
     /// A user of a user folder, with the roles that he has there and the folder that holds it, his home. One without a
     /// name is no user of any folder: he stands for proxy roles.
-    Known {
-        name: Text,
-        roles: Roles,
-        home: Oid,
-    },
+    Known { name: Text, roles: Roles, home: Oid },
 }
 
 /// Whether a user has a permission.
