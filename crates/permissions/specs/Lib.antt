@@ -1,0 +1,5 @@
+pub mod Roles
+pub mod Verdicts
+pub mod Users
+pub mod Laws
+pub mod Worked
