@@ -4,7 +4,7 @@
 //! the time within the minute, of which a minute has 2^32 parts. The calendar is `jiff`'s.
 #![tactic(auto)]
 
-ghost use Rattle.std.specs.Prelude.{◌≡◌, ◌<◌, ◌-ℤ◌, ◌≤ℤ◌, pos, unsigned_abs, IfOk, IfErr, IfSome, IfNone};
+ghost use Rattle.std.specs.Prelude.{ℕ, ℤ, ◌≡◌, ◌<◌, ◌-ℤ◌, ◌≤ℤ◌, pos, unsigned_abs, IfOk, IfErr, IfSome, IfNone};
 ghost use Rattle.jiff.specs.Words.{IsTimestampNanos};
 ghost use Rattle.stamp.specs.Stamps.{IsMoment, IsOutOfRange, IsStamp, high, low, nanos_of};
 
@@ -27,6 +27,7 @@ const SECOND: i128 = 1_000_000_000;
 fn moment_of(unix_seconds: i64, nanos: u32) -> Option<DateTime>
     requires { nanos < 1_000_000_000 }
     ensures some { IfSome result (IsMoment unix_seconds nanos) }
+    ensures instant { IfSome result (λ _. IsTimestampNanos (nanos_of unix_seconds nanos)) }
     ensures none { IfNone result (¬ (IsTimestampNanos (nanos_of unix_seconds nanos))) }
 {
     match Timestamp::from_nanosecond(unix_seconds as i128 * SECOND + nanos as i128) {
@@ -68,10 +69,16 @@ fn low_of(civil: DateTime) -> u64
     (within as u128 * 4_294_967_296 / 60_000_000_000) as u64
 }
 
+/// A moment has one stamp, or none.
+pub fn one_stamp()
+    ensures one { (seconds : ℤ) (nanos a b : ℕ) → IsStamp seconds nanos a → IsStamp seconds nanos b → a ≡ b }
+    ensures or_none { (seconds : ℤ) (nanos a : ℕ) → IsStamp seconds nanos a → IsOutOfRange seconds nanos → ⊥ }
+{}
+
 /// The stamp of a moment in whole seconds since 1970-01-01 in UTC, and nanoseconds. Takes no memory.
 pub fn stamp(unix_seconds: i64, nanos: u32) -> Result<Tid, StampRefusal>
     requires { nanos < 1_000_000_000 }
-    ensures ok { IfOk result (λ tid. IsStamp unix_seconds nanos tid.0) }
+    ensures ok { IfOk result (λ tid. IsStamp unix_seconds nanos tid) }
     ensures err { IfErr result (λ _. IsOutOfRange unix_seconds nanos) }
 {
     let Some(civil) = moment_of(unix_seconds, nanos) else {
