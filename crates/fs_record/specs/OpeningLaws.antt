@@ -1,12 +1,12 @@
 -- Bytes open in one way.
-use Rattle.std.proofs.Common.{◌≡◌, ℕ, suc, zero, ◌+◌, ◌-◌, true, List, [], ◌∷◌, ◌++◌, length, Option, Some, None, refl, sym, ap, subst, ◌∙◌, append_assoc, arith, inl, inr}
+use Rattle.std.proofs.Common.{◌≡◌, ℕ, suc, zero, ◌+◌, ◌-◌, ◌||◌, Bool, true, false, get_or, List, [], ◌∷◌, ◌++◌, length, Option, Some, None, refl, sym, ap, subst, ◌∙◌, append_assoc, arith, inl, inr}
 use Rattle.fs_record.specs.Spelling.{Block, block_spelling}
 use Rattle.fs_record.specs.SpellingLaws.{same_block}
-use Rattle.std.proofs.lemmas.Bool.{false≢true, cases_order}
-use Rattle.std.specs.Prelude.{◌⊎◌}
+use Rattle.std.proofs.lemmas.Bool.{false≢true, cases_order, eq-eqb}
+use Rattle.std.specs.Prelude.{◌⊎◌, ◌==◌, nat_lt}
 use Rattle.fs_record.specs.declared.damage.Damage.{Damage}
 use Rattle.fs_record.specs.UniqueLaws.{not_end, same_count}
-use Rattle.fs_record.specs.Opening.{is_end, IsDamage, SplitsAt, Cut, Damaged}
+use Rattle.fs_record.specs.Opening.{is_end, length_in, status_in, IsDamage, SplitsAt, Cut, Damaged}
 use Rattle.fs_record.specs.File.{Front, IsRight, AreRight, front_of, bytes_of, fault_of, magic}
 
 -- behind fewer blocks a right one stands
@@ -116,3 +116,21 @@ one_damage bytes m n k j (inr c) (inr d) =
       | inr (inl more) ↦ absurd (damage_no_more c.0 c.1 k more c.4)
       | inr (inr more) ↦ absurd (damage_no_more d.0 d.1 j more d.4)
     ]
+
+-- ---- a torn rest
+
+one_of_four : (a b c d : Bool) → (b ≡ true) ⊎ (c ≡ true) → (a || b || c || d) ≡ true
+one_of_four true b c d e = refl
+one_of_four false true c d e = refl
+one_of_four false false true d e = refl
+one_of_four false false false d (inl e) = absurd cc
+one_of_four false false false d (inr e) = absurd cc
+
+torn_by : (status : ℕ) → (status ≡ 99) ⊎ (status ≡ 0) → ((status == 99) ≡ true) ⊎ ((status == 0) ≡ true)
+torn_by status (inl e) = inl (eq-eqb status 99 e)
+torn_by status (inr e) = inr (eq-eqb status 0 e)
+
+-- a rest of status c or 0 is torn
+pub torn_is_end : (rest : List ℕ) → (get_or rest 16 0 ≡ 99) ⊎ (get_or rest 16 0 ≡ 0) → is_end rest ≡ true
+unfolding is_end
+torn_is_end rest e = one_of_four (nat_lt (length rest) 23) (status_in rest == 99) (status_in rest == 0) (nat_lt (length rest) (length_in rest + 8)) (torn_by (get_or rest 16 0) e)

@@ -1,3 +1,4 @@
 pub mod Users
+pub mod KeptLaws
 pub mod Credentials
 pub mod Worked

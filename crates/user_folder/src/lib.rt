@@ -8,4 +8,4 @@ mod basic;
 mod users;
 
 pub use basic::{HeaderRefusal, credentials};
-pub use users::{authenticate, keep};
+pub use users::{authenticate, keep, kept_passwords_are_lawful};

@@ -1,4 +1,6 @@
-ghost use Rattle.std.specs.Prelude.{◌≡◌, IfOk, option_map};
+ghost use Rattle.std.specs.Prelude.{◌≡◌, ℕ, List, IfOk, option_map};
+ghost use Rattle.zobject.specs.Rules.{Keeps};
+ghost use Rattle.zobject.specs.declared.version.Rule.TheVariants.{Password};
 ghost use Rattle.user_folder.specs.Users.{is_user, kept, user_of};
 
 use base64::engine::general_purpose::STANDARD;
@@ -24,6 +26,11 @@ fn is_user(name: &str, kept: &str, user: &User) -> bool
 {
     user.name.as_str() == name && user.password.as_str() == kept
 }
+
+/// What is kept of a password is a text that a user may have.
+pub fn kept_passwords_are_lawful()
+    ensures { (password : List ℕ) → Keeps Password (kept password) }
+{}
 
 /// The user of that name and password; none where there is none.
 ///

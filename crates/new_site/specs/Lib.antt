@@ -1,0 +1,4 @@
+pub mod NewSite
+pub mod Begun
+pub mod SiteLaws
+pub mod Worked

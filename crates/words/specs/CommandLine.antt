@@ -1,0 +1,31 @@
+-- The command, as clap sees it.
+use Rattle.std.specs.Prelude.{true, false, Some, codes}
+use Rattle.clap.specs.Words.{App, Rule, Text, new_app, new_rule, with_rule, with_subcommand}
+use Rattle.clap.specs.declared.builder.ArgAction.TheVariants.{Set}
+
+-- a word that must stand
+abbrev pub positional : Text → Rule
+positional id = record (new_rule id) { required = true; action = Some Set }
+
+-- `--ID VALUE`, which may be left out
+abbrev pub option : Text → Rule
+option id = record (new_rule id) { long = Some id; action = Some Set }
+
+-- a subcommand over a file, with nothing else
+abbrev pub over_file : Text → App
+over_file name = with_rule (new_app name) (positional (codes "FILE"))
+
+abbrev pub init : App
+init = with_rule (with_rule (over_file (codes "init")) (positional (codes "NAME"))) (positional (codes "PASSWORD"))
+
+abbrev pub replay : App
+replay = with_rule (over_file (codes "replay")) (option (codes "limit"))
+
+-- no help words, no version words, and no word for the program
+abbrev pub bare : App
+bare = record (new_app (codes "zope")) {
+  top = record (new_app (codes "zope")).top { no_binary_name = true; disable_help_flag = true; disable_help_subcommand = true; disable_version_flag = true; subcommand_required = true };
+}
+
+abbrev pub zope : App
+zope = with_subcommand (with_subcommand (with_subcommand (with_subcommand bare init.top) replay.top) (over_file (codes "check")).top) (over_file (codes "dump")).top

@@ -1,0 +1,4 @@
+pub mod CommandLine
+pub mod Asking
+pub mod Views
+pub mod Worked

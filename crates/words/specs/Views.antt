@@ -1,0 +1,10 @@
+-- What the words ask for, without where it lies in memory.
+use Rattle.words.specs.Asking as asking
+use Rattle.words.specs.declared.asking.Asked.{Asked}
+use Rattle.words.specs.declared.asking.Asked.TheVariants.{Check, Dump, Init, Replay}
+
+abbrev pub view : Asked → asking.Asked
+view (Init file name password) = asking.Init file.now name.now password.now
+view (Replay file limit) = asking.Replay file.now limit
+view (Check file) = asking.Check file.now
+view (Dump file) = asking.Dump file.now

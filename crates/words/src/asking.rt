@@ -1,0 +1,136 @@
+ghost use Rattle.std.specs.Prelude.{◌≡◌, IfOk, IsErrOf, None, Some, map, option_map, string_bytes};
+ghost use Rattle.clap.specs.Words.{first_of, found_of, rows_of, subcommand_rows_of};
+ghost use Rattle.words.specs.Asking as asking;
+ghost use Rattle.words.specs.Views.{view};
+
+use crate::command_line::zope;
+use crate::numbers::number_of;
+use clap::ArgMatches;
+use clap::error::ErrorKind;
+use fs_record::MAX_LENGTH;
+use std::alloc::Global;
+
+/// Why words ask for nothing.
+#[derive(Debug, Drop)]
+pub enum WordsRefusal {
+    /// They are no command, or a number breaks its rule.
+    Usage,
+    /// Want of memory.
+    Memory,
+}
+
+/// What words ask for, over the file of a name.
+#[derive(Debug, Drop)]
+pub enum Asked<'a> {
+    /// A new site with a manager of this name and password.
+    Init {
+        file: &'a str,
+        name: &'a str,
+        password: &'a str,
+    },
+    /// A replay of the schedule that is read, with a file of at most `limit` bytes.
+    Replay {
+        file: &'a str,
+        limit: u64,
+    },
+    /// The numbers of the file.
+    Check {
+        file: &'a str,
+    },
+    /// The history of the file.
+    Dump {
+        file: &'a str,
+    },
+}
+
+// The value of an argument.
+fn word_of<'a>(matches: &ArgMatches<'a>, id: &str) -> Option<&'a str>
+    ensures { option_map (λ s. s.now) result ≡ first_of id.now (rows_of (found_of matches.now)) }
+{
+    matches.get_str(id)
+}
+
+fn init_of<'a>(matches: &ArgMatches<'a>) -> Option<Asked<'a>>
+    ensures { option_map view result ≡ asking.init_of (rows_of (found_of matches.now)) }
+{
+    let file = word_of(matches, "FILE")?;
+    let name = word_of(matches, "NAME")?;
+    let password = word_of(matches, "PASSWORD")?;
+    Some(Asked::Init {
+        file,
+        name,
+        password,
+    })
+}
+
+// How many bytes the file may have, where a number that is given keeps its rule.
+fn limit_of(matches: &ArgMatches) -> Option<u64>
+    ensures { result ≡ asking.limit_of (rows_of (found_of matches.now)) }
+{
+    match word_of(matches, "limit") {
+        Some(text) => number_of(MAX_LENGTH, text),
+        None => Some(MAX_LENGTH),
+    }
+}
+
+fn replay_of<'a>(matches: &ArgMatches<'a>) -> Option<Asked<'a>>
+    ensures { option_map view result ≡ asking.replay_of (rows_of (found_of matches.now)) }
+{
+    let file = word_of(matches, "FILE")?;
+    let limit = limit_of(matches)?;
+    Some(Asked::Replay { file, limit })
+}
+
+fn check_of<'a>(matches: &ArgMatches<'a>) -> Option<Asked<'a>>
+    ensures { option_map view result ≡ asking.check_of (rows_of (found_of matches.now)) }
+{
+    let file = word_of(matches, "FILE")?;
+    Some(Asked::Check { file })
+}
+
+fn dump_of<'a>(matches: &ArgMatches<'a>) -> Option<Asked<'a>>
+    ensures { option_map view result ≡ asking.dump_of (rows_of (found_of matches.now)) }
+{
+    let file = word_of(matches, "FILE")?;
+    Some(Asked::Dump { file })
+}
+
+// What the subcommand asks for that was found.
+fn asked_of<'a>(matches: &ArgMatches<'a>) -> Option<Asked<'a>>
+    ensures { option_map view result ≡ asking.by_subcommand (subcommand_rows_of matches.now) }
+{
+    let (name, within) = matches.subcommand()?;
+    if name == "init" {
+        init_of(within)
+    } else if name == "replay" {
+        replay_of(within)
+    } else if name == "check" {
+        check_of(within)
+    } else if name == "dump" {
+        dump_of(within)
+    } else {
+        None
+    }
+}
+
+/// What the words ask for. The program's name is none of them.
+///
+/// `Usage` comes exactly where they ask for nothing, want of memory aside.
+pub fn read_words<'a>(alloc: Global, words: &'a [String]) -> Result<Asked<'a>, WordsRefusal>
+    ensures ok { IfOk result (λ asked. asking.asked_of (map string_bytes words.entry.now) ≡ Some (view asked)) }
+    ensures usage { IsErrOf result WordsRefusal.Usage → asking.asked_of (map string_bytes words.entry.now) ≡ None }
+{
+    let Ok(command) = zope(alloc) else {
+        return Err(WordsRefusal::Memory);
+    };
+    match command.try_get_matches_from(words) {
+        Ok(matches) => match asked_of(&matches) {
+            Some(asked) => Ok(asked),
+            None => Err(WordsRefusal::Usage),
+        },
+        Err(error) => match error.kind() {
+            ErrorKind::OutOfMemory => Err(WordsRefusal::Memory),
+            _ => Err(WordsRefusal::Usage),
+        },
+    }
+}

@@ -1,0 +1,73 @@
+ghost use Rattle.std.specs.Prelude.{◌≡◌, IfOk, false};
+ghost use Rattle.clap.specs.Words.{app_of, rule_of};
+ghost use Rattle.clap.specs.declared.builder.Command.TheViews.{out-Command as fields_of};
+ghost use Rattle.words.specs.CommandLine as lines;
+
+use clap::{Arg, ArgAction, Command};
+use std::alloc::{AllocError, Global};
+
+// A word that must stand.
+fn positional<'a>(alloc: Global, id: &'a str) -> Arg<'a>
+    ensures rule { rule_of result ≡ lines.positional id.entry.now }
+    ensures global { result.global ≡ false }
+{
+    Arg::new(alloc, id).required(true).action(ArgAction::Set)
+}
+
+// `--ID VALUE`, which may be left out.
+fn option<'a>(alloc: Global, id: &'a str) -> Arg<'a>
+    ensures rule { rule_of result ≡ lines.option id.entry.now }
+    ensures global { result.global ≡ false }
+{
+    Arg::new(alloc, id).long(id).action(ArgAction::Set)
+}
+
+// A subcommand over a file, with nothing else.
+fn over_file<'a>(alloc: Global, name: &'a str) -> Result<Command<'a>, AllocError>
+    ensures app { IfOk result (λ c. app_of c ≡ lines.over_file name.entry.now) }
+    ensures globals { IfOk result (λ c. (fields_of c).has_globals ≡ false) }
+{
+    Command::new(alloc, name).arg(positional(alloc, "FILE"))
+}
+
+fn init<'a>(alloc: Global) -> Result<Command<'a>, AllocError>
+    ensures app { IfOk result (λ c. app_of c ≡ lines.init) }
+    ensures globals { IfOk result (λ c. (fields_of c).has_globals ≡ false) }
+{
+    Command::new(alloc, "init")
+        .arg(positional(alloc, "FILE"))?
+        .arg(positional(alloc, "NAME"))?
+        .arg(positional(alloc, "PASSWORD"))
+}
+
+fn replay<'a>(alloc: Global) -> Result<Command<'a>, AllocError>
+    ensures app { IfOk result (λ c. app_of c ≡ lines.replay) }
+    ensures globals { IfOk result (λ c. (fields_of c).has_globals ≡ false) }
+{
+    Command::new(alloc, "replay")
+        .arg(positional(alloc, "FILE"))?
+        .arg(option(alloc, "limit"))
+}
+
+// The program's words, none of which is its name.
+fn bare<'a>(alloc: Global) -> Command<'a>
+    ensures { app_of result ≡ lines.bare }
+{
+    Command::new(alloc, "zope")
+        .no_binary_name(true)
+        .disable_help_flag(true)
+        .disable_help_subcommand(true)
+        .disable_version_flag(true)
+        .subcommand_required(true)
+}
+
+/// The whole command.
+pub(crate) fn zope<'a>(alloc: Global) -> Result<Command<'a>, AllocError>
+    ensures { IfOk result (λ c. app_of c ≡ lines.zope) }
+{
+    bare(alloc)
+        .subcommand(init(alloc)?)?
+        .subcommand(replay(alloc)?)?
+        .subcommand(over_file(alloc, "check")?)?
+        .subcommand(over_file(alloc, "dump")?)
+}
