@@ -1,9 +1,9 @@
 -- Laws of the roles on a path.
-use Rattle.std.proofs.Common.{ℕ, ◌≡◌, ◌∙◌, ◌||◌, refl, sym, ap, subst, Bool, true, false, if◌then◌else◌, List, [], ◌∷◌, ◌++◌, append-nil, append_assoc, Option, None, Some, find, Result, Ok, Err, codes, nat_eq, length}
+use Rattle.std.proofs.Common.{ℕ, ◌≡◌, ◌∙◌, ◌||◌, refl, sym, ap, subst, Bool, true, false, if◌then◌else◌, List, [], ◌∷◌, ◌++◌, append-nil, Option, None, Some, find, Result, Ok, Err, codes}
 use Rattle.std.proofs.Math.Bool.{or_assoc}
 use Rattle.std.specs.List.{list_any, AllByRecursion}
 use Rattle.std.specs.Str.{bytes_eq}
-use Rattle.zbase.specs.Query.{Done, Stops, Asks, Halt, Need, Cause, ◌>>=◌, run, go_on, and_then}
+use Rattle.zbase.specs.Query.{Done, Halt, ◌>>=◌, run, go_on, and_then}
 use Rattle.zbase.specs.QueryLaws.{run_then}
 use Rattle.zobject.specs.declared.object.Local.{Local}
 use Rattle.zobject.specs.declared.object.Object.{Object}
@@ -13,7 +13,7 @@ use Rattle.zobject.specs.Rules.{IsObject, IsLocal, Keeps}
 use Rattle.zobject.specs.Shapes.{Shape, shape_of}
 use Rattle.zknown.specs.Seen.{Seen, Here, Absent, Unreadable, Shapes}
 use Rattle.acquisition.specs.Acquiring as acquiring
-use Rattle.acquisition.specs.Acquiring.{Fault, Broken, present}
+use Rattle.acquisition.specs.Acquiring.{Fault, present}
 use Rattle.permissions.specs.declared.who.Who.TheVariants.{Known}
 use Rattle.permissions.specs.Roles.{Role, default_roles, setting_of, by_setting, roles, roles_in, local_roles, locals_on, common_roles, has, behind}
 use Rattle.permissions.specs.Verdicts.{is_among}

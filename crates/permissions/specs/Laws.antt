@@ -1,6 +1,5 @@
 -- What the laws of roles and verdicts speak of.
 use Rattle.std.specs.Prelude.{ℕ, ◌≡◌, Bool, false, List, Option, Some, None}
-use Rattle.std.specs.Str.{bytes_eq}
 use Rattle.zobject.specs.declared.object.Setting.{Setting}
 use Rattle.zobject.specs.declared.object.Object.{Object}
 use Rattle.zobject.specs.Rules.{IsObject}

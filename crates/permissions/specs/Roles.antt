@@ -2,7 +2,7 @@
 -- of the objects on its path: the object and its containers, up to the root.
 --
 -- Zope Book, "Users and Security": roles, permissions that acquire, local roles; Zope Developer's Guide, "Security".
-use Rattle.std.specs.Prelude.{ℕ, ◌≡◌, ◌==◌, ◌||◌, Bool, List, [], ◌∷◌, ◌++◌, length, Option, Some, None, Result, Ok, Err, find, nat_eq, codes, if◌then◌else◌}
+use Rattle.std.specs.Prelude.{ℕ, ◌==◌, ◌||◌, List, [], ◌∷◌, ◌++◌, length, Option, Some, None, Result, Ok, Err, find, nat_eq, codes, if◌then◌else◌}
 use Rattle.std.specs.Str.{bytes_eq}
 use Rattle.zbase.specs.Query.{Done, ◌>>=◌}
 use Rattle.zobject.specs.declared.object.Setting.{Setting}

@@ -2,7 +2,7 @@
 --
 -- Zope Book, "Users and Security"; Zope Developer's Guide, "Security": a user has a permission where one of his roles does;
 -- proxy roles.
-use Rattle.std.specs.Prelude.{ℕ, ◌≡◌, Bool, List, [], ◌∷◌, Option, Some, None, slice_get, if◌then◌else◌}
+use Rattle.std.specs.Prelude.{ℕ, Bool, List, [], ◌∷◌, Option, Some, None, slice_get, if◌then◌else◌}
 use Rattle.std.specs.List.{list_any, filter}
 use Rattle.std.specs.Str.{bytes_eq}
 use Rattle.zbase.specs.Query.{Done, ◌>>=◌}

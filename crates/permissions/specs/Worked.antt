@@ -2,7 +2,7 @@
 use Rattle.std.proofs.Common.{◌≡◌, ℕ, Bool, true, false, List, [], ◌∷◌, Option, Some, None, Ok, Err, refl, codes, map, nat_eq, if◌then◌else◌}
 use Rattle.base64.specs.Rfc4648.{encode_symbols}
 use Rattle.sha1.specs.Sha1.{sha1, digest_bytes, hash_after, compress, rounds, schedule, first_words}
-use Rattle.zbase.specs.Query.{run, Need, Cause}
+use Rattle.zbase.specs.Query.{run, Cause}
 use Rattle.zobject.specs.declared.object.Child.{Child}
 use Rattle.zobject.specs.declared.object.Local.{Local}
 use Rattle.zobject.specs.declared.object.Setting.{Setting}

@@ -1,4 +1,4 @@
-ghost use Rattle.std.specs.Prelude.{◌≡◌, ◌++◌, ◌∷◌, ◌==◌, [], length, IfOk, OnOk, option_map, Ok, Some, find, codes};
+ghost use Rattle.std.specs.Prelude.{◌≡◌, ◌++◌, ◌∷◌, ◌==◌, [], IfOk, OnOk, option_map, Ok, Some, find, codes};
 ghost use Rattle.std.specs.List.{AllByRecursion};
 ghost use Rattle.std.specs.Str.{bytes_eq};
 ghost use Rattle.zbase.specs.Query.{run};
@@ -153,13 +153,13 @@ fn known_roles(
     requires { AllByRecursion (IsHere (shapes known.now)) path.now }
     ensures { IfOk result (λ roles. run (shapes known.now) (spec.has (who.Known name.now own.now home) path.now) ≡ Ok roles) }
 {
-    let mut roles = common_roles(alloc, name)?;
+    let mut had = common_roles(alloc, name)?;
     if !path.contains(&home) {
-        return Ok(roles);
+        return Ok(had);
     }
-    append(&mut roles, own)?;
-    append_locals(&mut roles, name, known, path)?;
-    Ok(roles)
+    append(&mut had, own)?;
+    append_locals(&mut had, name, known, path)?;
+    Ok(had)
 }
 
 fn everyones_roles(alloc: Global) -> Result<Roles, Memory>

@@ -1,6 +1,5 @@
 use Rattle.std.proofs.Common.{◌≡◌, drop}
 use Rattle.std.specs.List.{AllByRecursion}
-use denote.Text.{Utf8}
 use Rattle.zbase.specs.Query.{run}
 use Rattle.zknown.specs.Seen.{shapes}
 use Rattle.acquisition.specs.Expressions.{IsHere}

@@ -1,4 +1,4 @@
-use Rattle.std.proofs.Common.{◌≡◌, ◌∙◌, ◌++◌, ap, sym, true, false, None, Some, rules}
+use Rattle.std.proofs.Common.{◌≡◌, ◌∙◌, ◌++◌, ap, true, false, None, Some, rules}
 use Rattle.zobject.specs.Shapes.{shape_of}
 use Rattle.zknown.specs.Seen.{shapes}
 use Rattle.permissions.specs.Roles.{setting_of}

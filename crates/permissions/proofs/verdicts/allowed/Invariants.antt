@@ -1,4 +1,4 @@
-use Rattle.std.proofs.Common.{◌≡◌, ◌≤◌, drop, length}
+use Rattle.std.proofs.Common.{◌≡◌, drop}
 use Rattle.permissions.specs.Verdicts as spec
 use Rattle.permissions.proofs.verdicts.allowed.Given as goal
 
