@@ -182,7 +182,7 @@ unfolding record_text
 has_some o = omega arith
 
 pub site_bodies : (name password : List ℕ) → All HasBody (items name password)
-site_bodies name password = 
+site_bodies name password =
     All-cons HasBody (first_item 0 root) (first_item 1 (user_folder name password) ∷ first_item 2 start_page ∷ []) (has_some root)
     (All-cons HasBody (first_item 1 (user_folder name password)) (first_item 2 start_page ∷ []) (has_some (user_folder name password))
     (All-cons HasBody (first_item 2 start_page) [] (has_some start_page) (All-nil HasBody)))
@@ -207,12 +207,19 @@ torn_status piece image waits (inl e) = inl (e ∙ waits)
 torn_status piece image waits (inr e) = inr e
 
 opens_empty : (image : List ℕ) → take 4 image ≡ magic → (get_or image 20 0 ≡ 99) ⊎ (get_or image 20 0 ≡ 0) → OpensEmpty image
-opens_empty image front status = (4, (drop 4 image, record {
-  file = magic;
-  is_file = magic_is_file;
-  joined = sym (take-append-drop 4 image) ∙ ap (λ (bytes : List ℕ). bytes ++ drop 4 image) front;
-  at = refl;
-}, torn_is_end (drop 4 image) (subst (λ (byte : ℕ). (byte ≡ 99) ⊎ (byte ≡ 0)) (sym (get_or-drop 4 image 16 0)) status)))
+opens_empty image front status = (
+  4,
+  (
+    drop 4 image,
+    record {
+      file = magic;
+      is_file = magic_is_file;
+      joined = sym (take-append-drop 4 image) ∙ ap (λ (bytes : List ℕ). bytes ++ drop 4 image) front;
+      at = refl;
+    },
+    torn_is_end (drop 4 image) (subst (λ (byte : ℕ). (byte ≡ 99) ⊎ (byte ≡ 0)) (sym (get_or-drop 4 image 16 0)) status),
+  ),
+)
 
 no_magic : (image more : List ℕ) → (take 4 image ≡ magic → ⊥) → image ≡ magic ++ more → ⊥
 no_magic image more other is = other (ap (take 4) is)
@@ -227,7 +234,7 @@ begins_or_not image = (elim (bytes_eq (take 4 image) magic) as (λ (b : Bool). b
 pub torn_begun : (stamp : ℕ) (name password image : List ℕ) → IsTorn [] (file_with 99 stamp name password) image → IsNoFile image ⊎ OpensEmpty image
 torn_begun stamp name password image torn =
     let status : (get_or image 20 0 ≡ 99) ⊎ (get_or image 20 0 ≡ 0) =
-        torn_status (file_with 99 stamp name password) image (waiting_at stamp 99 name password) (subst (λ (rest : List ℕ). (get_or rest 20 0 ≡ get_or (file_with 99 stamp name password) 20 0) ⊎ (get_or rest 20 0 ≡ 0)) (sym torn.behind) (torn.each 20)) in
+    torn_status (file_with 99 stamp name password) image (waiting_at stamp 99 name password) (subst (λ (rest : List ℕ). (get_or rest 20 0 ≡ get_or (file_with 99 stamp name password) 20 0) ⊎ (get_or rest 20 0 ≡ 0)) (sym torn.behind) (torn.each 20)) in
     elim (begins_or_not image) [
       | inl front ↦ inr (opens_empty image front status)
       | inr other ↦ inl (inl (refl, refl, λ more is. no_magic image more other is))
@@ -247,8 +254,8 @@ site_writable stamp name password fits keeps = record {
   description = omega arith;
   extension = omega arith;
   each = All-cons FitsItem (first_item 0 root) (first_item 1 (user_folder name password) ∷ first_item 2 start_page ∷ []) (fits_item 0 root (omega arith))
-    (All-cons FitsItem (first_item 1 (user_folder name password)) (first_item 2 start_page ∷ []) (fits_item 1 (user_folder name password) (omega arith))
-    (All-cons FitsItem (first_item 2 start_page) [] (fits_item 2 start_page (omega arith)) (All-nil FitsItem)));
+      (All-cons FitsItem (first_item 1 (user_folder name password)) (first_item 2 start_page ∷ []) (fits_item 1 (user_folder name password) (omega arith))
+      (All-cons FitsItem (first_item 2 start_page) [] (fits_item 2 start_page (omega arith)) (All-nil FitsItem)));
   end = omega (arith, site_fits stamp 32 name password keeps);
 }
   where
@@ -260,11 +267,11 @@ site_goes stamp name password later = record {
   later = later;
   counted = refl;
   previous = All-cons IsFirst (first_item 0 root) (first_item 1 (user_folder name password) ∷ first_item 2 start_page ∷ []) refl
-    (All-cons IsFirst (first_item 1 (user_folder name password)) (first_item 2 start_page ∷ []) refl
-    (All-cons IsFirst (first_item 2 start_page) [] refl (All-nil IsFirst)));
+      (All-cons IsFirst (first_item 1 (user_folder name password)) (first_item 2 start_page ∷ []) refl
+      (All-cons IsFirst (first_item 2 start_page) [] refl (All-nil IsFirst)));
   back = All-cons IsFull (first_item 0 root) (first_item 1 (user_folder name password) ∷ first_item 2 start_page ∷ []) refl
-    (All-cons IsFull (first_item 1 (user_folder name password)) (first_item 2 start_page ∷ []) refl
-    (All-cons IsFull (first_item 2 start_page) [] refl (All-nil IsFull)));
+      (All-cons IsFull (first_item 1 (user_folder name password)) (first_item 2 start_page ∷ []) refl
+      (All-cons IsFull (first_item 2 start_page) [] refl (All-nil IsFull)));
 }
   where
     IsFirst : Item → Type 0
@@ -283,6 +290,8 @@ unfolding file_with
 site_opens stamp name password some fits keeps =
     let block : Block = transaction 4 stamp 32 texts (items name password) in
     let file : IsFile (magic ++ block_spelling block) (after (front_of []) block) =
-        record { blocks = block ∷ []; right = (right_behind (front_of []) 4 stamp 32 texts (items name password) refl (site_writable stamp name password fits keeps) (site_goes stamp name password some), tt); spelled = refl; said = refl } in
-    (after (front_of []) block, ([], record { file = magic ++ block_spelling block; is_file = file; joined = sym (append-nil (magic ++ block_spelling block)); at = refl }, nothing_ends),
-    history-transaction (front_of []) 4 stamp 32 texts (items name password))
+    record { blocks = block ∷ []; right = (right_behind (front_of []) 4 stamp 32 texts (items name password) refl (site_writable stamp name password fits keeps) (site_goes stamp name password some), tt); spelled = refl; said = refl } in (
+      after (front_of []) block,
+      ([], record { file = magic ++ block_spelling block; is_file = file; joined = sym (append-nil (magic ++ block_spelling block)); at = refl }, nothing_ends),
+      history-transaction (front_of []) 4 stamp 32 texts (items name password),
+    )

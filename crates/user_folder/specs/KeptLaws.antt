@@ -1,5 +1,5 @@
 -- What is kept of a password is 33 bytes of ASCII, and so a text that a user may have.
-use Rattle.std.proofs.Common.{◌≡◌, ℕ, Bool, true, false, ◌+◌, ◌*◌, ◌/◌,  List, [], ◌++◌, length, nat_le, refl, ap, ◌∙◌, arith, codes}
+use Rattle.std.proofs.Common.{◌≡◌, ℕ, Bool, true, false, ◌+◌, ◌*◌, ◌/◌, List, [], ◌++◌, length, nat_le, refl, ap, ◌∙◌, arith, codes}
 use Rattle.std.specs.Prelude.{◌&&◌, replicate}
 use Rattle.std.specs.Int.{to_be_bytes, w32}
 use Rattle.std.proofs.lemmas.List.{length-append, length-replicate}

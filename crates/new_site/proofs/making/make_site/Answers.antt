@@ -8,7 +8,7 @@ returns-in_err-bytes-clause-any_moment g c =
     not_begun c.args.stamp c.args.name.now c.args.password.now c.one_image.ensures.only (g.D.Disk.told c.args.disk.now) (g.D.Disk.told c.args.disk.now) refl c.requires.empty
 
 pub returns-in_err-reserve-clause-any_moment : goal.returns-in_err-reserve-clause-any_moment
-returns-in_err-reserve-clause-any_moment g c = 
+returns-in_err-reserve-clause-any_moment g c =
     not_begun c.args.stamp c.args.name.now c.args.password.now c.one_image.ensures.only (g.D.Disk.told c.args.disk.now) (g.D.Disk.told c.reserve.new.self) c.in_err-reserve.ensures.same c.requires.empty
 
 pub put_file-requires-clause-empty : goal.put_file-requires-clause-empty
