@@ -7,7 +7,7 @@ use fs_scan::{
     Checked, ScanRefusal, Scanned, Walk, check, follow_from, read_head, scan, scan_bytes,
 };
 use std::alloc::Global;
-use zbase::{Bytes, FaultPlan, Value};
+use zbase::{Bytes, Value};
 use zdisk::{Disk, MemoryDisk};
 
 /// Files: `file` is one, and `failing disk NUMBER` a call of its disk that is to fail; each of these is read from a disk
@@ -28,8 +28,17 @@ const STEPS: usize = 1000;
 
 // The disk of the case, before any call.
 fn disk_of(alloc: Global, case: &Case) -> Result<MemoryDisk, CasesRefusal> {
-    let plan = FaultPlan::new(case.failing(alloc, "disk")?);
-    Ok(MemoryDisk::with_faults(case.bytes(alloc, "file")?, plan))
+    let mut disk = MemoryDisk::new(alloc, case.bytes(alloc, "file")?);
+    let mut before = 0;
+    for number in &case.failing(alloc, "disk")? {
+        let calls = number.saturating_sub(before);
+        if calls == 0 {
+            return Err(CasesRefusal::Missing);
+        }
+        disk.arm_fail(calls, 0)?;
+        before = *number;
+    }
+    Ok(disk)
 }
 
 // Adds a part of this key and these words.

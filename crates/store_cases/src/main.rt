@@ -3,6 +3,7 @@
 #![tactic(auto)]
 
 mod answers;
+mod arming;
 mod drafts;
 mod looking;
 mod running;

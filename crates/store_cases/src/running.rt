@@ -1,4 +1,5 @@
 use crate::answers::put_open_refusal;
+use crate::arming::{Planned, arm, each_of, gone_on, planned_by};
 use crate::looking::put_numbers;
 use crate::script::read_script;
 use crate::session::run_script;
@@ -6,16 +7,17 @@ use cases::{Case, CasesRefusal, Part, Runner};
 use fs_record::MAX_LENGTH;
 use fs_store::Store;
 use std::alloc::Global;
-use zbase::{Bytes, FaultPlan};
+use zbase::Bytes;
 use zdisk::{Disk, MemoryDisk};
 
 /// Scripts of a store's calls. A case gives
 ///
 /// - `file`: the bytes of the disk's file;
 /// - `limit N`: how many bytes the file may have, 1,000,000 where it isn't said;
-/// - `failing disk N`: the disk's call of number N fails; `failing behind N`: the N-th call behind those that the opening
-///   of `base` makes; `failing each`: the script is run once for each of its calls, which fails then, and once more
-///   without a fault;
+/// - `failing disk N SEED`: the disk's call of number N fails, and leaves what the seed names, 0 where it isn't said; `failing
+///   behind N SEED`: the N-th call behind those that the opening of `base` makes; `failing each SEED`: the script is run once
+///   for each of its calls, which fails then, and once more without a fault;
+/// - `stopping` with the same words: the disk stops at that call, and goes on when the script has ended;
 /// - `fronts` with bytes: the script is run over the file with each front of these behind it, from none of them to all but
 ///   the last;
 /// - `base`: the bytes of a file, those of `file` where it isn't said;
@@ -46,8 +48,8 @@ use zdisk::{Disk, MemoryDisk};
 /// Of it come `answers`, their lines; `disk`, the bytes of the file at the end; `again` and what an opening of these would
 /// answer; and `calls N`, how many device calls were made, without as many as the opening of `base` makes. Where the script
 /// is run several times they come once for each run whose answers or whose bytes differ from those of the run before, and
-/// `groups N` says how many such runs there were. Of a run with `failing each` N is the number of the calls behind the one
-/// that failed.
+/// `groups N` says how many such runs there were. Of a run with `failing each` or `stopping each` N is the number of the
+/// calls behind the one that failed.
 #[derive(Drop)]
 pub struct Scripts;
 
@@ -117,34 +119,27 @@ fn given_by(alloc: Global, case: &Case) -> Result<Given, CasesRefusal> {
     })
 }
 
-// Runs the script over a disk of the file with this rest behind it, whose calls of these numbers fail.
+// Runs the script over a disk of the file with this rest behind it, which stops and fails as it is planned.
 fn run_once(
     alloc: Global,
     given: &Given,
     rest: &[u8],
-    failing: Vec<u64>,
+    planned: &[Planned],
 ) -> Result<Came, CasesRefusal> {
     let mut file = given.file.copy()?;
     file.append(rest)?;
-    let disk = MemoryDisk::with_faults(file, FaultPlan::new(failing));
+    let mut disk = MemoryDisk::new(alloc, file);
+    arm(&mut disk, planned)?;
     let mut answers = Bytes::new(alloc);
     let steps = given.steps.as_slice();
-    let mut disk = run_script(alloc, disk, given.limit, steps, &mut answers)?;
+    let disk = run_script(alloc, disk, given.limit, steps, &mut answers)?;
     let calls = disk.calls();
+    let mut disk = gone_on(disk);
     Ok(Came {
         answers,
         disk: bytes_of(alloc, &mut disk)?,
         calls,
     })
-}
-
-// The numbers of the calls that are to fail.
-fn failing_of(alloc: Global, case: &Case, opening: u64) -> Result<Vec<u64>, CasesRefusal> {
-    let mut failing = case.failing(alloc, "disk")?;
-    for number in &case.failing(alloc, "behind")? {
-        failing.push(opening.saturating_add(*number))?;
-    }
-    Ok(failing)
 }
 
 /// The parts that came so far, and the last run of which they came.
@@ -209,13 +204,23 @@ impl Groups {
     }
 }
 
-// Runs the script once for each of its calls, which fails then, and once more without a fault.
-fn run_each_call(alloc: Global, given: &Given) -> Result<Vec<Part>, CasesRefusal> {
+// Runs the script once for each of its calls, which stops the disk then or fails, and once more without a fault.
+fn run_each_call(
+    alloc: Global,
+    given: &Given,
+    stops: bool,
+    seed: u64,
+) -> Result<Vec<Part>, CasesRefusal> {
     let mut groups = Groups::new(alloc);
-    let whole = run_once(alloc, given, &[], Vec::new(alloc))?;
+    let whole = run_once(alloc, given, &[], &[])?;
     for earlier in 0..whole.calls {
         let number = earlier + 1;
-        let came = run_once(alloc, given, &[], Vec::from_slice(alloc, &[number])?)?;
+        let planned = Planned {
+            stops,
+            number,
+            seed,
+        };
+        let came = run_once(alloc, given, &[], &[planned])?;
         groups.put_new(given, came, number)?;
     }
     groups.put_new(given, whole, given.opening)?;
@@ -227,7 +232,7 @@ fn run_each_front(alloc: Global, given: &Given, rest: &[u8]) -> Result<Vec<Part>
     let mut groups = Groups::new(alloc);
     for len in 0..rest.len() {
         let front = rest.get(..len).unwrap_or(&[]);
-        let came = run_once(alloc, given, front, Vec::new(alloc))?;
+        let came = run_once(alloc, given, front, &[])?;
         groups.put_new(given, came, given.opening)?;
     }
     groups.counted(alloc)
@@ -235,7 +240,10 @@ fn run_each_front(alloc: Global, given: &Given, rest: &[u8]) -> Result<Vec<Part>
 
 impl Runner for Scripts {
     fn knows(&self, key: &str) -> bool {
-        ["file", "limit", "failing", "fronts", "base", "script"].contains(&key)
+        matches!(
+            key,
+            "file" | "limit" | "failing" | "stopping" | "fronts" | "base" | "script"
+        )
     }
 
     fn run(&self, alloc: Global, case: &Case) -> Result<Vec<Part>, CasesRefusal> {
@@ -243,14 +251,12 @@ impl Runner for Scripts {
         if let Some(part) = case.part("fronts") {
             return run_each_front(alloc, &given, part.bytes.as_slice());
         }
-        if let Some(part) = case.part("failing")
-            && part.word(1) == Some("each")
-        {
-            return run_each_call(alloc, &given);
+        if let Some((stops, seed)) = each_of(case)? {
+            return run_each_call(alloc, &given, stops, seed);
         }
         let mut groups = Groups::new(alloc);
-        let failing = failing_of(alloc, case, given.opening)?;
-        let came = run_once(alloc, &given, &[], failing)?;
+        let planned = planned_by(alloc, case, given.opening)?;
+        let came = run_once(alloc, &given, &[], planned.as_slice())?;
         groups.put(&given, &came, given.opening)?;
         let Groups {
             parts,

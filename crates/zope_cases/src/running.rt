@@ -5,19 +5,24 @@ use zio::{MemoryClock, MemoryFile, MemoryHub, MemoryShelf, MemorySink, MemorySou
 use zope::run;
 
 /// The program: `words`, each `file NAME` with its bytes, `input` and `failing KIND NUMBER`, where a kind is `opening`,
-/// `disk`, `input` or `output`; `status NUMBER` and `output` come of it.
+/// `disk` (one number at most), `input` or `output`; `status NUMBER` and `output` come of it.
 #[derive(Drop)]
 pub struct Program;
 
 // The files of the case, on a shelf.
 fn shelf_of(alloc: Global, case: &Case) -> Result<MemoryShelf, CasesRefusal> {
     let mut files = Vec::new(alloc);
+    let numbers = case.failing(alloc, "disk")?;
+    if numbers.len() > 1 {
+        return Err(CasesRefusal::Missing);
+    }
+    let failing = numbers.first().copied();
     for part in &case.parts {
         if part.key() == "file" {
             files.push(MemoryFile {
                 name: Text::from_str(alloc, part.word(1).unwrap_or(""))?,
                 bytes: part.bytes.copy()?,
-                failing: case.failing(alloc, "disk")?,
+                failing,
             })?;
         }
     }

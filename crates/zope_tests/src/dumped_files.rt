@@ -106,7 +106,7 @@ fn ran(
     files.push(MemoryFile {
         name: Text::from_str(alloc, "a.fs")?,
         bytes: Bytes::from_slice(alloc, file)?,
-        failing: Vec::new(alloc),
+        failing: None,
     })?;
     let mut shelf = MemoryShelf::new(alloc, files, FaultPlan::none(alloc));
     let input = Bytes::from_slice(alloc, input.as_bytes())?;
