@@ -37,28 +37,28 @@ returns-in-Damaged-clause-damaged g c = λ kind place is.
 pub whole_in-requires-clause-records : goal.whole_in-requires-clause-records
 whole_in-requires-clause-records g c =
     let says = rw c.deref.ensures.value at (rw c.in-Right.is at c.in_ok-step.ensures.ok) in
-    rw c.deref-then-extent-ne117.ensures.value (records_there c.in_ok-window.window.items c.undone.at c.undone.self.last c.undone.self.records c.step.new.self.records c.in-Right.extent says.0.1 c.if-extent-ne117.true)
+    rw c.deref-then-extent-ne-STATUS_UNDONE.ensures.value (records_there c.in_ok-window.window.items c.undone.at c.undone.self.last c.undone.self.records c.step.new.self.records c.in-Right.extent says.0.1 c.if-extent-ne-STATUS_UNDONE.true)
 
-pub returns-then-extent-ne117-clause-walked : goal.returns-then-extent-ne117-clause-walked
-returns-then-extent-ne117-clause-walked g c =
+pub returns-then-extent-ne-STATUS_UNDONE-clause-walked : goal.returns-then-extent-ne-STATUS_UNDONE-clause-walked
+returns-then-extent-ne-STATUS_UNDONE-clause-walked g c =
     let i = c.undone.invariant in
     let shows = subst (λ (d : Option Told). IfSome d (λ told. Shows c.in_ok-window.window.items (drop c.undone.at (content told)))) i.same c.in_ok-window.ensures.shows in
     let says = rw c.deref.ensures.value at (rw c.in-Right.is at c.in_ok-step.ensures.ok) in
-    walks_over (g.D.Disk.told c.args.disk.now) _ c.args.self.now c.step.new.self c.whole_in.new.self c.in_ok-window.window.items c.undone.at c.in-Right.extent c.whole_in.result (rw c.deref-then-extent-ne117.ensures.value at c.whole_in.ensures.means) c.whole_in.ensures.ok
-    (λ whole same means. passes (g.D.Disk.told c.args.disk.now) c.args.self.now c.undone.self c.step.new.self c.undone.at c.in_ok-window.window.items i.underway shows c.in-Right.extent says _ c.whole_in.new.self whole (c.in_ok-window.ensures.same ∙ i.same) same c.if-extent-ne117.true means)
+    walks_over (g.D.Disk.told c.args.disk.now) _ c.args.self.now c.step.new.self c.whole_in.new.self c.in_ok-window.window.items c.undone.at c.in-Right.extent c.whole_in.result (rw c.deref-then-extent-ne-STATUS_UNDONE.ensures.value at c.whole_in.ensures.means) c.whole_in.ensures.ok
+    (λ whole same means. passes (g.D.Disk.told c.args.disk.now) c.args.self.now c.undone.self c.step.new.self c.undone.at c.in_ok-window.window.items i.underway shows c.in-Right.extent says _ c.whole_in.new.self whole (c.in_ok-window.ensures.same ∙ i.same) same c.if-extent-ne-STATUS_UNDONE.true means)
 
-pub returns-then-extent-ne117-clause-on : goal.returns-then-extent-ne117-clause-on
-returns-then-extent-ne117-clause-on g c =
+pub returns-then-extent-ne-STATUS_UNDONE-clause-on : goal.returns-then-extent-ne-STATUS_UNDONE-clause-on
+returns-then-extent-ne-STATUS_UNDONE-clause-on g c =
     let i = c.undone.invariant in
     let shows = subst (λ (d : Option Told). IfSome d (λ told. Shows c.in_ok-window.window.items (drop c.undone.at (content told)))) i.same c.in_ok-window.ensures.shows in
     let says = rw c.deref.ensures.value at (rw c.in-Right.is at c.in_ok-step.ensures.ok) in
     on_either (g.D.Disk.told c.args.disk.now) c.step.new.self c.whole_in.new.self c.whole_in.result c.whole_in.ensures.ok c.whole_in.ensures.err
     (goes_on (g.D.Disk.told c.args.disk.now) c.args.self.now c.undone.self c.step.new.self c.undone.at c.in_ok-window.window.items i.underway shows c.in-Right.extent says)
 
-pub returns-then-extent-ne117-clause-later : goal.returns-then-extent-ne117-clause-later
-returns-then-extent-ne117-clause-later g c =
+pub returns-then-extent-ne-STATUS_UNDONE-clause-later : goal.returns-then-extent-ne-STATUS_UNDONE-clause-later
+returns-then-extent-ne-STATUS_UNDONE-clause-later g c =
     let says = rw c.deref.ensures.value at (rw c.in-Right.is at c.in_ok-step.ensures.ok) in
-    found_later _ c.args.self.now c.undone.self c.step.new.self c.whole_in.new.self c.undone.at c.in_ok-window.window.items c.in-Right.extent c.whole_in.result c.undone.invariant.last says c.if-extent-ne117.true (rw c.deref-then-extent-ne117.ensures.value at c.whole_in.ensures.means) c.whole_in.ensures.ok
+    found_later _ c.args.self.now c.undone.self c.step.new.self c.whole_in.new.self c.undone.at c.in_ok-window.window.items c.in-Right.extent c.whole_in.result c.undone.invariant.last says c.if-extent-ne-STATUS_UNDONE.true (rw c.deref-then-extent-ne-STATUS_UNDONE.ensures.value at c.whole_in.ensures.means) c.whole_in.ensures.ok
 
 pub undone-preserved : goal.undone-preserved
 undone-preserved g c =
@@ -67,10 +67,10 @@ undone-preserved g c =
     let shows = subst (λ (d : Option Told). IfSome d (λ told. Shows c.in_ok-window.window.items (drop c.undone.at (content told)))) i.same w.shows in
     let says = rw c.deref.ensures.value at (rw c.in-Right.is at c.in_ok-step.ensures.ok) in
     record {
-      underway = goes_over (g.D.Disk.told c.args.disk.now) c.args.self.now c.undone.self c.step.new.self c.undone.at c.in_ok-window.window.items i.underway shows c.in-Right.extent says _ (omega arith) c.if-extent-ne117.false;
+      underway = goes_over (g.D.Disk.told c.args.disk.now) c.args.self.now c.undone.self c.step.new.self c.undone.at c.in_ok-window.window.items i.underway shows c.in-Right.extent says _ (omega arith) c.if-extent-ne-STATUS_UNDONE.false;
       length = i.length;
       here = ap (λ (course : Course). course.place) says.1 ∙ ap Some (omega arith);
-      last = same_last c.undone.self.last c.in-Right.extent c.if-extent-ne117.false (ap (λ (course : Course). course.last) says.1) ∙ i.last;
+      last = same_last c.undone.self.last c.in-Right.extent c.if-extent-ne-STATUS_UNDONE.false (ap (λ (course : Course). course.last) says.1) ∙ i.last;
       rises = omega (arith, i.rises);
       same = w.same ∙ i.same;
       spare = (w.spare.0 ∙ i.spare.0, w.spare.1 ∙ i.spare.1);
