@@ -49,7 +49,7 @@ counted_front t k w = after (front_at t k.end) (transaction k.end w.tid 32 w.tex
 pub long_file : (t : Told) (k : Known) → Knows t k → length (file_at t k.end) ≡ k.end
 long_file t k knows = length-take-le k.end (content t) knows.within
 
-writable_counted : (start tid : ℕ) (texts : TxnTexts) (items : List Item) → IsWritable start tid 99 texts items → IsWritable start tid 32 texts items
+pub writable_counted : (start tid : ℕ) (texts : TxnTexts) (items : List Item) → IsWritable start tid 99 texts items → IsWritable start tid 32 texts items
 writable_counted start tid texts items w = record {
   id = w.id;
   user = w.user;
@@ -249,7 +249,7 @@ moments_counted None (Some u) k w limit calls bytes kept all = absurd all
 moments_counted (Some t) None k w limit calls bytes kept all = absurd all
 moments_counted (Some t) (Some u) k w limit calls bytes kept all = (all.0, λ held since image is. either_opens t k w image kept.knows kept.waits.stands kept.waits.writable (all.1 held since image is))
 
-either_front : (t u : Told) (k : Known) (w : Waiting) → Knows t k → StandsBehind t k w → Sets (k.end + 16) (content t) (content u) → file_at u k.end ≡ file_at t k.end
+pub either_front : (t u : Told) (k : Known) (w : Waiting) → Knows t k → StandsBehind t k w → Sets (k.end + 16) (content t) (content u) → file_at u k.end ≡ file_at t k.end
 either_front t u k w knows stands (inl e) = ap (take k.end) e
 either_front t u k w knows stands (inr e) = file_front t u k.end (piece_of 32 k w) knows.within (e ∙ status_counted t k w knows stands)
 

@@ -21,77 +21,10 @@ use Rattle.fs_store.specs.Opened.{Brings, BringsNot, CutOffFailed, CutsOff, Leav
 use Rattle.fs_store.proofs.Counted.{set_behind}
 use Rattle.fs_store.proofs.Images.{one_image, opens_before, own_image, torn_is_end, torn_off}
 use Rattle.fs_store.proofs.Tellings.{moved, on_both, on_told}
+use Rattle.fs_store.proofs.MomentSteps.{Keeps, MayChange, begun, brought, not_brought, synced_step, unsynced_step}
 
--- ---- a sync leaves no image that there wasn't before
-
-more : (c : List ℕ) (cs ds : List (List ℕ)) → AllByRecursion (Shape (HasLength cs) (HasByte cs)) ds → AllByRecursion (Shape (HasLength (c ∷ cs)) (HasByte (c ∷ cs))) ds
-more c cs [] all = tt
-more c cs (d ∷ ds) all = (record { long = inr all.0.long; each = λ i. inr (all.0.each i) }, more c cs ds all.1)
-
-each_has : (cs : List (List ℕ)) → AllByRecursion (Shape (HasLength cs) (HasByte cs)) cs
-each_has [] = tt
-each_has (c ∷ cs) = (record { long = inl refl; each = λ i. inl refl }, more c cs cs (each_has cs))
-
-image_again : (held next : Held) (image : List ℕ) → AnyImage held next → IsImage next image → IsImage held image
-image_again held next image any is =
-    let s = shape_of_image _ _ next image (shape_of_any _ _ held next (each_has (contents held)) any) is in
-    record { long = s.long; each = λ i lt. s.each i }
-
-synced_image : {T E : Type 0} (r : Result T E) (held next : Held) (image : List ℕ) → Syncs r held next → IsImage next image → IsImage held image
-synced_image (Ok x) held next image is i = subst (IsImage held) (sym (one_image next image (ap (λ (h : Held). h.before) is) i ∙ ap (λ (h : Held). h.now) is)) (own_image held)
-synced_image (Err e) held next image is i = image_again held next image is i
-
--- ---- one call more
-
--- each image since the first of the two opens to the history
-abbrev Keeps : History → Option Told → Option Told → Type 0
-Keeps h o u = LeavesFrom o u (λ file image. OpensTo image h)
-
-begun : (h : History) (o : Option Told) → IfSome o (EachOpensTo h) → Keeps h o o
-begun h None each = tt
-begun h (Some t) each = (piles_none t, leaves_now t (λ image. OpensTo image h) each)
-
-each_now : (h : History) (o u : Told) → Keeps h (Some o) (Some u) → EachOpensTo h u
-each_now h o u all = all.1 u.now (held_now u (moment o) (piles_later o u all.0))
-
-step : (h : History) (R : Held → Held → Type 0) (o a b : Option Told) → Keeps h o a → Follows a b R → ((s t : Told) → a ≡ Some s → EachOpensTo h s → R s.now t.now → EachOpensTo h t) → Keeps h o b
-step h R None None None all follows to = tt
-step h R None None (Some b) all follows to = absurd follows
-step h R None (Some a) b all follows to = absurd all
-step h R (Some o) None b all follows to = absurd all
-step h R (Some o) (Some a) None all follows to = absurd follows
-step h R (Some o) (Some a) (Some b) all follows to =
-    (piles_more o a b all.0 follows.1, leaves_more a b (moment o) (λ image. OpensTo image h) follows.1 all.1 (to a b refl (each_now h o a all) follows.0))
-
-sync_step : {T E : Type 0} (h : History) (r : Result T E) (o a b : Option Told) → Keeps h o a → Follows a b (Syncs r) → Keeps h o b
-sync_step h r o a b all follows = step h (Syncs r) o a b all follows (λ s t same each is image i. each image (synced_image r s.now t.now image is i))
-
-synced_step : (h : History) (o a b : Option Told) → Keeps h o a → Follows a b Synced → Keeps h o b
-synced_step h o a b all follows = sync_step {T = ℕ} {E = ⊥} h (Ok 0) o a b all follows
-
-unsynced_step : (h : History) (o a b : Option Told) → Keeps h o a → Follows a b AnyImage → Keeps h o b
-unsynced_step h o a b all follows = sync_step {T = ⊥} {E = ℕ} h (Err 0) o a b all follows
-
--- the disk is synced, and each mixture of its file and the changed one opens to the history
-abbrev MayChange : History → (List ℕ → List ℕ) → Told → Type 0
-MayChange h f t = IsSynced t × ((image : List ℕ) → IsMixture (content t) (f (content t)) image → OpensTo image h)
-
-some_told : (a : Option Told) (P : Told → Type 0) (s : Told) → a ≡ Some s → IfSome a P → P s
-some_told a P s e p = subst (λ (x : Option Told). IfSome x P) e p
-
-change_step : {T E : Type 0} (h : History) (f : List ℕ → List ℕ) (r : Result T E) (o a b : Option Told) → Keeps h o a → IfSome a (MayChange h f) → Follows a b (Changes f r) → Keeps h o b
-change_step h f r o a b all may follows =
-    step h (Changes f r) o a b all follows (λ s t same each is image i.
-    let m = some_told a (MayChange h f) s same may in
-    m.1 image (images (content s) (f (content s)) t.now (all_changed f s.now t.now r m.0 is) image i))
-
--- a change that failed, or the sync behind it
-not_brought : (h : History) (f : List ℕ → List ℕ) (o a b : Option Told) → Keeps h o a → IfSome a (MayChange h f) → BringsNot f a b → Keeps h o b
-not_brought h f o a b all may (inl failed) = change_step {T = ⊥} {E = ℕ} h f (Err 0) o a b all may failed
-not_brought h f o a b all may (inr s) = unsynced_step h o s.between b (change_step {T = ℕ} {E = ⊥} h f (Ok 0) o a s.between all may s.change) s.failed
-
-brought : (h : History) (f : List ℕ → List ℕ) (o a b : Option Told) → Keeps h o a → IfSome a (MayChange h f) → Brings (λ held next. next ≡ changed (f held.now) held) a b → Keeps h o b
-brought h f o a b all may s = synced_step h o s.between b (change_step {T = ℕ} {E = ⊥} h f (Ok 0) o a s.between all may s.change) s.synced
+abbrev Says : History → List ℕ → Type 0
+Says h image = OpensTo image h
 
 -- ---- rests
 
@@ -99,16 +32,16 @@ first_of_four : (a b c d : Bool) → a ≡ true → (a || b || c || d) ≡ true
 first_of_four true b c d e = refl
 first_of_four false b c d e = absurd cc
 
-short_is_end : (rest : List ℕ) → length rest < 23 → is_end rest ≡ true
+pub short_is_end : (rest : List ℕ) → length rest < 23 → is_end rest ≡ true
 unfolding is_end
 short_is_end rest lt = first_of_four (nat_lt (length rest) 23) (status_in rest == 99) (status_in rest == 0) (nat_lt (length rest) (length_in rest + 8)) (lt-ltb (length rest) 23 lt)
 
-still_status : (rest left : List ℕ) → (status_in rest ≡ 99) ⊎ (status_in rest ≡ 0) → (get_or left 16 0 ≡ get_or rest 16 0) ⊎ (get_or left 16 0 ≡ 0) → (get_or left 16 0 ≡ 99) ⊎ (get_or left 16 0 ≡ 0)
+pub still_status : (rest left : List ℕ) → (status_in rest ≡ 99) ⊎ (status_in rest ≡ 0) → (get_or left 16 0 ≡ get_or rest 16 0) ⊎ (get_or left 16 0 ≡ 0) → (get_or left 16 0 ≡ 99) ⊎ (get_or left 16 0 ≡ 0)
 still_status rest left (inl c) (inl same) = inl (same ∙ c)
 still_status rest left (inr c) (inl same) = inr (same ∙ c)
 still_status rest left status (inr lost) = inr lost
 
-still_short : (left rest : List ℕ) → length rest < 23 → (length left ≡ 0) ⊎ (length left ≡ length rest) → length left < 23
+pub still_short : (left rest : List ℕ) → length rest < 23 → (length left ≡ 0) ⊎ (length left ≡ length rest) → length left < 23
 still_short left rest lt (inl e) = omega (arith, e)
 still_short left rest lt (inr e) = omega (arith, e, lt)
 
@@ -139,7 +72,7 @@ record IsReady (h : History) (end : ℕ) (t : Told) : Type 0 where
   stays : StaysTorn rest
   is : front.history ≡ h
 
-cut_change : (h : History) (end : ℕ) (t : Told) → IsReady h end t → MayChange h (take end) t
+cut_change : (h : History) (end : ℕ) (t : Told) → IsReady h end t → MayChange (Says h) (take end) t
 cut_change h end t r =
     let file : take end (content t) ≡ r.file = ap (take end) r.joined ∙ take_at r.file r.rest end (sym r.at) in (
       r.synced,
@@ -182,7 +115,7 @@ marked end t front cut long =
 status_marked : (rest : List ℕ) → 23 ≤ length rest → get_or (set rest 16 99) 16 0 ≡ 99
 status_marked rest long = get_or-set_same rest 16 99 0 (omega (arith, long))
 
-set_change : (h : History) (end : ℕ) (t : Told) → IsOpened h end t → (StaysTorn (drop end (content t)) → ⊥) → MayChange h (waiting_from end) t
+set_change : (h : History) (end : ℕ) (t : Told) → IsOpened h end t → (StaysTorn (drop end (content t)) → ⊥) → MayChange (Says h) (waiting_from end) t
 set_change h end t o may =
     let long = long_rest end t o.front o.cut may in
     let in_file = within end t o.front o.cut long in
@@ -224,27 +157,27 @@ brings_to f (Some s) (Some t) (Some u) P Q to p change synced =
 abbrev IsUnready : History → ℕ → Told → Type 0
 IsUnready h end t = IsOpened h end t × (StaysTorn (drop end (content t)) → ⊥)
 
-readied : (h : History) (end : ℕ) (o first m : Option Told) → Keeps h o first → IfSome first (IsOpened h end) → Readies first m end → Keeps h o m × IfSome m (IsReady h end)
+readied : (h : History) (end : ℕ) (o first m : Option Told) → Keeps (Says h) o first → IfSome first (IsOpened h end) → Readies first m end → Keeps (Says h) o m × IfSome m (IsReady h end)
 readied h end o first m all opened (inl s) =
-    (subst (Keeps h o) (sym s.0) all, moved first m (IsReady h end) s.0 (on_both first (IsOpened h end) (λ t. StaysTorn (drop end (content t))) (IsReady h end) (as_it_is h end) opened s.1))
+    (subst (Keeps (Says h) o) (sym s.0) all, moved first m (IsReady h end) s.0 (on_both first (IsOpened h end) (λ t. StaysTorn (drop end (content t))) (IsReady h end) (as_it_is h end) opened s.1))
 readied h end o first m all opened (inr s) =
     let unready = on_both first (IsOpened h end) (λ t. StaysTorn (drop end (content t)) → ⊥) (IsUnready h end) (λ t x y. (x, y)) opened s.0 in (
-      brought h (waiting_from end) o first m all (on_told first (IsUnready h end) (MayChange h (waiting_from end)) (λ t u. set_change h end t u.0 u.1) unready) s.1,
+      brought (Says h) (waiting_from end) o first m all (on_told first (IsUnready h end) (MayChange (Says h) (waiting_from end)) (λ t u. set_change h end t u.0 u.1) unready) s.1,
       brings_to (waiting_from end) first s.1.between m (IsUnready h end) (IsReady h end) (λ t v u. set_ready h end t v u.0 u.1) unready s.1.change s.1.synced,
     )
 
-cut_keeps : (h : History) (end : ℕ) (o first n : Option Told) → Keeps h o first → IfSome first (IsOpened h end) → CutsOff first n end → Keeps h o n
+cut_keeps : (h : History) (end : ℕ) (o first n : Option Told) → Keeps (Says h) o first → IfSome first (IsOpened h end) → CutsOff first n end → Keeps (Says h) o n
 cut_keeps h end o first n all opened c =
     let r = readied h end o first c.readied all opened c.ready in
-    brought h (take end) o c.readied n r.0 (on_told c.readied (IsReady h end) (MayChange h (take end)) (cut_change h end) r.1) c.cut
+    brought (Says h) (take end) o c.readied n r.0 (on_told c.readied (IsReady h end) (MayChange (Says h) (take end)) (cut_change h end) r.1) c.cut
 
-failed_keeps : (h : History) (end : ℕ) (o first n : Option Told) → Keeps h o first → IfSome first (IsOpened h end) → CutOffFailed first n end → Keeps h o n
-failed_keeps h end o first n all opened (inl same) = subst (Keeps h o) (sym same) all
+failed_keeps : (h : History) (end : ℕ) (o first n : Option Told) → Keeps (Says h) o first → IfSome first (IsOpened h end) → CutOffFailed first n end → Keeps (Says h) o n
+failed_keeps h end o first n all opened (inl same) = subst (Keeps (Says h) o) (sym same) all
 failed_keeps h end o first n all opened (inr (inl f)) =
-    not_brought h (waiting_from end) o first n all (on_both first (IsOpened h end) (λ t. StaysTorn (drop end (content t)) → ⊥) (MayChange h (waiting_from end)) (set_change h end) opened f.0) f.1
+    not_brought (Says h) (waiting_from end) o first n all (on_both first (IsOpened h end) (λ t. StaysTorn (drop end (content t)) → ⊥) (MayChange (Says h) (waiting_from end)) (set_change h end) opened f.0) f.1
 failed_keeps h end o first n all opened (inr (inr c)) =
     let r = readied h end o first c.readied all opened c.ready in
-    not_brought h (take end) o c.readied n r.0 (on_told c.readied (IsReady h end) (MayChange h (take end)) (cut_change h end) r.1) c.failed
+    not_brought (Says h) (take end) o c.readied n r.0 (on_told c.readied (IsReady h end) (MayChange (Says h) (take end)) (cut_change h end) r.1) c.failed
 
 opened_first : (h : History) (end : ℕ) (o first : Option Told) → IfSome o (EachOpensTo h) → IfSome o (λ t. (front : Front) × Cut (content t) front end) → Follows o first Synced → IfSome first (IsOpened h end)
 opened_first h end o None each cut synced = tt
@@ -261,24 +194,24 @@ opened_first h end (Some t) (Some f) each cut synced =
 pub tidied_keeps : (o n : Option Told) (end torn : ℕ) → IfSome o (λ t. (front : Front) × Cut (content t) front end) → Tidies o n end torn → KeepsGiven o n
 tidied_keeps o n end torn cut tidies h each = go tidies.then
   where
-    first : Keeps h o tidies.first
-    first = synced_step h o o tidies.first (begun h o each) tidies.synced
+    first : Keeps (Says h) o tidies.first
+    first = synced_step (Says h) o o tidies.first (begun (Says h) o each) tidies.synced
 
-    go : ((torn ≡ 0) × (n ≡ tidies.first)) ⊎ ((0 < torn) × CutsOff tidies.first n end) → Keeps h o n
-    go (inl s) = subst (Keeps h o) (sym s.1) first
+    go : ((torn ≡ 0) × (n ≡ tidies.first)) ⊎ ((0 < torn) × CutsOff tidies.first n end) → Keeps (Says h) o n
+    go (inl s) = subst (Keeps (Says h) o) (sym s.1) first
     go (inr s) = cut_keeps h end o tidies.first n first (opened_first h end o tidies.first each cut tidies.synced) s.1
 
-stays_keeps : (h : History) (o n : Option Told) → IfSome o (EachOpensTo h) → Stays o n → Keeps h o n
-stays_keeps h o n each (inl same) = subst (Keeps h o) (sym same) (begun h o each)
-stays_keeps h o n each (inr synced) = synced_step h o o n (begun h o each) synced
+stays_keeps : (h : History) (o n : Option Told) → IfSome o (EachOpensTo h) → Stays o n → Keeps (Says h) o n
+stays_keeps h o n each (inl same) = subst (Keeps (Says h) o) (sym same) (begun (Says h) o each)
+stays_keeps h o n each (inr synced) = synced_step (Says h) o o n (begun (Says h) o each) synced
 
-torn_keeps : (h : History) (o n : Option Told) → IfSome o (EachOpensTo h) → TornStayed o n → Keeps h o n
-torn_keeps h o n each t = failed_keeps h t.end o t.first n (synced_step h o o t.first (begun h o each) t.synced) (opened_first h t.end o t.first each t.opens t.synced) t.failed
+torn_keeps : (h : History) (o n : Option Told) → IfSome o (EachOpensTo h) → TornStayed o n → Keeps (Says h) o n
+torn_keeps h o n each t = failed_keeps h t.end o t.first n (synced_step (Says h) o o t.first (begun (Says h) o each) t.synced) (opened_first h t.end o t.first each t.opens t.synced) t.failed
 
 pub refused_keeps : (o n : Option Told) (refusal : OpenRefusal) → LeavesDisk o n refusal → KeepsGiven o n
 refused_keeps o n (OpenRefusal.Damaged kind place) left h each = stays_keeps h o n each left
 refused_keeps o n OpenRefusal.Disk (inl left) h each = stays_keeps h o n each left
-refused_keeps o n OpenRefusal.Disk (inr (inl any)) h each = unsynced_step h o o n (begun h o each) any
+refused_keeps o n OpenRefusal.Disk (inr (inl any)) h each = unsynced_step (Says h) o o n (begun (Says h) o each) any
 refused_keeps o n OpenRefusal.Disk (inr (inr t)) h each = torn_keeps h o n each t
 refused_keeps o n (OpenRefusal.TooLong n_bytes) left h each = stays_keeps h o n each left
 refused_keeps o n OpenRefusal.Memory left h each = stays_keeps h o n each left

@@ -13,6 +13,7 @@
 mod committing;
 mod finding;
 mod known;
+mod laws;
 mod loading;
 mod opening;
 mod parts;
@@ -24,6 +25,7 @@ mod voted;
 mod voting;
 mod waiting;
 
+pub use laws::stopped_settles;
 pub use opening::OpenRefusal;
 pub use reads::{Loaded, Seen};
 pub use refusal::{AbortRefusal, FinishRefusal, LoadRefusal, VoteRefusal};
