@@ -24,7 +24,9 @@ MaySettle old h end = ((h ≡ old.history) × (end ≡ old.end)) ⊎ ((o : Out) 
 
 image_settles : (old new : StoreView) (image left : List ℕ) (torn : ℕ) → OpensAsKnown old image → OpensAs image left new torn → MaySettle old new.history new.end
 image_settles old new image left torn (inl x) o = inl (opened_history image left old.history old.end new torn x o)
-image_settles old new image left torn (inr x) o = inr (x.0, x.1, opened_history image left (added old.history x.0.transaction) (old.end + x.0.size) new torn x.2 o)
+image_settles old new image left torn (inr x) o =
+    let is = opened_history image left (added old.history x.0.transaction) (old.end + x.0.size) new torn x.2 o in
+    inr (x.0, x.1, is.0, is.1)
 
 -- A stop left an image, and a store was opened over it: its history is one of the two.
 pub stopped_settles : (old new : StoreView) (told : Told) (limit : ℕ) → OpensAsKnown old (content told) → Opens (Some told) limit new → MaySettle old new.history new.end
@@ -35,7 +37,7 @@ stopped_settles old new told limit opens o = go new.disk.told o.told
     go (Some next) as' = image_settles old new (content told) (content next) o.torn opens as'
 
 -- bytes that open have no damage, and aren't too long
-not_damaged : (bytes : List ℕ) (h : History) (end : ℕ) (kind : Kind) (place : ℕ) → OpensTo bytes h end → Damaged bytes place kind → ⊥
+pub not_damaged : (bytes : List ℕ) (h : History) (end : ℕ) (kind : Kind) (place : ℕ) → OpensTo bytes h end → Damaged bytes place kind → ⊥
 not_damaged bytes h end kind place opens damaged = not_both bytes opens.front end place kind opens.cut damaged
 
 pub stopped_undamaged : (old : StoreView) (told : Told) (kind : Kind) (place : ℕ) → OpensAsKnown old (content told) → IsRefusedFor (Some told) (OpenRefusal.Damaged kind place) → ⊥

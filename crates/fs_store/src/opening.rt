@@ -16,11 +16,9 @@ ghost use Rattle.fs_store.specs.Seeing.{SeenOn};
 ghost use Rattle.fs_store.specs.Staleness.{EitherOf, IsUnsettled, SettlesOn};
 ghost use Rattle.fs_store.specs.Stores.{most_length};
 ghost use Rattle.fs_store.specs.declared.reads.Seen.{Seen};
-ghost use Rattle.fs_store.specs.declared.refusal.LoadRefusal.{LoadRefusal};
 ghost use Rattle.fs_store.specs.declared.opening.OpenRefusal.{OpenRefusal};
 ghost use Rattle.fs_store.specs.declared.opening.OpenRefusal.TheVariants as refusals;
 
-use crate::LoadRefusal;
 use crate::known::Known;
 use crate::waiting::Waiting;
 use fs_index::Index;
@@ -206,32 +204,21 @@ pub(crate) fn open_file<D: Disk>(alloc: Global, disk: &mut D) -> Result<FileRead
     Ok(read)
 }
 
-// Why a disk isn't opened again. A file that has damage, or is too long, can be met over a disk that doesn't tell alone.
-fn again_refused(refusal: OpenRefusal) -> LoadRefusal
-    ensures { (result ≡ LoadRefusal.Disk) ↔ (refusal ≡ OpenRefusal.Disk) }
-{
-    match refusal {
-        OpenRefusal::Disk => LoadRefusal::Disk,
-        OpenRefusal::Damaged(_, _) | OpenRefusal::TooLong(_) | OpenRefusal::Memory =>
-            LoadRefusal::Memory,
-    }
-}
-
-/// Opens a stale store's disk again. What it knows is then the history that was known, or that and the undecided
-/// transaction. A stop at any moment leaves a file that opens to one of the two.
+/// Opens a stale store's disk again, by one scan. What it knows is then the history that was known, or that and the
+/// undecided transaction. A stop at any moment leaves a file that opens to one of the two.
 ///
-/// Where the disk tells it can't meet damage. Over a disk that doesn't tell, a file that has some, or is too long, is
-/// answered as want of memory: the disk didn't fail.
+/// Where the disk tells it meets no damage, and no file that is too long.
 pub(crate) fn open_again<D: Disk>(
     alloc: Global,
     disk: &mut D,
     known: &mut Known,
     limit: u64,
     undecided: &Option<Waiting>,
-) -> Result<(), LoadRefusal>
+) -> Result<(), OpenRefusal>
     requires unsettled { IfSome (D.told disk.old) (IsUnsettled known.old.end undecided.now) }
     ensures kept { OnOk result (IsKept (D.told disk.new) known.new limit None (D.spare_calls disk.new) (D.spare_bytes disk.new)) }
     ensures settled { OnOk result (IfSome (D.told disk.old) (λ told. SettlesOn told known.old.end undecided.now (D.told disk.new) known.new.end)) }
+    ensures undamaged { IfErr result (λ refusal. IfSome (D.told disk.old) (λ _. (refusal ≡ OpenRefusal.Disk) ⊎ (refusal ≡ OpenRefusal.Memory))) }
     ensures stays { OnErr result (known.new.end ≡ known.old.end) }
     ensures unsettled { OnErr result (IfSome (D.told disk.new) (IsUnsettled known.old.end undecided.now)) }
     ensures history { OnErr result (history_where (D.told disk.new) known.old.end ≡ history_where (D.told disk.old) known.old.end) }
@@ -239,18 +226,14 @@ pub(crate) fn open_again<D: Disk>(
     ensures seen { (seen : Seen) → SeenOn (D.told disk.old) known.old.end seen → SeenOn (D.told disk.new) known.new.end seen }
     ensures tells { IsSome (D.told disk.old) ↔ IsSome (D.told disk.new) }
     ensures any_moment { LeavesFrom (D.told disk.old) (D.told disk.new) (λ file image. EitherOf (D.told disk.old) known.old.end undecided.now image) }
-    ensures counts { Counts (D.counter disk.old) (D.counter disk.new) (IsErrOf result LoadRefusal.Disk) }
+    ensures counts { Counts (D.counter disk.old) (D.counter disk.new) (IsErrOf result OpenRefusal.Disk) }
 {
+    // what is undecided is said of the file alone
     let _ = undecided;
-    match open_file(alloc, disk) {
-        Ok(opened) => {
-            let FileRead {
-                known: again,
-                torn: _,
-            } = opened;
-            *known = again;
-            Ok(())
-        }
-        Err(refusal) => Err(again_refused(refusal)),
-    }
+    let FileRead {
+        known: again,
+        torn: _,
+    } = open_file(alloc, disk)?;
+    *known = again;
+    Ok(())
 }

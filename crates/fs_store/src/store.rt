@@ -11,7 +11,6 @@ ghost use Rattle.fs_store.specs.Drafts.{HasNoRestore};
 ghost use Rattle.fs_store.specs.Finding.{CostsLoad};
 ghost use Rattle.fs_store.specs.Moments.{IsWhole, KeepsGiven, KeepsOpening, OpensAsBefore, OpensAsKnown, OpensToEither};
 ghost use Rattle.fs_store.specs.Opened.{IsRefusedFor, LeavesDisk, Opens};
-ghost use Rattle.fs_store.specs.Pointing.{PointsToData};
 ghost use Rattle.fs_store.specs.Seeing.{IsSeen};
 ghost use Rattle.fs_store.specs.Stores.{IsDraft, IsTold, IsVoteOf, Out, Settles, Stands, Stays, finished, idle, most_length, on_disk, staled, unsettled, voting};
 ghost use Rattle.fs_store.specs.Verdicts.{tid_at, verdict, voted_out};
@@ -261,7 +260,6 @@ impl<D: Disk + Drop> Store<D> {
         ensures out { IfOk result (λ voted. IsTold self.old → self.new.out ≡ Some (voted_out (idle self.new) holder draft voted)) }
         ensures held { IfOk result (λ voted. IsVoteOf self.new voted × (self.new.stale ≡ false)) }
         ensures holder { IfOk result (λ _. (o : Out) → self.new.out ≡ Some o → o.holder ≡ holder) }
-        ensures direct { IfOk result (λ _. IfSome self.new.disk.told (λ told. PointsToData (content told) self.new.end)) }
         ensures refused { IfErr result (λ (refusal, _). IsTold self.old → (refusal ≡ VoteRefusal.Memory) ⊎ ((refusal ≡ VoteRefusal.Disk) ⊎ (Settles self.old self.new × (verdict self.new reads.now draft ≡ Some refusal)))) }
         // A vote that is refused since another is out takes no memory and no device call.
         ensures busy { IfErr result (λ (refusal, _). (refusal ≡ VoteRefusal.Memory) ⊎ (refusal ≡ VoteRefusal.Disk) → self.old.out ≡ None) }
