@@ -12,7 +12,7 @@ ghost use Rattle.fs_store.specs.Finding.{CostsLoad};
 ghost use Rattle.fs_store.specs.Moments.{IsWhole, KeepsGiven, KeepsOpening, OpensAsBefore, OpensAsKnown, OpensToEither};
 ghost use Rattle.fs_store.specs.Opened.{IsRefusedFor, LeavesDisk, Opens};
 ghost use Rattle.fs_store.specs.Seeing.{IsSeen};
-ghost use Rattle.fs_store.specs.Stores.{IsDraft, IsTold, IsVoteOf, Out, Settles, Stands, Stays, finished, idle, most_length, on_disk, staled, unsettled, voting};
+ghost use Rattle.fs_store.specs.Stores.{IsDraft, IsTold, IsVoteOf, Loses, Out, Settles, Stands, Stays, finished, idle, most_length, on_disk, staled, unsettled, voting};
 ghost use Rattle.fs_store.specs.Verdicts.{tid_at, verdict, voted_out};
 ghost use Rattle.fs_store.specs.declared.opening.OpenRefusal.{OpenRefusal};
 ghost use Rattle.fs_store.specs.declared.refusal.FinishRefusal.{FinishRefusal};
