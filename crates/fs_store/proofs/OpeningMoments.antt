@@ -1,23 +1,20 @@
 -- What a stop at any moment of an opening may leave.
-use Rattle.std.proofs.Common.{◌≡◌, ℕ, ◌+◌, ◌<◌, ◌≤◌, Bool, true, false, ◌||◌, List, [], ◌∷◌, ◌++◌, length, get_or, set, take, drop, Option, Some, None, IfSome, Result, Ok, Err, refl, sym, ap, subst, ◌∙◌, arith, inl, inr}
+use Rattle.std.proofs.Common.{◌≡◌, ℕ, ◌+◌, ◌<◌, ◌≤◌, Bool, true, false, ◌||◌, List, ◌++◌, length, get_or, set, take, drop, Option, Some, None, IfSome, refl, sym, ap, subst, ◌∙◌, arith, inl, inr}
 use Rattle.std.specs.Prelude.{◌⊎◌, ◌==◌, nat_lt}
-use Rattle.std.specs.List.{AllByRecursion}
 use Rattle.std.proofs.lemmas.Bool.{cases_lt, lt-ltb}
 use Rattle.std.proofs.lemmas.List.{drop_at, get_or-set_same, length-append, length-set, take_at}
 use Rattle.zbase.specs.History.{History}
-use Rattle.zdisk.specs.Calls.{AnyImage, Follows, Syncs, changed}
-use Rattle.zdisk.specs.Crashes.{IsSynced, IsTorn, LeavesFrom}
+use Rattle.zdisk.specs.Calls.{Follows, changed}
+use Rattle.zdisk.specs.Crashes.{IsSynced, IsTorn}
 use Rattle.zdisk.specs.Disk.{Held, Told, content}
-use Rattle.zdisk.specs.Images.{HasByte, HasLength, IsImage, IsMixture, contents, moment}
-use Rattle.zdisk.specs.MomentLaws.{held_now, leaves_more, leaves_now, piles_later, piles_more, piles_none}
-use Rattle.zdisk.specs.OneChange.{Changes, all_changed, before_or_after, images, put_byte}
-use Rattle.zdisk.specs.Shapes.{Shape, shape_of_any, shape_of_image}
+use Rattle.zdisk.specs.Images.{IsMixture}
+use Rattle.zdisk.specs.OneChange.{before_or_after, put_byte}
 use Rattle.fs_record.specs.File.{Front, IsFile}
 use Rattle.fs_record.specs.Opening.{Cut, is_end, length_in, status_in}
 use Rattle.fs_record.specs.OpeningLaws.{one_cut}
 use Rattle.fs_store.specs.declared.opening.OpenRefusal.{OpenRefusal}
 use Rattle.fs_store.specs.Moments.{EachOpensTo, KeepsGiven, OpensTo}
-use Rattle.fs_store.specs.Opened.{Brings, BringsNot, CutOffFailed, CutsOff, LeavesDisk, Readies, Stays, StaysTorn, Synced, Tidies, TornStayed, waiting_from}
+use Rattle.fs_store.specs.Opened.{CutOffFailed, CutsOff, LeavesDisk, Readies, Stays, StaysTorn, Synced, Tidies, TornStayed, waiting_from}
 use Rattle.fs_store.specs.Stores.{most_length}
 use Rattle.fs_store.proofs.Counted.{set_behind}
 use Rattle.fs_store.proofs.Images.{opens_before, opens_rest, own_image, torn_is_end, torn_long, torn_off}

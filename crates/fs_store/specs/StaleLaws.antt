@@ -1,7 +1,7 @@
 -- What a stale store's history becomes, also where a stop came first.
-use Rattle.std.proofs.Common.{◌≡◌, ℕ, ◌+◌, ◌<◌, ◌≤◌, List, [], ◌∷◌, ◌++◌, length, Option, Some, None, refl, sym, ap, subst, ◌∙◌, append-nil, arith, inl, inr}
+use Rattle.std.proofs.Common.{◌≡◌, ℕ, ◌+◌, List, [], ◌∷◌, Option, Some, None, refl, sym, ap, subst, ◌∙◌, append-nil, arith, inl, inr}
 use Rattle.std.specs.Prelude.{◌⊎◌}
-use Rattle.zbase.specs.History.{History, IsPrefixOf, Transaction, added}
+use Rattle.zbase.specs.History.{History, IsPrefixOf, added}
 use Rattle.zdisk.specs.Disk.{Told, content}
 use Rattle.fs_record.specs.declared.damage.Damage.{Damage as Kind}
 use Rattle.fs_record.specs.File.{Front}
@@ -10,7 +10,7 @@ use Rattle.fs_record.specs.OpeningLaws.{not_both, one_cut}
 use Rattle.fs_store.specs.declared.opening.OpenRefusal.{OpenRefusal}
 use Rattle.fs_store.specs.Moments.{OpensAsKnown, OpensTo}
 use Rattle.fs_store.specs.Opened.{IsRefusedFor, Opens, OpensAs, WhereTold}
-use Rattle.fs_store.specs.Stores.{Out, Settles, StoreView, most_length}
+use Rattle.fs_store.specs.Stores.{Out, Settles, StoreView}
 
 -- a store that is opened over bytes has the history to which they open, and its end
 pub opened_history : (bytes left : List ℕ) (h : History) (end : ℕ) (s : StoreView) (torn : ℕ) → OpensTo bytes h end → OpensAs bytes left s torn → (s.history ≡ h) × (s.end ≡ end)
