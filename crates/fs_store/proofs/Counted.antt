@@ -36,7 +36,7 @@ use Rattle.fs_store.specs.Seeing.{SeenIn, SeenOn}
 use Rattle.fs_store.specs.Stores.{most_length}
 use Rattle.zbase.specs.Limits.{greatest_number}
 use Rattle.fs_store.proofs.Files.{file_front}
-use Rattle.fs_store.proofs.Images.{opens_before, opens_file, own_image, torn_is_end}
+use Rattle.fs_store.proofs.Images.{opens_file, opens_rest, own_image, torn_is_end}
 
 -- ---- the block, before and after
 
@@ -49,7 +49,7 @@ counted_front t k w = after (front_at t k.end) (transaction k.end w.tid 32 w.tex
 pub long_file : (t : Told) (k : Known) → Knows t k → length (file_at t k.end) ≡ k.end
 long_file t k knows = length-take-le k.end (content t) knows.within
 
-writable_counted : (start tid : ℕ) (texts : TxnTexts) (items : List Item) → IsWritable start tid 99 texts items → IsWritable start tid 32 texts items
+pub writable_counted : (start tid : ℕ) (texts : TxnTexts) (items : List Item) → IsWritable start tid 99 texts items → IsWritable start tid 32 texts items
 writable_counted start tid texts items w = record {
   id = w.id;
   user = w.user;
@@ -85,13 +85,22 @@ status_counted t k w knows stands =
 
 -- ---- images
 
-pub opens_waiting : (t : Told) (k : Known) (w : Waiting) → Knows t k → StandsBehind t k w → OpensTo (content t) (history_at t k.end)
-opens_waiting t k w knows stands =
-    subst (λ (b : List ℕ). OpensTo b (history_at t k.end)) (sym stands.behind)
-    (opens_before (file_at t k.end) (piece_of 99 k w) (front_at t k.end) knows.file (torn_is_end (piece_of 99 k w) (inl (status_at k.end w.tid 99 w.texts w.items))))
+pub opens_waiting : (t : Told) (k : Known) (w : Waiting) → Knows t k → StandsBehind t k w → length (content t) ≤ most_length → OpensTo (content t) (history_at t k.end) k.end
+opens_waiting t k w knows stands fits =
+    opens_rest (file_at t k.end) (piece_of 99 k w) (content t) (front_at t k.end) k.end knows.file stands.behind (torn_is_end (piece_of 99 k w) (inl (status_at k.end w.tid 99 w.texts w.items))) (long_file t k knows) fits
 
-pub opens_counted : (t : Told) (k : Known) (w : Waiting) → Knows t k → StandsBehind t k w → IsWritable k.end w.tid 99 w.texts w.items → OpensTo (file_at t k.end ++ piece_of 32 k w) (added (history_at t k.end) (said_by (records_at t k.end) w.tid w.texts w.items))
-opens_counted t k w knows stands writable = subst (OpensTo (file_at t k.end ++ piece_of 32 k w)) (history_counted t k w) (opens_file _ _ (file_counted t k w knows stands writable))
+-- the file of which it is a part has as many bytes as before
+pub long_counted : (t : Told) (k : Known) (w : Waiting) → StandsBehind t k w → length (file_at t k.end ++ piece_of 32 k w) ≡ length (content t)
+long_counted t k w stands = omega (arith, length-append (file_at t k.end) (piece_of 32 k w), length-append (file_at t k.end) (piece_of 99 k w), ap length stands.behind, same_size k w)
+
+ends_counted : (t : Told) (k : Known) (w : Waiting) → Knows t k → w.size ≡ length (piece_of 99 k w) → length (file_at t k.end ++ piece_of 32 k w) ≡ k.end + w.size
+ends_counted t k w knows size = omega (arith, length-append (file_at t k.end) (piece_of 32 k w), long_file t k knows, same_size k w, size)
+
+pub opens_counted : (t : Told) (k : Known) (w : Waiting) → Knows t k → StandsBehind t k w → IsWritable k.end w.tid 99 w.texts w.items → w.size ≡ length (piece_of 99 k w) → length (content t) ≤ most_length
+    → OpensTo (file_at t k.end ++ piece_of 32 k w) (added (history_at t k.end) (said_by (records_at t k.end) w.tid w.texts w.items)) (k.end + w.size)
+opens_counted t k w knows stands writable size fits =
+    subst (λ (h : History). OpensTo (file_at t k.end ++ piece_of 32 k w) h (k.end + w.size)) (history_counted t k w)
+    (opens_file _ _ (k.end + w.size) (file_counted t k w knows stands writable) (ends_counted t k w knows size) (omega (arith, fits, long_counted t k w stands)))
 
 -- ---- what the store knows then
 
@@ -193,7 +202,7 @@ knows_counted t u k k' w knows stands writable size synced is learnt =
 -- ---- over every disk
 
 pub kept_counted : (o u : Option Told) (k k' : Known) (w : Waiting) (limit calls bytes calls_left bytes_left : ℕ) → IsKept o k limit (Some w) calls bytes → Becomes o u (λ file. slice_set file (k.end + 16) 32) → Learnt k k' w → IsKept u k' limit None calls_left bytes_left
-kept_counted None None k k' w limit calls bytes calls_left bytes_left kept became learnt = record { bound = learnt.next.1; knows = tt; alone = λ none. tt; waits = tt }
+kept_counted None None k k' w limit calls bytes calls_left bytes_left kept became learnt = record { bound = learnt.next.1; knows = tt; fits = tt; alone = λ none. tt; waits = tt }
 kept_counted None (Some u) k k' w limit calls bytes calls_left bytes_left kept became learnt = absurd became
 kept_counted (Some t) None k k' w limit calls bytes calls_left bytes_left kept became learnt = absurd became
 kept_counted (Some t) (Some u) k k' w limit calls bytes calls_left bytes_left kept became learnt =
@@ -202,6 +211,7 @@ kept_counted (Some t) (Some u) k k' w limit calls bytes calls_left bytes_left ke
     record {
       bound = learnt.next.1;
       knows = knows_counted t u k k' w kept.knows v.stands v.writable v.size_is became.0 is learnt;
+      fits = omega (arith, ap length is, long_counted t k w v.stands, kept.fits);
       alone = λ none. end_counted t u k k' w kept.knows v.size_is is learnt;
       waits = tt;
     }
@@ -236,20 +246,21 @@ seen_counted (Some t) (Some u) k k' w limit calls bytes s kept became learnt see
 abbrev Sets : ℕ → List ℕ → List ℕ → Type 0
 Sets at file image = (image ≡ file) ⊎ (image ≡ slice_set file at 32)
 
-either_opens : (t : Told) (k : Known) (w : Waiting) (image : List ℕ) → Knows t k → StandsBehind t k w → IsWritable k.end w.tid 99 w.texts w.items → Sets (k.end + 16) (content t) image
-    → OpensTo image (history_at t k.end) ⊎ OpensTo image (added (history_at t k.end) (said_by (records_at t k.end) w.tid w.texts w.items))
-either_opens t k w image knows stands writable (inl e) = inl (subst (λ (b : List ℕ). OpensTo b (history_at t k.end)) (sym e) (opens_waiting t k w knows stands))
-either_opens t k w image knows stands writable (inr e) =
-    inr (subst (λ (b : List ℕ). OpensTo b (added (history_at t k.end) (said_by (records_at t k.end) w.tid w.texts w.items))) (sym (e ∙ status_counted t k w knows stands)) (opens_counted t k w knows stands writable))
+either_opens : (t : Told) (k : Known) (w : Waiting) (limit calls bytes : ℕ) (image : List ℕ) → IsKept (Some t) k limit (Some w) calls bytes → Sets (k.end + 16) (content t) image
+    → OpensTo image (history_at t k.end) k.end ⊎ OpensTo image (added (history_at t k.end) (said_by (records_at t k.end) w.tid w.texts w.items)) (k.end + w.size)
+either_opens t k w limit calls bytes image kept (inl e) = inl (subst (λ (b : List ℕ). OpensTo b (history_at t k.end) k.end) (sym e) (opens_waiting t k w kept.knows kept.waits.stands kept.fits))
+either_opens t k w limit calls bytes image kept (inr e) =
+    let v = kept.waits in
+    inr (subst (λ (b : List ℕ). OpensTo b (added (history_at t k.end) (said_by (records_at t k.end) w.tid w.texts w.items)) (k.end + w.size)) (sym (e ∙ status_counted t k w kept.knows v.stands)) (opens_counted t k w kept.knows v.stands v.writable v.size_is kept.fits))
 
 pub moments_counted : (o u : Option Told) (k : Known) (w : Waiting) (limit calls bytes : ℕ) → IsKept o k limit (Some w) calls bytes → LeavesFrom o u (λ file image. (image ≡ file) ⊎ (image ≡ slice_set file (k.end + 16) 32))
-    → LeavesFrom o u (λ file image. OpensTo image (history_where o k.end) ⊎ OpensTo image (added (history_where o k.end) (out_of o k.end w).transaction))
+    → LeavesFrom o u (λ file image. OpensTo image (history_where o k.end) k.end ⊎ OpensTo image (added (history_where o k.end) (out_of o k.end w).transaction) (k.end + w.size))
 moments_counted None None k w limit calls bytes kept all = tt
 moments_counted None (Some u) k w limit calls bytes kept all = absurd all
 moments_counted (Some t) None k w limit calls bytes kept all = absurd all
-moments_counted (Some t) (Some u) k w limit calls bytes kept all = (all.0, λ held since image is. either_opens t k w image kept.knows kept.waits.stands kept.waits.writable (all.1 held since image is))
+moments_counted (Some t) (Some u) k w limit calls bytes kept all = (all.0, λ held since image is. either_opens t k w limit calls bytes image kept (all.1 held since image is))
 
-either_front : (t u : Told) (k : Known) (w : Waiting) → Knows t k → StandsBehind t k w → Sets (k.end + 16) (content t) (content u) → file_at u k.end ≡ file_at t k.end
+pub either_front : (t u : Told) (k : Known) (w : Waiting) → Knows t k → StandsBehind t k w → Sets (k.end + 16) (content t) (content u) → file_at u k.end ≡ file_at t k.end
 either_front t u k w knows stands (inl e) = ap (take k.end) e
 either_front t u k w knows stands (inr e) = file_front t u k.end (piece_of 32 k w) knows.within (e ∙ status_counted t k w knows stands)
 

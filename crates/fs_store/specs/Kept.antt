@@ -14,7 +14,7 @@ use Rattle.fs_store.specs.declared.waiting.Waiting.{Waiting}
 use Rattle.fs_store.specs.Fronts.{file_at, front_at, records_where}
 use Rattle.fs_store.specs.Knowing.{Knows}
 use Rattle.fs_store.specs.Placed.{first_at}
-use Rattle.fs_store.specs.Stores.{Out}
+use Rattle.fs_store.specs.Stores.{Out, most_length}
 use Rattle.fs_store.specs.Verdicts.{clash_among, tid_at, validation_at}
 
 abbrev pub out_of : Option Told → ℕ → Waiting → Out
@@ -39,6 +39,7 @@ pub record Waits (disk : Option Told) (known : Known) (limit calls bytes : ℕ) 
 pub record IsKept (disk : Option Told) (known : Known) (limit : ℕ) (out : Option Waiting) (calls bytes : ℕ) : Type 0 where
   pub bound : known.next ≤ 2 ^ 64
   pub knows : IfSome disk (λ told. Knows told known)
+  pub fits : IfSome disk (λ told. length (content told) ≤ most_length)
   pub alone : out ≡ None → IfSome disk (λ told. known.end ≡ length (content told))
   pub waits : IfSome out (λ w. Waits disk known limit calls bytes w)
 

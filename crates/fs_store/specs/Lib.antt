@@ -8,7 +8,11 @@ pub mod Moments
 pub mod Opened
 pub mod Parts
 pub mod Placed
+pub mod Pointing
+pub mod Reopening
 pub mod Seeing
 pub mod Settled
+pub mod StaleLaws
+pub mod Staleness
 pub mod Stores
 pub mod Verdicts

@@ -14,11 +14,12 @@ ghost use Rattle.fs_scan.specs.Newest.{place_in};
 ghost use Rattle.zbase.specs.History.{added};
 ghost use Rattle.evaluator.specs.Settle.{settle, size};
 ghost use Rattle.fs_store.specs.Drafts.{HasNoRestore};
-ghost use Rattle.fs_store.specs.Fronts.{history_at, history_where};
+ghost use Rattle.fs_store.specs.Fronts.{history_at, history_where, records_where};
 ghost use Rattle.fs_store.specs.Kept.{IsKept, IsVoted, Knowable, out_of};
 ghost use Rattle.fs_store.specs.Moments.{OpensTo};
 ghost use Rattle.fs_store.specs.Placed.{first_at, item_rows, next_with};
 ghost use Rattle.fs_store.specs.Seeing.{SeenOn};
+ghost use Rattle.fs_store.specs.Staleness.{IsUnsettled};
 ghost use Rattle.fs_store.specs.Stores.{IsDraft, most_length};
 ghost use Rattle.fs_store.specs.Verdicts.{IsFree, clash_among, validation_at};
 ghost use Rattle.fs_store.specs.declared.reads.Seen.{Seen};
@@ -125,13 +126,15 @@ pub(crate) fn vote_on<D: Disk>(
     requires rules { IsDraft draft.now }
     requires seen { All (SeenOn (D.told disk.old) known.old.end) reads.now }
     ensures kept { IfOk result (λ w. IsKept (D.told disk.new) known.new limit (Some w) (D.spare_calls disk.new) (D.spare_bytes disk.new)) }
+    ensures holder { IfOk result (λ w. w.holder ≡ holder) }
     ensures voted { IfOk result (λ w. IfSome (D.told disk.old) (λ told. IsVoted (D.told disk.new) (history_at told known.old.end) known.new limit holder draft.now reads.now now w)) }
     ensures refused { IfErr result (λ refusal. IfSome (D.told disk.old) (λ told. (refusal ≡ VoteRefusal.Memory) ⊎ ((refusal ≡ VoteRefusal.Disk) ⊎ (validation_at (history_at told known.old.end) known.old.end limit draft.now (clash_among (history_at told known.old.end) reads.now) ≡ Some refusal)))) }
     ensures stays { IfErr result (λ refusal. (refusal ≡ VoteRefusal.Disk → ⊥) → IsKept (D.told disk.new) known.new limit None (D.spare_calls disk.new) (D.spare_bytes disk.new) × (D.told disk.new ≡ D.told disk.old)) }
+    ensures unsettled { OnErr result (IfSome (D.told disk.new) (IsUnsettled known.new.end None)) }
     ensures end { known.new.end ≡ known.old.end }
     ensures history { history_where (D.told disk.new) known.old.end ≡ history_where (D.told disk.old) known.old.end }
     ensures seen { (s : Seen) → SeenOn (D.told disk.old) known.old.end s → SeenOn (D.told disk.new) known.old.end s }
-    ensures any_moment { LeavesFrom (D.told disk.old) (D.told disk.new) (λ file image. OpensTo image (history_where (D.told disk.old) known.old.end)) }
+    ensures any_moment { LeavesFrom (D.told disk.old) (D.told disk.new) (λ file image. OpensTo image (history_where (D.told disk.old) known.old.end) known.old.end) }
     ensures calls { OnOk result (HasNoRestore draft.now → (D.counter disk.new).calls ≡ counted (counted (D.counter disk.old).calls)) }
     ensures twice { OnOk result (Twice (D.counter disk.old) (D.counter disk.new)) }
     ensures counts { Counts (D.counter disk.old) (D.counter disk.new) (IsErrOf result VoteRefusal.Disk) }
@@ -165,12 +168,14 @@ fn wait_on<D: Disk>(
     requires free { IsFree known.old.last known.old.next known.old.end limit draft.now }
     requires later { known.old.last < tid }
     ensures kept { IfOk result (λ w. IsKept (D.told disk.new) known.new limit (Some w) (D.spare_calls disk.new) (D.spare_bytes disk.new)) }
+    ensures holder { IfOk result (λ w. w.holder ≡ holder) }
     ensures waits { IfOk result (λ w. IfSome (D.told disk.old) (λ told. out_of (D.told disk.new) known.new.end w ≡ record { holder = holder; transaction = settle (history_at told known.old.end) draft.now tid; size = size draft.now })) }
     ensures stays { IsErrOf result LoadRefusal.Memory → IsKept (D.told disk.new) known.new limit None (D.spare_calls disk.new) (D.spare_bytes disk.new) × (D.told disk.new ≡ D.told disk.old) }
+    ensures unsettled { OnErr result (IfSome (D.told disk.new) (IsUnsettled known.new.end None)) }
     ensures end { known.new.end ≡ known.old.end }
     ensures history { history_where (D.told disk.new) known.old.end ≡ history_where (D.told disk.old) known.old.end }
     ensures seen { (s : Seen) → SeenOn (D.told disk.old) known.old.end s → SeenOn (D.told disk.new) known.old.end s }
-    ensures any_moment { LeavesFrom (D.told disk.old) (D.told disk.new) (λ file image. OpensTo image (history_where (D.told disk.old) known.old.end)) }
+    ensures any_moment { LeavesFrom (D.told disk.old) (D.told disk.new) (λ file image. OpensTo image (history_where (D.told disk.old) known.old.end) known.old.end) }
     ensures calls { OnOk result (HasNoRestore draft.now → (D.counter disk.new).calls ≡ counted (counted (D.counter disk.old).calls)) }
     ensures twice { OnOk result (Twice (D.counter disk.old) (D.counter disk.new)) }
     ensures counts { Counts (D.counter disk.old) (D.counter disk.new) (IsErrOf result LoadRefusal.Disk) }
@@ -194,23 +199,25 @@ pub(crate) fn finish_on<D: Disk>(
     disk: &mut D,
     known: &mut Known,
     limit: u64,
-    waiting: Waiting,
+    waiting: &Waiting,
 ) -> Result<(), Failed>
     requires limit { limit ≤ most_length }
-    requires kept { IsKept (D.told disk.old) known.old limit (Some waiting) (D.spare_calls disk.old) (D.spare_bytes disk.old) }
+    requires kept { IsKept (D.told disk.old) known.old limit (Some waiting.now) (D.spare_calls disk.old) (D.spare_bytes disk.old) }
     ensures kept { OnOk result (IsKept (D.told disk.new) known.new limit None (D.spare_calls disk.new) (D.spare_bytes disk.new)) }
-    ensures end { known.new.end ≡ (if is_ok result then known.old.end + waiting.size else known.old.end) }
-    ensures stands { OnOk result (IfSome (D.told disk.old) (λ told. history_where (D.told disk.new) known.new.end ≡ added (history_at told known.old.end) (out_of (D.told disk.old) known.old.end waiting).transaction)) }
+    ensures end { known.new.end ≡ (if is_ok result then known.old.end + waiting.now.size else known.old.end) }
+    ensures stands { OnOk result (IfSome (D.told disk.old) (λ told. history_where (D.told disk.new) known.new.end ≡ added (history_at told known.old.end) (out_of (D.told disk.old) known.old.end waiting.now).transaction)) }
     ensures untold { D.told disk.old ≡ None → D.told disk.new ≡ None }
+    ensures unsettled { OnErr result (IfSome (D.told disk.new) (IsUnsettled known.old.end (Some waiting.now))) }
+    ensures records { OnErr result (records_where (D.told disk.new) known.old.end ≡ records_where (D.told disk.old) known.old.end) }
     ensures history { OnErr result (history_where (D.told disk.new) known.old.end ≡ history_where (D.told disk.old) known.old.end) }
-    ensures seen { OnOk result ((s : Seen) → SeenOn (D.told disk.old) known.old.end s → SeenOn (D.told disk.new) known.new.end s) }
-    ensures any_moment { LeavesFrom (D.told disk.old) (D.told disk.new) (λ file image. OpensTo image (history_where (D.told disk.old) known.old.end) ⊎ OpensTo image (added (history_where (D.told disk.old) known.old.end) (out_of (D.told disk.old) known.old.end waiting).transaction)) }
+    ensures seen { (s : Seen) → SeenOn (D.told disk.old) known.old.end s → SeenOn (D.told disk.new) known.new.end s }
+    ensures any_moment { LeavesFrom (D.told disk.old) (D.told disk.new) (λ file image. OpensTo image (history_where (D.told disk.old) known.old.end) known.old.end ⊎ OpensTo image (added (history_where (D.told disk.old) known.old.end) (out_of (D.told disk.old) known.old.end waiting.now).transaction) (known.old.end + waiting.now.size)) }
     ensures calls { OnOk result ((D.counter disk.new).calls ≡ counted (counted (D.counter disk.old).calls)) }
     ensures twice { OnOk result (Twice (D.counter disk.old) (D.counter disk.new)) }
     ensures counts { Counts (D.counter disk.old) (D.counter disk.new) (IsErr result) }
 {
     overwrite_and_sync(disk, known.end + STATUS_AT as u64, STATUS_COUNTED)?;
-    know(known, &waiting);
+    know(known, waiting);
     Ok(())
 }
 
@@ -239,9 +246,10 @@ pub(crate) fn abort_on<D: Disk>(
 ) -> Result<(), Failed>
     requires { IsKept (D.told disk.old) known.now limit (Some waiting) (D.spare_calls disk.old) (D.spare_bytes disk.old) }
     ensures kept { OnOk result (IsKept (D.told disk.new) known.now limit None (D.spare_calls disk.new) (D.spare_bytes disk.new)) }
+    ensures unsettled { OnErr result (IfSome (D.told disk.new) (IsUnsettled known.now.end None)) }
     ensures history { history_where (D.told disk.new) known.now.end ≡ history_where (D.told disk.old) known.now.end }
-    ensures seen { OnOk result ((s : Seen) → SeenOn (D.told disk.old) known.now.end s → SeenOn (D.told disk.new) known.now.end s) }
-    ensures any_moment { LeavesFrom (D.told disk.old) (D.told disk.new) (λ file image. OpensTo image (history_where (D.told disk.old) known.now.end)) }
+    ensures seen { (s : Seen) → SeenOn (D.told disk.old) known.now.end s → SeenOn (D.told disk.new) known.now.end s }
+    ensures any_moment { LeavesFrom (D.told disk.old) (D.told disk.new) (λ file image. OpensTo image (history_where (D.told disk.old) known.now.end) known.now.end) }
     ensures calls { OnOk result ((D.counter disk.new).calls ≡ counted (counted (D.counter disk.old).calls)) }
     ensures twice { OnOk result (Twice (D.counter disk.old) (D.counter disk.new)) }
     ensures counts { Counts (D.counter disk.old) (D.counter disk.new) (IsErr result) }

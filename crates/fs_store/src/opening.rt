@@ -1,6 +1,7 @@
-ghost use Rattle.std.specs.Prelude.{◌≡◌, ◌⊎◌, ◌↔◌, ◌+◌, ◌≤◌, ◌^◌, ℕ, false, true, drop, length, IfErr, IfOk, IfSome, IsErr, IsErrOf, OnOk, OnErr};
+ghost use Rattle.std.specs.Prelude.{◌≡◌, ◌⊎◌, ◌↔◌, ◌+◌, ◌≤◌, ◌^◌, ℕ, false, true, drop, length, IfErr, IfOk, IfSome, IsErr, IsErrOf, IsSome, None, OnOk, OnErr};
 ghost use Rattle.std.specs.Option.{ForSome};
 ghost use Rattle.zbase.specs.Faults.{Counts};
+ghost use Rattle.zdisk.specs.Crashes.{LeavesFrom};
 ghost use Rattle.zdisk.specs.Disk.{content};
 ghost use Rattle.fs_record.specs.declared.damage.Damage.{Damage as Kind};
 ghost use Rattle.fs_record.specs.Opening.{Damaged};
@@ -9,10 +10,17 @@ ghost use Rattle.fs_scan.specs.Newest.{place_in};
 ghost use Rattle.fs_index.specs.Places.{place_of};
 ghost use Rattle.fs_store.specs.Opened.{BringsNot, CutOffFailed, CutsOff, IsRefusedFor, LeavesDisk, MayNotStay, Readies, StaysTorn, Tidies, waiting_from};
 ghost use Rattle.fs_store.specs.FileReads.{Reads, above, of_scan};
+ghost use Rattle.fs_store.specs.Fronts.{history_where, records_where};
+ghost use Rattle.fs_store.specs.Kept.{IsKept};
+ghost use Rattle.fs_store.specs.Seeing.{SeenOn};
+ghost use Rattle.fs_store.specs.Staleness.{EitherOf, IsUnsettled, SettlesOn};
 ghost use Rattle.fs_store.specs.Stores.{most_length};
+ghost use Rattle.fs_store.specs.declared.reads.Seen.{Seen};
+ghost use Rattle.fs_store.specs.declared.opening.OpenRefusal.{OpenRefusal};
 ghost use Rattle.fs_store.specs.declared.opening.OpenRefusal.TheVariants as refusals;
 
 use crate::known::Known;
+use crate::waiting::Waiting;
 use fs_index::Index;
 use fs_record::{Damage, MAX_LENGTH, STATUS_AT, STATUS_WAITING, TXN_HEAD_LEN};
 use fs_scan::{ScanRefusal, Scanned, scan};
@@ -194,4 +202,38 @@ pub(crate) fn open_file<D: Disk>(alloc: Global, disk: &mut D) -> Result<FileRead
     }
     cut_off(disk, read.known.end, read.torn)?;
     Ok(read)
+}
+
+/// Opens a stale store's disk again, by one scan. What it knows is then the history that was known, or that and the
+/// undecided transaction. A stop at any moment leaves a file that opens to one of the two.
+///
+/// Where the disk tells it meets no damage, and no file that is too long.
+pub(crate) fn open_again<D: Disk>(
+    alloc: Global,
+    disk: &mut D,
+    known: &mut Known,
+    limit: u64,
+    undecided: &Option<Waiting>,
+) -> Result<(), OpenRefusal>
+    requires unsettled { IfSome (D.told disk.old) (IsUnsettled known.old.end undecided.now) }
+    ensures kept { OnOk result (IsKept (D.told disk.new) known.new limit None (D.spare_calls disk.new) (D.spare_bytes disk.new)) }
+    ensures settled { OnOk result (IfSome (D.told disk.old) (λ told. SettlesOn told known.old.end undecided.now (D.told disk.new) known.new.end)) }
+    ensures undamaged { IfErr result (λ refusal. IfSome (D.told disk.old) (λ _. (refusal ≡ OpenRefusal.Disk) ⊎ (refusal ≡ OpenRefusal.Memory))) }
+    ensures stays { OnErr result (known.new.end ≡ known.old.end) }
+    ensures unsettled { OnErr result (IfSome (D.told disk.new) (IsUnsettled known.old.end undecided.now)) }
+    ensures history { OnErr result (history_where (D.told disk.new) known.old.end ≡ history_where (D.told disk.old) known.old.end) }
+    ensures records { OnErr result (records_where (D.told disk.new) known.old.end ≡ records_where (D.told disk.old) known.old.end) }
+    ensures seen { (seen : Seen) → SeenOn (D.told disk.old) known.old.end seen → SeenOn (D.told disk.new) known.new.end seen }
+    ensures tells { IsSome (D.told disk.old) ↔ IsSome (D.told disk.new) }
+    ensures any_moment { LeavesFrom (D.told disk.old) (D.told disk.new) (λ file image. EitherOf (D.told disk.old) known.old.end undecided.now image) }
+    ensures counts { Counts (D.counter disk.old) (D.counter disk.new) (IsErrOf result OpenRefusal.Disk) }
+{
+    // what is undecided is said of the file alone
+    let _ = undecided;
+    let FileRead {
+        known: again,
+        torn: _,
+    } = open_file(alloc, disk)?;
+    *known = again;
+    Ok(())
 }

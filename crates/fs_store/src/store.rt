@@ -1,7 +1,7 @@
-ghost use Rattle.std.specs.Prelude.{◌≡◌, ◌⊎◌, ◌<◌, ◌≤◌, All, List, ℕ, false, IfErr, IfOk, IfSome, IsErr, IsErrOf, None, OnErr, OnOk, Some, length, map};
+ghost use Rattle.std.specs.Prelude.{◌≡◌, ◌⊎◌, ◌↔◌, ◌<◌, ◌≤◌, All, List, ℕ, false, true, IfErr, IfOk, IfSome, IsErr, IsErrOf, IsOk, None, OnErr, OnOk, Some, length, map};
 ghost use Rattle.std.specs.Option.{option_map};
 ghost use Rattle.zbase.specs.Faults.{Counts, Twice};
-ghost use Rattle.zbase.specs.History.{IsHistory, added};
+ghost use Rattle.zbase.specs.History.{IsHistory};
 ghost use Rattle.zbase.specs.Values.{last, serial, transaction, upto, value};
 ghost use Rattle.zdisk.specs.Crashes.{IsSynced};
 ghost use Rattle.zdisk.specs.Disk.{content, counted};
@@ -9,10 +9,10 @@ ghost use Rattle.zdisk.specs.Images.{IsImage};
 ghost use Rattle.evaluator.specs.Facts.{log_row, parts_of};
 ghost use Rattle.fs_store.specs.Drafts.{HasNoRestore};
 ghost use Rattle.fs_store.specs.Finding.{CostsLoad};
-ghost use Rattle.fs_store.specs.Moments.{IsWhole, KeepsGiven, KeepsOpening, OpensTo, OpensToEither};
+ghost use Rattle.fs_store.specs.Moments.{IsWhole, KeepsGiven, KeepsOpening, OpensAsBefore, OpensAsKnown, OpensToEither};
 ghost use Rattle.fs_store.specs.Opened.{IsRefusedFor, LeavesDisk, Opens};
 ghost use Rattle.fs_store.specs.Seeing.{IsSeen};
-ghost use Rattle.fs_store.specs.Stores.{IsDraft, IsTold, IsVoteOf, Out, Stays, finished, most_length, on_disk, staled, voting};
+ghost use Rattle.fs_store.specs.Stores.{IsDraft, IsTold, IsVoteOf, Loses, Out, Settles, Stands, Stays, finished, idle, most_length, on_disk, staled, unsettled, voting};
 ghost use Rattle.fs_store.specs.Verdicts.{tid_at, verdict, voted_out};
 ghost use Rattle.fs_store.specs.declared.opening.OpenRefusal.{OpenRefusal};
 ghost use Rattle.fs_store.specs.declared.refusal.FinishRefusal.{FinishRefusal};
@@ -22,7 +22,7 @@ ghost use Rattle.fs_store.specs.declared.refusal.VoteRefusal.{VoteRefusal};
 
 use crate::committing::{abort_on, finish_on, vote_on};
 use crate::known::Known;
-use crate::opening::{FileRead, open_file};
+use crate::opening::{FileRead, open_again, open_file};
 use crate::waiting::Waiting;
 use crate::{
     AbortRefusal, FinishRefusal, LoadRefusal, Loaded, OpenRefusal, Seen, VoteRefusal, Voted,
@@ -42,21 +42,24 @@ pub struct Store<D: Disk + Drop> {
     known: Known,
     limit: u64,
     out: Option<Waiting>,
+    /// The transaction of a finish that failed, until the disk is opened again.
+    undecided: Option<Waiting>,
     stale: bool,
 }
 
 impl<D: Disk + Drop> Model for Store<D> {
-    ghost use Rattle.std.specs.Prelude.{◌≡◌, ◌≤◌, false};
+    ghost use Rattle.std.specs.Prelude.{◌≡◌, ◌≤◌, IfSome, None, false, true};
     ghost use Rattle.std.specs.Option.{option_map};
     ghost use Rattle.fs_store.specs.Fronts.{history_where};
     ghost use Rattle.fs_store.specs.Kept.{IsKept, out_of};
+    ghost use Rattle.fs_store.specs.Staleness.{IsUnsettled};
     ghost use Rattle.fs_store.specs.Stores.{StoreView, most_length};
 
     ghost Value = { StoreView };
 
-    ghost view = { λ store. record { history = history_where (D.told store.disk) store.known.end; end = store.known.end; limit = store.limit; out = option_map (out_of (D.told store.disk) store.known.end) store.out; stale = store.stale; disk = record { told = D.told store.disk; counter = D.counter store.disk; spare_calls = D.spare_calls store.disk; spare_bytes = D.spare_bytes store.disk } } };
+    ghost view = { λ store. record { history = history_where (D.told store.disk) store.known.end; end = store.known.end; limit = store.limit; out = option_map (out_of (D.told store.disk) store.known.end) store.out; undecided = option_map (out_of (D.told store.disk) store.known.end) store.undecided; stale = store.stale; disk = record { told = D.told store.disk; counter = D.counter store.disk; spare_calls = D.spare_calls store.disk; spare_bytes = D.spare_bytes store.disk } } };
 
-    ghost invariant = { λ store. (store.limit ≤ most_length) × (store.stale ≡ false → IsKept (D.told store.disk) store.known store.limit store.out (D.spare_calls store.disk) (D.spare_bytes store.disk)) };
+    ghost invariant = { λ store. (store.limit ≤ most_length) × (store.stale ≡ false → (store.undecided ≡ None) × IsKept (D.told store.disk) store.known store.limit store.out (D.spare_calls store.disk) (D.spare_bytes store.disk)) × (store.stale ≡ true → (store.out ≡ None) × IfSome (D.told store.disk) (IsUnsettled store.known.end store.undecided)) };
 }
 
 impl<D: Disk + Drop> Store<D> {
@@ -86,6 +89,7 @@ impl<D: Disk + Drop> Store<D> {
                     known,
                     limit,
                     out: None,
+                    undecided: None,
                     stale: false,
                 })
             }
@@ -93,16 +97,58 @@ impl<D: Disk + Drop> Store<D> {
         }
     }
 
-    /// Where the disk tells, ids of transactions rise from above 0, that of a vote that is out is above the last, and the
-    /// one image of the disk opens to the history; where no vote is out, it is a file of it.
+    /// Where the disk tells, ids of transactions rise from above 0, and that of a vote that is out, or of an undecided
+    /// transaction, is above the last. Each image of the disk opens to the history, or to that and the undecided
+    /// transaction; a store that isn't stale has one image, which is what reads give, and where no vote is out it is a
+    /// file of the history.
     pub fn is_sound(&self)
-        requires fresh { self.now.stale ≡ false }
+        ensures undecided { self.now.stale ≡ false → self.now.undecided ≡ None }
+        ensures idle { self.now.stale ≡ true → self.now.out ≡ None }
         ensures history { IsTold self.now → IsHistory self.now.history }
         ensures later { IsTold self.now → (o : Out) → self.now.out ≡ Some o → last self.now.history < o.transaction.tid }
-        ensures image { IfSome self.now.disk.told (λ told. IsSynced told × OpensTo (content told) self.now.history) }
-        ensures whole { self.now.out ≡ None → IfSome self.now.disk.told (λ told. IsWhole self.now (content told)) }
+        ensures later_undecided { IsTold self.now → (o : Out) → self.now.undecided ≡ Some o → last self.now.history < o.transaction.tid }
+        ensures images { IfSome self.now.disk.told (λ told. (image : List ℕ) → IsImage told.now image → OpensAsKnown self.now image) }
+        ensures image { self.now.stale ≡ false → IfSome self.now.disk.told (λ told. IsSynced told × OpensAsBefore self.now (content told)) }
+        ensures whole { self.now.stale ≡ false → self.now.out ≡ None → IfSome self.now.disk.told (λ told. IsWhole self.now (content told)) }
     {
         let _ = &self.known;
+    }
+
+    /// Whether the disk has failed in a vote, a finish or an abort since it was opened.
+    pub fn is_stale(&self) -> bool
+        ensures { result ≡ self.now.stale }
+    {
+        self.stale
+    }
+
+    /// Opens a stale store's disk again; a store that isn't stale stays as it was. With `Ok` the store isn't stale: its
+    /// history is the one that was known, or that and the undecided transaction. With `Err` it is stale as before.
+    pub fn refresh(&mut self) -> Result<(), LoadRefusal>
+        ensures nothing { self.old.stale ≡ false → self.new ≡ self.old }
+        ensures no_refusal { self.old.stale ≡ false → IsOk result }
+        ensures fresh { OnOk result (self.new.stale ≡ false) }
+        ensures settled { OnOk result (IsTold self.old → Settles self.old self.new) }
+        ensures stands { OnErr result (self.new ≡ on_disk self.old self.new.disk) }
+        ensures out { self.new.out ≡ self.old.out }
+        ensures limit { self.new.limit ≡ self.old.limit }
+        ensures tells { IsTold self.old → IsTold self.new }
+        ensures seen { (seen : Seen) → IsSeen self.old seen → IsSeen self.new seen }
+        ensures any_moment { KeepsOpening self.old self.new }
+        ensures counts { Counts self.old.disk.counter self.new.disk.counter (IsErrOf result LoadRefusal.Disk) }
+    {
+        if !self.stale {
+            return Ok(());
+        }
+        open_again(
+            self.alloc,
+            &mut self.disk,
+            &mut self.known,
+            self.limit,
+            &self.undecided,
+        )?;
+        self.undecided = None;
+        self.stale = false;
+        Ok(())
     }
 
     /// The number of transactions.
@@ -132,49 +178,73 @@ impl<D: Disk + Drop> Store<D> {
         }
     }
 
-    /// What the object was up to the transaction `at`: at most two device calls for its last record, two for each later
+    /// What the object was up to the transaction `at`; a stale store is opened again first. Else it costs at most two device calls for its last record, two for each later
     /// one that is passed, and two for each back pointer that is followed.
     pub fn load(&mut self, oid: Oid, at: Tid) -> Result<Loaded, LoadRefusal>
-        requires fresh { self.old.stale ≡ false }
-        ensures value { IfOk result (λ loaded. IsTold self.old → (loaded.value ≡ value (upto self.old.history at) oid) × (loaded.serial ≡ serial (upto self.old.history at) oid)) }
-        ensures seen { IfOk result (λ loaded. IsSeen self.new (record { oid = oid; serial = loaded.serial; place = loaded.place })) }
-        ensures same { Stays self.old self.new }
+        ensures value { IfOk result (λ loaded. IsTold self.new → (loaded.value ≡ value (upto self.new.history at) oid) × (loaded.serial ≡ serial (upto self.new.history at) oid)) }
+        ensures read { IfOk result (λ loaded. IsSeen self.new (record { oid = oid; serial = loaded.serial; place = loaded.place })) }
+        ensures fresh { OnOk result (self.new.stale ≡ false) }
+        ensures settled { OnOk result (IsTold self.old → Settles self.old self.new) }
+        ensures stands { OnErr result (IsTold self.old → Stands self.old self.new) }
+        ensures same { self.old.stale ≡ false → Stays self.old self.new }
+        ensures out { self.new.out ≡ self.old.out }
+        ensures limit { self.new.limit ≡ self.old.limit }
+        ensures tells { IsTold self.old → IsTold self.new }
+        ensures seen { (seen : Seen) → IsSeen self.old seen → IsSeen self.new seen }
         ensures any_moment { KeepsOpening self.old self.new }
-        ensures reads { IfSome self.old.disk.told (λ told. CostsLoad told self.old.end oid at self.old.disk.counter.calls self.new.disk.counter.calls) }
+        ensures reads { self.old.stale ≡ false → IfSome self.old.disk.told (λ told. CostsLoad told self.old.end oid at self.old.disk.counter.calls self.new.disk.counter.calls) }
         ensures counts { Counts self.old.disk.counter self.new.disk.counter (IsErrOf result LoadRefusal.Disk) }
     {
+        self.refresh()?;
         let len = self.long();
         loading::load(self.alloc, &mut self.disk, &self.known, len, oid, at)
     }
 
-    /// What the transaction did, where there is one with this id up to the transaction `at`.
+    /// What the transaction did, where there is one with this id up to the transaction `at`. A stale store is opened again
+    /// first.
     pub fn transaction(&mut self, tid: Tid, at: Tid) -> Result<Option<Parts>, LoadRefusal>
-        requires fresh { self.old.stale ≡ false }
-        ensures parts { IfOk result (λ parts. IsTold self.old → parts ≡ option_map (parts_of (upto self.old.history at)) (transaction (upto self.old.history at) tid)) }
-        ensures same { Stays self.old self.new }
+        ensures parts { IfOk result (λ parts. IsTold self.new → parts ≡ option_map (parts_of (upto self.new.history at)) (transaction (upto self.new.history at) tid)) }
+        ensures fresh { OnOk result (self.new.stale ≡ false) }
+        ensures settled { OnOk result (IsTold self.old → Settles self.old self.new) }
+        ensures stands { OnErr result (IsTold self.old → Stands self.old self.new) }
+        ensures same { self.old.stale ≡ false → Stays self.old self.new }
+        ensures out { self.new.out ≡ self.old.out }
+        ensures limit { self.new.limit ≡ self.old.limit }
+        ensures tells { IsTold self.old → IsTold self.new }
+        ensures seen { (seen : Seen) → IsSeen self.old seen → IsSeen self.new seen }
         ensures any_moment { KeepsOpening self.old self.new }
         ensures counts { Counts self.old.disk.counter self.new.disk.counter (IsErrOf result LoadRefusal.Disk) }
     {
+        self.refresh()?;
         let len = self.long();
         parts::transaction(self.alloc, &mut self.disk, &self.known, len, tid.0, at.0)
     }
 
-    /// Who did what, up to the transaction `at`.
+    /// Who did what, up to the transaction `at`. A stale store is opened again first.
     pub fn log(&mut self, at: Tid) -> Result<LogRows, LoadRefusal>
-        requires fresh { self.old.stale ≡ false }
-        ensures rows { IfOk result (λ rows. IsTold self.old → rows ≡ map log_row (upto self.old.history at).transactions) }
-        ensures same { Stays self.old self.new }
+        ensures rows { IfOk result (λ rows. IsTold self.new → rows ≡ map log_row (upto self.new.history at).transactions) }
+        ensures fresh { OnOk result (self.new.stale ≡ false) }
+        ensures settled { OnOk result (IsTold self.old → Settles self.old self.new) }
+        ensures stands { OnErr result (IsTold self.old → Stands self.old self.new) }
+        ensures same { self.old.stale ≡ false → Stays self.old self.new }
+        ensures out { self.new.out ≡ self.old.out }
+        ensures limit { self.new.limit ≡ self.old.limit }
+        ensures tells { IsTold self.old → IsTold self.new }
+        ensures seen { (seen : Seen) → IsSeen self.old seen → IsSeen self.new seen }
         ensures any_moment { KeepsOpening self.old self.new }
         ensures counts { Counts self.old.disk.counter self.new.disk.counter (IsErrOf result LoadRefusal.Disk) }
     {
+        self.refresh()?;
         let len = self.long();
         parts::log(self.alloc, &mut self.disk, &self.known, len, at.0)
     }
 
-    /// Votes for a draft that rests on these reads, for a worker. With `Ok` the vote is out: its transaction stands behind
-    /// the file, doesn't count yet, and counts once it is finished, and never if it is aborted. All memory that these two
-    /// need is taken here. With `Err` the draft comes back. The record is written and synced by exactly two device calls,
-    /// behind those that find what is put back.
+    /// Votes for a draft that rests on these reads, for a worker, where no vote is out; a stale store is opened again
+    /// first. With `Ok` the vote is out: its transaction stands behind the file, doesn't count yet, and counts once it is
+    /// finished, and never if it is aborted. All memory that these two need is taken here. What is put back points to the
+    /// record that has the data, or to none. With `Err` the draft comes back; where the disk failed the store is stale.
+    /// The record is written and synced by exactly two device calls, behind those that open a stale store and those that
+    /// find what is put back.
     pub fn vote(
         &mut self,
         holder: u32,
@@ -182,28 +252,40 @@ impl<D: Disk + Drop> Store<D> {
         reads: &[Seen],
         now: Tid,
     ) -> Result<Voted, (VoteRefusal, Draft)>
-        requires fresh { self.old.stale ≡ false }
         requires rules { IsDraft draft }
         requires seen { All (IsSeen self.old) reads.now }
-        ensures free { IfOk result (λ _. IsTold self.old → verdict self.old reads.now draft ≡ None) }
-        ensures tid { IfOk result (λ voted. IsTold self.old → voted ≡ tid_at self.old.history now) }
-        ensures out { IfOk result (λ voted. IsTold self.old → self.new ≡ voting self.old (Some (voted_out self.old holder draft voted)) self.new.disk) }
+        ensures settled { IfOk result (λ _. IsTold self.old → Settles self.old (idle self.new)) }
+        ensures free { IfOk result (λ _. (self.old.out ≡ None) × (IsTold self.old → verdict (idle self.new) reads.now draft ≡ None)) }
+        ensures tid { IfOk result (λ voted. IsTold self.old → voted ≡ tid_at self.new.history now) }
+        ensures out { IfOk result (λ voted. IsTold self.old → self.new.out ≡ Some (voted_out (idle self.new) holder draft voted)) }
         ensures held { IfOk result (λ voted. IsVoteOf self.new voted × (self.new.stale ≡ false)) }
-        ensures refused { IfErr result (λ (refusal, _). IsTold self.old → (refusal ≡ VoteRefusal.Memory) ⊎ ((refusal ≡ VoteRefusal.Disk) ⊎ (verdict self.old reads.now draft ≡ Some refusal))) }
+        ensures holder { IfOk result (λ _. (o : Out) → self.new.out ≡ Some o → o.holder ≡ holder) }
+        ensures refused { IfErr result (λ (refusal, _). IsTold self.old → (refusal ≡ VoteRefusal.Memory) ⊎ ((refusal ≡ VoteRefusal.Disk) ⊎ (Settles self.old self.new × (verdict self.new reads.now draft ≡ Some refusal)))) }
         // A vote that is refused since another is out takes no memory and no device call.
         ensures busy { IfErr result (λ (refusal, _). (refusal ≡ VoteRefusal.Memory) ⊎ (refusal ≡ VoteRefusal.Disk) → self.old.out ≡ None) }
+        ensures busy_with { IfErr result (λ (refusal, _). (o : Out) → self.old.out ≡ Some o → (refusal ≡ VoteRefusal.Busy o.holder) × (self.new ≡ self.old)) }
+        ensures still { IfErr result (λ _. self.new.out ≡ self.old.out) }
         ensures back { IfErr result (λ (_, back). back ≡ draft) }
-        ensures stays { IfErr result (λ (refusal, _). (refusal ≡ VoteRefusal.Disk → ⊥) → (self.new ≡ on_disk self.old self.new.disk) × (self.new.disk.told ≡ self.old.disk.told)) }
-        ensures stale { IfErr result (λ (refusal, _). refusal ≡ VoteRefusal.Disk → self.new ≡ staled self.old self.new.disk) }
+        ensures stands { IfErr result (λ (refusal, _). (refusal ≡ VoteRefusal.Disk → ⊥) → IsTold self.old → Stands self.old self.new) }
+        ensures stays { IfErr result (λ (refusal, _). (refusal ≡ VoteRefusal.Disk → ⊥) → self.old.stale ≡ false → (self.new ≡ on_disk self.old self.new.disk) × (self.new.disk.told ≡ self.old.disk.told)) }
+        ensures stale { IfErr result (λ (refusal, _). refusal ≡ VoteRefusal.Disk → (self.new.stale ≡ true) × (self.new.out ≡ None)) }
+        ensures lost { IfErr result (λ (refusal, _). refusal ≡ VoteRefusal.Disk → IsTold self.old → Loses self.old self.new) }
+        ensures limit { self.new.limit ≡ self.old.limit }
+        ensures tells { IsTold self.old → IsTold self.new }
         ensures seen { (seen : Seen) → IsSeen self.old seen → IsSeen self.new seen }
         ensures any_moment { KeepsOpening self.old self.new }
-        ensures calls { IfOk result (λ _. HasNoRestore draft → self.new.disk.counter.calls ≡ counted (counted self.old.disk.counter.calls)) }
+        ensures calls { IfOk result (λ _. self.old.stale ≡ false → HasNoRestore draft → self.new.disk.counter.calls ≡ counted (counted self.old.disk.counter.calls)) }
         ensures twice { IfOk result (λ _. Twice self.old.disk.counter self.new.disk.counter) }
         ensures counts { IfOk result (λ _. Counts self.old.disk.counter self.new.disk.counter ⊥) }
         ensures fault { IfErr result (λ (refusal, _). Counts self.old.disk.counter self.new.disk.counter (refusal ≡ VoteRefusal.Disk)) }
     {
         if let Some(waiting) = &self.out {
             return Err((VoteRefusal::Busy(waiting.holder), draft));
+        }
+        match self.refresh() {
+            Ok(()) => {}
+            Err(LoadRefusal::Disk) => return Err((VoteRefusal::Disk, draft)),
+            Err(LoadRefusal::Memory) => return Err((VoteRefusal::Memory, draft)),
         }
         let voted = vote_on(
             self.alloc,
@@ -229,18 +311,18 @@ impl<D: Disk + Drop> Store<D> {
     }
 
     /// The voted transaction counts from now on. Takes no memory, and makes exactly two device calls. Where one of them
-    /// failed the store is stale, and whether the transaction counts is known once the disk is opened again.
+    /// failed the store is stale, and whether the transaction counts is undecided until the disk is opened again.
     pub fn finish(&mut self, voted: Voted) -> Result<Tid, FinishRefusal>
-        requires fresh { self.old.stale ≡ false }
         requires vote { IsVoteOf self.old voted }
         ensures tid { IfOk result (λ tid. tid ≡ voted) }
         ensures stands { OnOk result (IsTold self.old → self.new ≡ finished self.old self.old.out self.new.disk) }
         ensures done { OnOk result ((self.new.out ≡ None) × (self.new.stale ≡ false)) }
-        ensures every_image { OnOk result (IfSome self.new.disk.told (λ told. (image : List ℕ) → IsImage told.now image → OpensTo image self.new.history)) }
+        ensures every_image { OnOk result (IfSome self.new.disk.told (λ told. (image : List ℕ) → IsImage told.now image → OpensAsBefore self.new image)) }
         ensures unknown { IfErr result (λ refusal. refusal ≡ FinishRefusal.Unknown voted) }
-        ensures stale { OnErr result (self.new ≡ staled self.old self.new.disk) }
-        ensures seen { OnOk result ((seen : Seen) → IsSeen self.old seen → IsSeen self.new seen) }
-        ensures any_moment { (o : Out) → self.old.out ≡ Some o → OpensToEither self.old self.new (added self.old.history o.transaction) }
+        ensures stale { OnErr result (self.new ≡ unsettled self.old self.new.disk) }
+        ensures seen { (seen : Seen) → IsSeen self.old seen → IsSeen self.new seen }
+        ensures tells { IsTold self.old → IsTold self.new }
+        ensures any_moment { (o : Out) → self.old.out ≡ Some o → OpensToEither self.old self.new o }
         ensures calls { OnOk result (self.new.disk.counter.calls ≡ counted (counted self.old.disk.counter.calls)) }
         ensures twice { OnOk result (Twice self.old.disk.counter self.new.disk.counter) }
         ensures counts { Counts self.old.disk.counter self.new.disk.counter (IsErr result) }
@@ -248,9 +330,10 @@ impl<D: Disk + Drop> Store<D> {
         let tid = voted.spend();
         match self.out.take() {
             Some(waiting) => {
-                match finish_on(&mut self.disk, &mut self.known, self.limit, waiting) {
+                match finish_on(&mut self.disk, &mut self.known, self.limit, &waiting) {
                     Ok(()) => Ok(tid),
                     Err(_) => {
+                        self.undecided = Some(waiting);
                         self.stale = true;
                         Err(FinishRefusal::Unknown(tid))
                     }
@@ -263,11 +346,11 @@ impl<D: Disk + Drop> Store<D> {
     /// The voted transaction never counts: its record is cut off. Takes no memory, and makes exactly two device calls.
     /// Where one of them failed the store is stale.
     pub fn abort(&mut self, voted: Voted) -> Result<(), AbortRefusal>
-        requires fresh { self.old.stale ≡ false }
         requires vote { IsVoteOf self.old voted }
         ensures gone { OnOk result (self.new ≡ voting self.old None self.new.disk) }
         ensures stale { OnErr result (self.new ≡ staled self.old self.new.disk) }
-        ensures seen { OnOk result ((seen : Seen) → IsSeen self.old seen → IsSeen self.new seen) }
+        ensures seen { (seen : Seen) → IsSeen self.old seen → IsSeen self.new seen }
+        ensures tells { IsTold self.old → IsTold self.new }
         ensures any_moment { KeepsOpening self.old self.new }
         ensures calls { OnOk result (self.new.disk.counter.calls ≡ counted (counted self.old.disk.counter.calls)) }
         ensures twice { OnOk result (Twice self.old.disk.counter self.new.disk.counter) }
@@ -286,11 +369,12 @@ impl<D: Disk + Drop> Store<D> {
         }
     }
 
-    /// The disk under the store. Where the store isn't stale, the disk's one image is what reads give, a file of the
-    /// store's history.
+    /// The disk under the store. Each of its images opens to the store's history, or to that and the undecided transaction.
+    /// Where the store isn't stale, the one image is what reads give, a file of the store's history.
     pub fn into_disk(self) -> D
         requires { self.out ≡ None }
         ensures told { D.told result ≡ self.disk.told }
+        ensures images { IfSome (D.told result) (λ told. (image : List ℕ) → IsImage told.now image → OpensAsKnown self image) }
         ensures whole { self.stale ≡ false → IfSome (D.told result) (λ told. IsSynced told × IsWhole self (content told)) }
         ensures counter { D.counter result ≡ self.disk.counter }
         ensures spare { (D.spare_calls result ≡ self.disk.spare_calls) × (D.spare_bytes result ≡ self.disk.spare_bytes) }
@@ -301,6 +385,7 @@ impl<D: Disk + Drop> Store<D> {
             known: _,
             limit: _,
             out: _,
+            undecided: _,
             stale: _,
         } = self;
         disk
