@@ -28,6 +28,6 @@ mod waiting;
 pub use laws::stopped_settles;
 pub use opening::OpenRefusal;
 pub use reads::{Loaded, Seen};
-pub use refusal::{AbortRefusal, FinishRefusal, LoadRefusal, VoteRefusal};
+pub use refusal::{AbortRefusal, FinishRefusal, LoadRefusal, Spent, VoteRefusal};
 pub use store::Store;
 pub use voted::Voted;
