@@ -8,7 +8,7 @@ use Rattle.zdisk.specs.Recorded.{Buffer, last_of, undone}
 use Rattle.zdisk.specs.declared.record.Entry.TheVariants as entries
 
 -- the front of a written content: what stood before the piece, and the piece
-length_front : (at : ℕ) (piece bytes : List ℕ) → at ≤ length bytes → length (take at bytes ++ piece) ≡ at + length piece
+pub length_front : (at : ℕ) (piece bytes : List ℕ) → at ≤ length bytes → length (take at bytes ++ piece) ≡ at + length piece
 length_front at piece bytes within = length-append (take at bytes) piece ∙ ap (λ (n : ℕ). n + length piece) (length-take-le at bytes within)
 
 -- the file reaches beyond the piece
@@ -47,13 +47,13 @@ written_file at len piece bytes before within =
           ∙ ap (λ (k : ℕ). put at piece (take k bytes)) more
     ]
 
-last_joined : (xs ys : List ℕ) → last_of (length ys) (xs ++ ys) ≡ ys
+pub last_joined : (xs ys : List ℕ) → last_of (length ys) (xs ++ ys) ≡ ys
 last_joined xs ys = drop_at xs ys (length (xs ++ ys) - length ys) (omega (arith, length-append xs ys))
 
-rest_joined : (xs ys : List ℕ) → take (length (xs ++ ys) - length ys) (xs ++ ys) ≡ xs
+pub rest_joined : (xs ys : List ℕ) → take (length (xs ++ ys) - length ys) (xs ++ ys) ≡ xs
 rest_joined xs ys = take_at xs ys (length (xs ++ ys) - length ys) (omega (arith, length-append xs ys))
 
-three_parts : (at n : ℕ) (bytes : List ℕ) → take at bytes ++ take n (drop at bytes) ++ drop (at + n) bytes ≡ bytes
+pub three_parts : (at n : ℕ) (bytes : List ℕ) → take at bytes ++ take n (drop at bytes) ++ drop (at + n) bytes ≡ bytes
 three_parts at n bytes =
     append_assoc (take at bytes) (take n (drop at bytes)) (drop (at + n) bytes)
     ∙ ap (λ (x : List ℕ). take at bytes ++ (take n (drop at bytes) ++ x)) (sym (drop-drop n at bytes))

@@ -1,3 +1,8 @@
+mod Blending
 mod Buffers
+mod Covering
+mod Filled
+mod Following
+mod Mixing
 mod Queues
 mod Telling

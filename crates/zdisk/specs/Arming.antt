@@ -33,6 +33,12 @@ disarmed c = counter_of c.count c.calls (begun [] c.arms.hits c.arms.stopped)
 abbrev pub resumed : Counter → Counter
 resumed c = counter_of (length c.arms.hits) c.calls (begun c.arms.queue c.arms.hits false)
 
+-- the seed of the last of these, 0 where there is none
+abbrev pub last_seed : List Arm → ℕ
+last_seed [] = 0
+last_seed (x ∷ []) = x.seed
+last_seed (x ∷ y ∷ xs) = last_seed (y ∷ xs)
+
 -- ---- one call
 
 abbrev pub met_first : Arm → Met

@@ -12,3 +12,8 @@ pub mod ArmingLaws
 pub mod Seeds
 pub mod SeedLaws
 pub mod WorkedDisks
+pub mod Filling
+pub mod Undoing
+pub mod Effects
+pub mod Room
+pub mod Keeping

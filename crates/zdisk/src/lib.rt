@@ -7,7 +7,11 @@ mod laws;
 mod memory;
 mod queue;
 mod record;
+mod recorded;
+mod recording;
+mod seeds;
 mod synced;
+mod undoing;
 
 pub use disk::Disk;
 pub use file::FileDisk;

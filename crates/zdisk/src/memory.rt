@@ -1,128 +1,236 @@
-ghost use Rattle.std.specs.Prelude.{◌≡◌, ◌-◌, ◌≤◌, Some, length, min, vec_len, vec_capacity};
+ghost use Rattle.std.specs.Prelude.{◌≡◌, ◌+◌, ◌≤◌, [], Some, false, true, length, take, option_map, OnOk, OnErr, IsErr};
 ghost use Rattle.std.specs.declared.option.Option.{Option};
-ghost use Rattle.zbase.specs.Faults.{IsFaultless};
-ghost use Rattle.zdisk.specs.Disk.{synced};
-ghost use Rattle.zdisk.specs.Recorded.{told_by};
+ghost use Rattle.zbase.specs.Faults.{Counts, IsFaultless, IsWaiting, Once, no_arms};
+ghost use Rattle.zdisk.specs.Arming.{armed, called, counter_of, disarmed, last_seed, met, resumed};
+ghost use Rattle.zdisk.specs.Calls.{Cuts, Follows, Syncs, Writes, put};
+ghost use Rattle.zdisk.specs.Disk.{GivesLength, GivesRange, HasPlace, HasRange, counted, synced};
+ghost use Rattle.zdisk.specs.Effects.{after_change, after_sync, image_left};
+ghost use Rattle.zdisk.specs.Keeping.{spare_entries, told_in};
+ghost use Rattle.zdisk.specs.Meeting.{Answers};
 
 use crate::Disk;
-use crate::record::{Entry, cover, note};
+use crate::queue::{Queue, answer};
+use crate::recorded::RecordedFile;
 use std::alloc::Global;
-use zbase::{Bytes, Failed, FaultPlan, Memory};
+use zbase::{Arm, Bytes, Failed, Memory};
 
-/// A file in memory, with the numbers of the calls that are to fail. It tells what it has held at each moment
-/// since it was made, by its record of the calls that may have changed it.
+/// A file in memory, which stops and fails where it is told to. It tells what it has held at each moment since it was made,
+/// by its record of the calls that may have changed it.
 ///
-/// Each call of the disk but `reserve` counts as one, also a call that fails. A write, cut or sync that fails
-/// leaves the file as it was, which is one of the states that it may leave.
+/// Each call of the disk but `reserve` counts as one, also a call that fails. Stops and failures are armed ahead and stand in
+/// one queue; the first that waits is hit by the last of so many calls, counted from when the one before it was hit, or from
+/// when it was armed where none waited. On a stopped disk that count begins when the disk goes on.
+///
+/// What a call leaves that fails, and what a stop leaves, is named by a seed, of an old and a new content: the seed 0 takes
+/// the old one and 1 the new one; any other takes the byte at a place, and the length as if it stood at the place 2^64 - 1,
+/// of the new one where the top bit of `(seed xor place) * 0x9e3779b97f4a7c15` modulo 2^64 is 1. A byte that the chosen
+/// content doesn't have is 0. A write or a cut that fails chooses between the file before and after it, a sync that fails and a
+/// stop between what was last synced and what is there with the call's effect.
 #[derive(Drop)]
 pub struct MemoryDisk {
-    /// The file, and behind it what cuts left.
-    bytes: Vec<u8>,
-    /// The length of the file.
-    len: usize,
-    /// The bytes that writes covered, one after another.
-    covered: Vec<u8>,
-    entries: Vec<Entry>,
-    plan: FaultPlan,
-    ghost within: { len ≤ length bytes.items },
+    file: RecordedFile,
+    queue: Queue,
+    ghost room: { length queue.arms.queue ≤ file.faults },
 }
 
 impl MemoryDisk {
-    /// A synced file of these bytes, no call of which fails. Takes no memory.
+    /// A synced file of these bytes, on which nothing is armed. Takes no memory.
     pub fn new(alloc: Global, bytes: Bytes) -> MemoryDisk
         ensures told { ⟦<MemoryDisk as Disk>⟧.told result ≡ Some (synced bytes) }
         ensures faultless { IsFaultless (⟦<MemoryDisk as Disk>⟧.counter result) }
+        ensures counter { ⟦<MemoryDisk as Disk>⟧.counter result ≡ counter_of 0 0 no_arms }
         ensures calls { (⟦<MemoryDisk as Disk>⟧.counter result).calls ≡ 0 }
     {
-        MemoryDisk::with_faults(bytes, FaultPlan::none(alloc))
+        MemoryDisk {
+            file: RecordedFile::new(bytes),
+            queue: Queue::new(alloc),
+        }
     }
 
-    /// A synced file of these bytes, whose calls fail as the plan says. Takes no memory.
-    pub fn with_faults(bytes: Bytes, plan: FaultPlan) -> MemoryDisk
-        ensures told { ⟦<MemoryDisk as Disk>⟧.told result ≡ Some (synced bytes) }
-        ensures counter { ⟦<MemoryDisk as Disk>⟧.counter result ≡ plan }
+    /// Arms a stop: the last of so many calls fails, and so does each call from then on, until `after_stop`. For want of
+    /// memory nothing is armed.
+    pub fn arm_stop(&mut self, calls: u64, seed: u64) -> Result<(), Memory>
+        requires { 1 ≤ calls }
+        ensures armed { OnOk result (⟦<MemoryDisk as Disk>⟧.counter self.new ≡ armed (⟦<MemoryDisk as Disk>⟧.counter self.old) (record { stops = true; calls = calls; seed = seed })) }
+        ensures kept { OnErr result (⟦<MemoryDisk as Disk>⟧.counter self.new ≡ ⟦<MemoryDisk as Disk>⟧.counter self.old) }
+        ensures same { ⟦<MemoryDisk as Disk>⟧.told self.new ≡ ⟦<MemoryDisk as Disk>⟧.told self.old }
+        ensures spare { (⟦<MemoryDisk as Disk>⟧.spare_calls self.new ≡ ⟦<MemoryDisk as Disk>⟧.spare_calls self.old) × (⟦<MemoryDisk as Disk>⟧.spare_bytes self.new ≡ ⟦<MemoryDisk as Disk>⟧.spare_bytes self.old) }
     {
-        let alloc = bytes.alloc();
-        let bytes = bytes.into_vec();
-        MemoryDisk {
-            len: bytes.len(),
-            bytes,
-            covered: Vec::new(alloc),
-            entries: Vec::new(alloc),
-            plan,
-        }
+        self.arm(Arm {
+            stops: true,
+            calls,
+            seed,
+        })
+    }
+
+    /// Arms a failure: the last of so many calls fails. For want of memory nothing is armed.
+    pub fn arm_fail(&mut self, calls: u64, seed: u64) -> Result<(), Memory>
+        requires { 1 ≤ calls }
+        ensures armed { OnOk result (⟦<MemoryDisk as Disk>⟧.counter self.new ≡ armed (⟦<MemoryDisk as Disk>⟧.counter self.old) (record { stops = false; calls = calls; seed = seed })) }
+        ensures kept { OnErr result (⟦<MemoryDisk as Disk>⟧.counter self.new ≡ ⟦<MemoryDisk as Disk>⟧.counter self.old) }
+        ensures same { ⟦<MemoryDisk as Disk>⟧.told self.new ≡ ⟦<MemoryDisk as Disk>⟧.told self.old }
+        ensures spare { (⟦<MemoryDisk as Disk>⟧.spare_calls self.new ≡ ⟦<MemoryDisk as Disk>⟧.spare_calls self.old) × (⟦<MemoryDisk as Disk>⟧.spare_bytes self.new ≡ ⟦<MemoryDisk as Disk>⟧.spare_bytes self.old) }
+    {
+        self.arm(Arm {
+            stops: false,
+            calls,
+            seed,
+        })
+    }
+
+    // Arms an entry. What it must keep when it is hit has its room from then on.
+    fn arm(&mut self, arm: Arm) -> Result<(), Memory>
+        requires { 1 ≤ arm.calls }
+        ensures armed { OnOk result (⟦<MemoryDisk as Disk>⟧.counter self.new ≡ armed (⟦<MemoryDisk as Disk>⟧.counter self.old) arm) }
+        ensures kept { OnErr result (⟦<MemoryDisk as Disk>⟧.counter self.new ≡ ⟦<MemoryDisk as Disk>⟧.counter self.old) }
+        ensures same { ⟦<MemoryDisk as Disk>⟧.told self.new ≡ ⟦<MemoryDisk as Disk>⟧.told self.old }
+        ensures spare { (⟦<MemoryDisk as Disk>⟧.spare_calls self.new ≡ ⟦<MemoryDisk as Disk>⟧.spare_calls self.old) × (⟦<MemoryDisk as Disk>⟧.spare_bytes self.new ≡ ⟦<MemoryDisk as Disk>⟧.spare_bytes self.old) }
+    {
+        let faults = self.queue.waiting().checked_add(1).ok_or(Memory)?;
+        self.file.reserve_faults(faults)?;
+        self.queue.arm(arm)
+    }
+
+    /// Takes all that waits out of the queue. What was hit stays, and so does a stop.
+    pub fn disarm(&mut self)
+        ensures disarmed { ⟦<MemoryDisk as Disk>⟧.counter self.new ≡ disarmed (⟦<MemoryDisk as Disk>⟧.counter self.old) }
+        ensures same { ⟦<MemoryDisk as Disk>⟧.told self.new ≡ ⟦<MemoryDisk as Disk>⟧.told self.old }
+        ensures spare { (⟦<MemoryDisk as Disk>⟧.spare_calls self.new ≡ ⟦<MemoryDisk as Disk>⟧.spare_calls self.old) × (⟦<MemoryDisk as Disk>⟧.spare_bytes self.new ≡ ⟦<MemoryDisk as Disk>⟧.spare_bytes self.old) }
+    {
+        self.queue.disarm();
+    }
+
+    /// Whether a stop was hit, and the disk doesn't go on yet. If not, the first entry that waits is hit by a later call, and
+    /// where none waits no call can fail.
+    pub fn stopped(&self) -> bool
+        ensures value { result ≡ (⟦<MemoryDisk as Disk>⟧.counter self.now).arms.stopped }
+        ensures waits { IsWaiting (⟦<MemoryDisk as Disk>⟧.counter self.now).arms }
+        ensures calm { (⟦<MemoryDisk as Disk>⟧.counter self.now).arms.queue ≡ [] → (⟦<MemoryDisk as Disk>⟧.counter self.now).arms.stopped ≡ false → IsFaultless (⟦<MemoryDisk as Disk>⟧.counter self.now) }
+    {
+        self.queue.stopped()
     }
 
     /// How many device calls the disk has had.
     pub fn calls(&self) -> u64
         ensures { result ≡ (⟦<MemoryDisk as Disk>⟧.counter self.now).calls }
     {
-        self.plan.calls()
+        self.queue.calls()
+    }
+
+    // The seed of the last entry that was hit.
+    fn last_seed(&self) -> u64
+        ensures { result ≡ last_seed (⟦<MemoryDisk as Disk>⟧.counter self.now).arms.hits }
+    {
+        self.queue.last_seed()
+    }
+
+    /// The disk goes on after a stop, with a synced file that is the image which the stop's seed names. The entries that wait
+    /// stay armed, and the count of the first begins. Takes no memory.
+    pub fn after_stop(self) -> MemoryDisk
+        requires stopped { (⟦<MemoryDisk as Disk>⟧.counter self).arms.stopped ≡ true }
+        ensures told { ⟦<MemoryDisk as Disk>⟧.told result ≡ option_map (λ told. synced (image_left (last_seed (⟦<MemoryDisk as Disk>⟧.counter self).arms.hits) told)) (⟦<MemoryDisk as Disk>⟧.told self) }
+        ensures counter { ⟦<MemoryDisk as Disk>⟧.counter result ≡ resumed (⟦<MemoryDisk as Disk>⟧.counter self) }
+        ensures spare { (⟦<MemoryDisk as Disk>⟧.spare_calls self ≤ ⟦<MemoryDisk as Disk>⟧.spare_calls result) × (⟦<MemoryDisk as Disk>⟧.spare_bytes result ≡ ⟦<MemoryDisk as Disk>⟧.spare_bytes self) }
+    {
+        let seed = self.last_seed();
+        let mut disk = self;
+        disk.file.settle(seed);
+        disk.queue.resume();
+        disk
     }
 }
 
 impl Disk for MemoryDisk {
-    ghost told = { λ disk. Some (told_by (record { bytes = disk.bytes.items; len = disk.len; covered = disk.covered.items }) disk.entries.items) };
+    ghost told = { λ disk. Some (told_in disk.file) };
 
-    ghost counter = { λ disk. disk.plan };
+    ghost counter = { λ disk. disk.queue };
 
-    ghost spare_calls = { λ disk. vec_capacity disk.entries - vec_len disk.entries };
+    ghost spare_calls = { λ disk. spare_entries disk.file };
 
-    ghost spare_bytes = { λ disk. min (vec_capacity disk.covered - vec_len disk.covered) (vec_capacity disk.bytes - vec_len disk.bytes) };
+    ghost spare_bytes = { λ disk. disk.file.spare };
 
     fn reserve(&mut self, calls: u64, bytes: u64) -> Result<(), Memory> {
-        self.entries.reserve(calls as usize)?;
-        self.covered.reserve(bytes as usize)?;
-        self.bytes.reserve(bytes as usize)?;
+        self.file.reserve(calls as usize, bytes as usize)
+    }
+
+    fn len(&mut self) -> Result<u64, Failed>
+        ensures value { GivesLength (⟦<MemoryDisk as Disk>⟧.told self.old) result }
+        ensures same { ⟦<MemoryDisk as Disk>⟧.told self.new ≡ ⟦<MemoryDisk as Disk>⟧.told self.old }
+        ensures spare { (⟦<MemoryDisk as Disk>⟧.spare_calls self.new ≡ ⟦<MemoryDisk as Disk>⟧.spare_calls self.old) × (⟦<MemoryDisk as Disk>⟧.spare_bytes self.new ≡ ⟦<MemoryDisk as Disk>⟧.spare_bytes self.old) }
+        ensures call { (⟦<MemoryDisk as Disk>⟧.counter self.new).calls ≡ counted (⟦<MemoryDisk as Disk>⟧.counter self.old).calls }
+        ensures once { OnOk result (Once (⟦<MemoryDisk as Disk>⟧.counter self.old) (⟦<MemoryDisk as Disk>⟧.counter self.new)) }
+        ensures counts { Counts (⟦<MemoryDisk as Disk>⟧.counter self.old) (⟦<MemoryDisk as Disk>⟧.counter self.new) (IsErr result) }
+        ensures answers { Answers (met (⟦<MemoryDisk as Disk>⟧.counter self.old).arms) result }
+        ensures called { ⟦<MemoryDisk as Disk>⟧.counter self.new ≡ called (⟦<MemoryDisk as Disk>⟧.counter self.old) }
+    {
+        self.queue.answer()?;
+        Ok(self.file.len() as u64)
+    }
+
+    fn read_at(&mut self, at: u64, buf: &mut [u8]) -> Result<(), Failed>
+        requires within { HasRange (⟦<MemoryDisk as Disk>⟧.told self.old) at (length buf.old) }
+        ensures value { GivesRange (⟦<MemoryDisk as Disk>⟧.told self.old) at result buf.new }
+        ensures same { ⟦<MemoryDisk as Disk>⟧.told self.new ≡ ⟦<MemoryDisk as Disk>⟧.told self.old }
+        ensures spare { (⟦<MemoryDisk as Disk>⟧.spare_calls self.new ≡ ⟦<MemoryDisk as Disk>⟧.spare_calls self.old) × (⟦<MemoryDisk as Disk>⟧.spare_bytes self.new ≡ ⟦<MemoryDisk as Disk>⟧.spare_bytes self.old) }
+        ensures call { (⟦<MemoryDisk as Disk>⟧.counter self.new).calls ≡ counted (⟦<MemoryDisk as Disk>⟧.counter self.old).calls }
+        ensures once { OnOk result (Once (⟦<MemoryDisk as Disk>⟧.counter self.old) (⟦<MemoryDisk as Disk>⟧.counter self.new)) }
+        ensures counts { Counts (⟦<MemoryDisk as Disk>⟧.counter self.old) (⟦<MemoryDisk as Disk>⟧.counter self.new) (IsErr result) }
+        ensures answers { Answers (met (⟦<MemoryDisk as Disk>⟧.counter self.old).arms) result }
+        ensures called { ⟦<MemoryDisk as Disk>⟧.counter self.new ≡ called (⟦<MemoryDisk as Disk>⟧.counter self.old) }
+    {
+        self.queue.answer()?;
+        self.file.read(at as usize, buf);
         Ok(())
     }
 
-    fn len(&mut self) -> Result<u64, Failed> {
-        self.plan.call()?;
-        Ok(self.len as u64)
+    fn write_at(&mut self, at: u64, bytes: &[u8]) -> Result<(), Failed>
+        requires within { HasPlace (⟦<MemoryDisk as Disk>⟧.told self.old) at }
+        requires room { 1 ≤ ⟦<MemoryDisk as Disk>⟧.spare_calls self.old }
+        requires space { length bytes.now ≤ ⟦<MemoryDisk as Disk>⟧.spare_bytes self.old }
+        ensures held { Follows (⟦<MemoryDisk as Disk>⟧.told self.old) (⟦<MemoryDisk as Disk>⟧.told self.new) (Writes at bytes.now result) }
+        ensures spare { (⟦<MemoryDisk as Disk>⟧.spare_calls self.old ≤ ⟦<MemoryDisk as Disk>⟧.spare_calls self.new + 1) × (⟦<MemoryDisk as Disk>⟧.spare_bytes self.old ≤ ⟦<MemoryDisk as Disk>⟧.spare_bytes self.new + length bytes.now) }
+        ensures call { (⟦<MemoryDisk as Disk>⟧.counter self.new).calls ≡ counted (⟦<MemoryDisk as Disk>⟧.counter self.old).calls }
+        ensures once { OnOk result (Once (⟦<MemoryDisk as Disk>⟧.counter self.old) (⟦<MemoryDisk as Disk>⟧.counter self.new)) }
+        ensures counts { Counts (⟦<MemoryDisk as Disk>⟧.counter self.old) (⟦<MemoryDisk as Disk>⟧.counter self.new) (IsErr result) }
+        ensures answers { Answers (met (⟦<MemoryDisk as Disk>⟧.counter self.old).arms) result }
+        ensures called { ⟦<MemoryDisk as Disk>⟧.counter self.new ≡ called (⟦<MemoryDisk as Disk>⟧.counter self.old) }
+        ensures becomes { ⟦<MemoryDisk as Disk>⟧.told self.new ≡ option_map (after_change (put at bytes.now) (met (⟦<MemoryDisk as Disk>⟧.counter self.old).arms)) (⟦<MemoryDisk as Disk>⟧.told self.old) }
+    {
+        let meets = self.queue.call();
+        self.file.write(at as usize, bytes, meets);
+        answer(meets)
     }
 
-    fn read_at(&mut self, at: u64, buf: &mut [u8]) -> Result<(), Failed> {
-        self.plan.call()?;
-        let start = at as usize;
-        buf.copy_from_slice(&self.bytes[start..start + buf.len()]);
-        Ok(())
+    fn cut(&mut self, to: u64) -> Result<(), Failed>
+        requires within { HasPlace (⟦<MemoryDisk as Disk>⟧.told self.old) to }
+        requires room { 1 ≤ ⟦<MemoryDisk as Disk>⟧.spare_calls self.old }
+        ensures held { Follows (⟦<MemoryDisk as Disk>⟧.told self.old) (⟦<MemoryDisk as Disk>⟧.told self.new) (Cuts to result) }
+        ensures spare { (⟦<MemoryDisk as Disk>⟧.spare_calls self.old ≤ ⟦<MemoryDisk as Disk>⟧.spare_calls self.new + 1) × (⟦<MemoryDisk as Disk>⟧.spare_bytes self.old ≤ ⟦<MemoryDisk as Disk>⟧.spare_bytes self.new) }
+        ensures call { (⟦<MemoryDisk as Disk>⟧.counter self.new).calls ≡ counted (⟦<MemoryDisk as Disk>⟧.counter self.old).calls }
+        ensures once { OnOk result (Once (⟦<MemoryDisk as Disk>⟧.counter self.old) (⟦<MemoryDisk as Disk>⟧.counter self.new)) }
+        ensures counts { Counts (⟦<MemoryDisk as Disk>⟧.counter self.old) (⟦<MemoryDisk as Disk>⟧.counter self.new) (IsErr result) }
+        ensures answers { Answers (met (⟦<MemoryDisk as Disk>⟧.counter self.old).arms) result }
+        ensures called { ⟦<MemoryDisk as Disk>⟧.counter self.new ≡ called (⟦<MemoryDisk as Disk>⟧.counter self.old) }
+        ensures becomes { ⟦<MemoryDisk as Disk>⟧.told self.new ≡ option_map (after_change (take to) (met (⟦<MemoryDisk as Disk>⟧.counter self.old).arms)) (⟦<MemoryDisk as Disk>⟧.told self.old) }
+    {
+        let meets = self.queue.call();
+        self.file.cut(to as usize, meets);
+        answer(meets)
     }
 
-    fn write_at(&mut self, at: u64, bytes: &[u8]) -> Result<(), Failed> {
-        if self.plan.call().is_err() {
-            note(&mut self.entries, Entry::Failed);
-            return Err(Failed);
-        }
-        let at = at as usize;
-        let covered = cover(&mut self.bytes, &mut self.covered, at, bytes);
-        let entry = Entry::Write {
-            at,
-            written: bytes.len(),
-            covered,
-            len: self.len,
-        };
-        note(&mut self.entries, entry);
-        self.len = self.len.max(at + bytes.len());
-        Ok(())
-    }
-
-    fn cut(&mut self, to: u64) -> Result<(), Failed> {
-        if self.plan.call().is_err() {
-            note(&mut self.entries, Entry::Failed);
-            return Err(Failed);
-        }
-        note(&mut self.entries, Entry::Cut { len: self.len });
-        self.len = to as usize;
-        Ok(())
-    }
-
-    fn sync(&mut self) -> Result<(), Failed> {
-        if self.plan.call().is_err() {
-            note(&mut self.entries, Entry::Failed);
-            return Err(Failed);
-        }
-        note(&mut self.entries, Entry::Sync);
-        Ok(())
+    fn sync(&mut self) -> Result<(), Failed>
+        requires room { 1 ≤ ⟦<MemoryDisk as Disk>⟧.spare_calls self.old }
+        ensures held { Follows (⟦<MemoryDisk as Disk>⟧.told self.old) (⟦<MemoryDisk as Disk>⟧.told self.new) (Syncs result) }
+        ensures spare { (⟦<MemoryDisk as Disk>⟧.spare_calls self.old ≤ ⟦<MemoryDisk as Disk>⟧.spare_calls self.new + 1) × (⟦<MemoryDisk as Disk>⟧.spare_bytes self.old ≤ ⟦<MemoryDisk as Disk>⟧.spare_bytes self.new) }
+        ensures call { (⟦<MemoryDisk as Disk>⟧.counter self.new).calls ≡ counted (⟦<MemoryDisk as Disk>⟧.counter self.old).calls }
+        ensures once { OnOk result (Once (⟦<MemoryDisk as Disk>⟧.counter self.old) (⟦<MemoryDisk as Disk>⟧.counter self.new)) }
+        ensures counts { Counts (⟦<MemoryDisk as Disk>⟧.counter self.old) (⟦<MemoryDisk as Disk>⟧.counter self.new) (IsErr result) }
+        ensures answers { Answers (met (⟦<MemoryDisk as Disk>⟧.counter self.old).arms) result }
+        ensures called { ⟦<MemoryDisk as Disk>⟧.counter self.new ≡ called (⟦<MemoryDisk as Disk>⟧.counter self.old) }
+        ensures becomes { ⟦<MemoryDisk as Disk>⟧.told self.new ≡ option_map (after_sync (met (⟦<MemoryDisk as Disk>⟧.counter self.old).arms)) (⟦<MemoryDisk as Disk>⟧.told self.old) }
+    {
+        let meets = self.queue.call();
+        self.file.sync(meets);
+        answer(meets)
     }
 }

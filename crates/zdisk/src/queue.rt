@@ -1,13 +1,13 @@
-ghost use Rattle.std.specs.Prelude.{◌≡◌, ◌<◌, ◌≤◌, All, false, true, drop, length, take, OnErr, OnOk, []};
+ghost use Rattle.std.specs.Prelude.{◌≡◌, ◌<◌, ◌≤◌, All, false, true, drop, length, take, IsErr, OnErr, OnOk, []};
 ghost use Rattle.zbase.specs.Faults.{Counts, IsFaultless, IsWaiting, Once, begun, calls_of_first, hit, no_arms};
 ghost use Rattle.zbase.specs.Limits.{greatest_number};
-ghost use Rattle.zdisk.specs.Arming.{armed, called, called_by, counter_of, disarmed, is_calm, met, resumed};
+ghost use Rattle.zdisk.specs.Arming.{armed, called, called_by, counter_of, disarmed, is_calm, last_seed, met, resumed};
 ghost use Rattle.zdisk.specs.Disk.{counted};
-ghost use Rattle.zdisk.specs.Meeting.{IsFault};
+ghost use Rattle.zdisk.specs.Meeting.{Answers, IsFault};
 
 use std::alloc::Global;
 use std::marker::Model;
-use zbase::{Arm, Memory};
+use zbase::{Arm, Failed, Memory};
 
 /// What a device call meets.
 #[derive(Clone, Copy, Debug, PartialEq, Eq)]
@@ -20,6 +20,16 @@ pub enum Met {
     Stop(u64),
     /// The disk is stopped already.
     Stopped,
+}
+
+/// What a call answers that meets this.
+pub fn answer(meets: Met) -> Result<(), Failed>
+    ensures { Answers meets result }
+{
+    match meets {
+        Met::Nothing => Ok(()),
+        Met::Failure(_) | Met::Stop(_) | Met::Stopped => Err(Failed),
+    }
 }
 
 /// The device calls of a disk in memory, and what is armed to stop it or to fail: one queue, of which the first entry
@@ -95,6 +105,23 @@ impl Queue {
         self.stopped
     }
 
+    /// How many entries wait.
+    pub fn waiting(&self) -> usize
+        ensures { result ≡ length self.now.arms.queue }
+    {
+        self.arms.len() - self.hits
+    }
+
+    /// The seed of the last entry that was hit, 0 where none was.
+    pub fn last_seed(&self) -> u64
+        ensures { result ≡ last_seed self.now.arms.hits }
+    {
+        match self.hits.checked_sub(1) {
+            Some(last) => self.arms[last].seed,
+            None => 0,
+        }
+    }
+
     /// Puts an entry behind those that wait. For want of memory nothing is armed.
     pub fn arm(&mut self, arm: Arm) -> Result<(), Memory>
         requires { 1 ≤ arm.calls }
@@ -130,12 +157,25 @@ impl Queue {
     pub fn call(&mut self) -> Met
         ensures met { result ≡ met self.old.arms }
         ensures called { self.new ≡ called self.old }
+        ensures call { self.new.calls ≡ counted self.old.calls }
         ensures counts { Counts self.old self.new (IsFault result) }
         ensures once { result ≡ Met.Nothing → Once self.old self.new }
     {
         let meets = self.next();
         self.count_call(meets);
         meets
+    }
+
+    /// Counts a call, and tells what it answers.
+    pub fn answer(&mut self) -> Result<(), Failed>
+        ensures answers { Answers (met self.old.arms) result }
+        ensures called { self.new ≡ called self.old }
+        ensures call { self.new.calls ≡ counted self.old.calls }
+        ensures once { OnOk result (Once self.old self.new) }
+        ensures counts { Counts self.old self.new (IsErr result) }
+    {
+        let meets = self.call();
+        answer(meets)
     }
 
     // What the next call meets.

@@ -1,6 +1,5 @@
 -- Files in memory as a shelf tells them.
-use Rattle.std.specs.Prelude.{◌≡◌, List, All, map, nat_le, true}
-use Rattle.std.specs.List.{list_all}
+use Rattle.std.specs.Prelude.{◌≡◌, List, None, All, map}
 use Rattle.zio.specs.declared.memory_shelf.MemoryFile.{MemoryFile}
 use Rattle.zio.specs.Shelves.{Entry}
 
@@ -12,7 +11,7 @@ entries files = map entry files
 
 -- no call of a disk over the file is to fail
 abbrev pub NeverFails : MemoryFile → Type 0
-NeverFails file = list_all (λ n. nat_le n 0) file.failing.items ≡ true
+NeverFails file = file.failing ≡ None
 
 abbrev pub HaveSoundDisks : List MemoryFile → Type 0
 HaveSoundDisks files = All NeverFails files

@@ -1,13 +1,15 @@
 ghost use Rattle.std.specs.Prelude.{◌≡◌, IfOk, IfSome, Some, option_map};
 ghost use Rattle.std.specs.Option.{option_copied};
 ghost use Rattle.std.specs.declared.option.Option.{Option};
+ghost use Rattle.zbase.specs.Faults.{IsFaultless};
+ghost use Rattle.zdisk.specs.Disk.{synced};
 ghost use Rattle.zio.specs.Shelves.{file_at};
 ghost use Rattle.zio.specs.MemoryShelves.{HaveSoundDisks, NeverFails, entries};
 
 use crate::{Shelf, ShelfRefusal};
 use std::alloc::Global;
 use zbase::{Bytes, FaultPlan, Memory, Text};
-use zdisk::MemoryDisk;
+use zdisk::{Disk, MemoryDisk};
 
 /// A file in memory.
 #[derive(Drop)]
@@ -16,9 +18,9 @@ pub struct MemoryFile {
     pub name: Text,
     /// Its content, which is synced.
     pub bytes: Bytes,
-    /// The numbers of those calls that are to fail, of each disk that is opened over it. Calls are numbered
-    /// from 1 on.
-    pub failing: Vec<u64>,
+    /// The number of a call that is to fail, of each disk that is opened over it, from 1 on; `None` where none is. A write or a
+    /// cut that fails leaves the file as it was, and a sync what was last synced.
+    pub failing: Option<u64>,
 }
 
 /// Files in memory, which it tells.
@@ -57,9 +59,7 @@ impl Shelf for MemoryShelf {
             return Err(ShelfRefusal::Missing);
         };
         self.plan.call()?;
-        let bytes = file.bytes.copy()?;
-        let failing = copy_numbers(self.alloc, &file.failing)?;
-        Ok(MemoryDisk::with_faults(bytes, FaultPlan::new(failing)))
+        Ok(disk_over(self.alloc, file)?)
     }
 }
 
@@ -76,9 +76,15 @@ fn find_file<'a>(files: &'a [MemoryFile], name: &str) -> Option<&'a MemoryFile>
     None
 }
 
-/// A second list of the same numbers.
-fn copy_numbers(alloc: Global, numbers: &[u64]) -> Result<Vec<u64>, Memory>
-    ensures { IfOk result (λ copy. copy.items ≡ numbers.now) }
+// A disk over a copy of a file.
+fn disk_over(alloc: Global, file: &MemoryFile) -> Result<MemoryDisk, Memory>
+    ensures told { IfOk result (λ disk. ⟦<MemoryDisk as Disk>⟧.told disk ≡ Some (synced file.now.bytes)) }
+    ensures sound { NeverFails file.now → IfOk result (λ disk. IsFaultless (⟦<MemoryDisk as Disk>⟧.counter disk)) }
 {
-    Ok(Vec::from_slice(alloc, numbers)?)
+    let mut disk = MemoryDisk::new(alloc, file.bytes.copy()?);
+    match file.failing {
+        None | Some(0) => {}
+        Some(number) => disk.arm_fail(number, 0)?,
+    }
+    Ok(disk)
 }

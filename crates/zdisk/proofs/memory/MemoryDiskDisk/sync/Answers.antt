@@ -1,12 +1,41 @@
-use Rattle.zdisk.proofs.Telling.{failed_sync, synced_now}
+use Rattle.std.proofs.Common.{◌≡◌, ◌≤◌, ℕ, length, sym, ap, subst, ◌∙◌, Some}
+use Rattle.zbase.specs.Faults.{Counter}
+use Rattle.zdisk.specs.Arming.{called, met}
+use Rattle.zdisk.specs.Calls.{Syncs, Follows}
+use Rattle.zdisk.specs.Disk.{Told}
+use Rattle.zdisk.specs.Effects.{after_sync, faults_left, needs}
+use Rattle.zdisk.specs.Keeping.{told_in}
+use Rattle.zdisk.specs.Meeting.{Answers}
+use Rattle.zdisk.specs.declared.queue.Met.{Met}
+use Rattle.zdisk.proofs.Following.{answers_counts, answers_once, needs_room, room_left, sync_follows}
 use Rattle.zdisk.proofs.memory.MemoryDiskDisk.sync.Goals as goal
 
-pub returns-then-is_err-clause-held : goal.returns-then-is_err-clause-held
-returns-then-is_err-clause-held c =
+pub sync-requires-clause-faults : goal.sync-requires-clause-faults
+sync-requires-clause-faults c =
     let d = c.args.self.now in
-    failed_sync (record { bytes = d.bytes.items; len = d.len; covered = d.covered.items }) d.entries.items _ c.note.ensures.items
+    subst (λ (m : Met). needs m ≤ d.file.faults) (sym c.call-meets.ensures.met) (needs_room d.queue.arms d.file.faults d.room)
+
+pub invariant_of-self : goal.invariant_of-self
+invariant_of-self c =
+    let d = c.args.self.now in
+    let left : c.sync.new.self.faults ≡ faults_left (met d.queue.arms) d.file.faults = c.sync.ensures.faults ∙ ap (λ (m : Met). faults_left m d.file.faults) c.call-meets.ensures.met in
+    record { room = subst (λ (q : Counter). length q.arms.queue ≤ c.sync.new.self.faults) (sym c.call-meets.ensures.called) (subst (λ (n : ℕ). length (called d.queue).arms.queue ≤ n) (sym left) (room_left d.queue d.file.faults d.room)) }
 
 pub returns-clause-held : goal.returns-clause-held
 returns-clause-held c =
     let d = c.args.self.now in
-    synced_now (record { bytes = d.bytes.items; len = d.len; covered = d.covered.items }) d.entries.items _ c.note-2.ensures.items
+    subst (λ (t : Told). Follows (Some (told_in d.file)) (Some t) (Syncs c.answer.result)) (sym c.sync.ensures.told) (sync_follows c.call-meets.result (told_in d.file) c.answer.result c.answer.ensures)
+
+pub returns-clause-becomes : goal.returns-clause-becomes
+returns-clause-becomes c =
+    let d = c.args.self.now in
+    ap Some (c.sync.ensures.told ∙ ap (λ (m : Met). after_sync m (told_in d.file)) c.call-meets.ensures.met)
+
+pub returns-clause-answers : goal.returns-clause-answers
+returns-clause-answers c = subst (λ (m : Met). Answers m c.answer.result) c.call-meets.ensures.met c.answer.ensures
+
+pub returns-clause-once : goal.returns-clause-once
+returns-clause-once c = answers_once c.args.self.now.queue c.call-meets.new.self c.call-meets.result c.answer.result c.answer.ensures c.call-meets.ensures.once
+
+pub returns-clause-counts : goal.returns-clause-counts
+returns-clause-counts c = answers_counts c.args.self.now.queue c.call-meets.new.self c.call-meets.result c.answer.result c.answer.ensures c.call-meets.ensures.counts

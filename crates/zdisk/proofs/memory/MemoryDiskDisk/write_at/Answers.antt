@@ -1,32 +1,44 @@
-use Rattle.std.proofs.Common.{◌≤◌, arith}
-use Rattle.zdisk.proofs.Telling.{place_within, failed_write, wrote_at, written_within}
+use Rattle.std.proofs.Common.{◌≡◌, ◌≤◌, ℕ, length, refl, sym, ap, subst, ◌∙◌, Some}
+use Rattle.zbase.specs.Faults.{Counter}
+use Rattle.zdisk.specs.Arming.{called, met}
+use Rattle.zdisk.specs.Calls.{Writes, Follows, put}
+use Rattle.zdisk.specs.Disk.{Told}
+use Rattle.zdisk.specs.Effects.{after_change, faults_left, needs}
+use Rattle.zdisk.specs.Keeping.{told_in}
+use Rattle.zdisk.specs.Meeting.{Answers}
+use Rattle.zdisk.specs.declared.queue.Met.{Met}
+use Rattle.zdisk.proofs.Following.{answers_counts, answers_once, needs_room, room_left, write_follows}
 use Rattle.zdisk.proofs.memory.MemoryDiskDisk.write_at.Goals as goal
 
-pub returns-then-is_err-clause-held : goal.returns-then-is_err-clause-held
-returns-then-is_err-clause-held c =
-    let d = c.args.self.now in
-    failed_write (record { bytes = d.bytes.items; len = d.len; covered = d.covered.items }) d.entries.items _ c.args.at c.args.bytes.now c.note.ensures.items
+pub write-requires-clause-within : goal.write-requires-clause-within
+write-requires-clause-within c = c.requires.within (told_in c.args.self.now.file) refl
 
-pub cover-covered-requires-clause-within : goal.cover-covered-requires-clause-within
-cover-covered-requires-clause-within c =
+pub write-requires-clause-faults : goal.write-requires-clause-faults
+write-requires-clause-faults c =
     let d = c.args.self.now in
-    omega (arith, place_within d.bytes.items d.covered.items d.len c.args.at d.entries.items d.within c.requires.within, d.within)
+    subst (λ (m : Met). needs m ≤ d.file.faults) (sym c.call-meets.ensures.met) (needs_room d.queue.arms d.file.faults d.room)
 
-pub overflow_add-at : goal.overflow_add-at
-overflow_add-at c =
+pub invariant_of-self : goal.invariant_of-self
+invariant_of-self c =
     let d = c.args.self.now in
-    let v = d.bytes in
-    let inside : c.args.at ≤ d.len = place_within v.items d.covered.items d.len c.args.at d.entries.items d.within c.requires.within in
-    omega (arith, inside, d.within, c.requires.space, v.ok, v.small)
-
-pub invariant_of-self-2 : goal.invariant_of-self-2
-invariant_of-self-2 c =
-    let d = c.args.self.now in
-    let inside : c.args.at ≤ d.len = place_within d.bytes.items d.covered.items d.len c.args.at d.entries.items d.within c.requires.within in
-    record { within = written_within d.bytes.items c.cover-covered.new.bytes.items d.len c.max-self.result c.args.at c.args.bytes.now inside d.within c.cover-covered.ensures.bytes c.max-self.ensures }
+    let left : c.write.new.self.faults ≡ faults_left (met d.queue.arms) d.file.faults = c.write.ensures.faults ∙ ap (λ (m : Met). faults_left m d.file.faults) c.call-meets.ensures.met in
+    record { room = subst (λ (q : Counter). length q.arms.queue ≤ c.write.new.self.faults) (sym c.call-meets.ensures.called) (subst (λ (n : ℕ). length (called d.queue).arms.queue ≤ n) (sym left) (room_left d.queue d.file.faults d.room)) }
 
 pub returns-clause-held : goal.returns-clause-held
 returns-clause-held c =
     let d = c.args.self.now in
-    let inside : c.args.at ≤ d.len = place_within d.bytes.items d.covered.items d.len c.args.at d.entries.items d.within c.requires.within in
-    wrote_at d.bytes.items _ d.covered.items _ d.len c.max-self.result c.args.at _ c.args.bytes.now d.entries.items _ inside d.within c.cover-covered.ensures.bytes c.cover-covered.ensures.covered c.cover-covered.ensures.count c.max-self.ensures c.note-2.ensures.items
+    subst (λ (t : Told). Follows (Some (told_in d.file)) (Some t) (Writes c.args.at c.args.bytes.now c.answer.result)) (sym c.write.ensures.told) (write_follows c.args.at c.args.bytes.now c.call-meets.result (told_in d.file) c.answer.result c.answer.ensures)
+
+pub returns-clause-becomes : goal.returns-clause-becomes
+returns-clause-becomes c =
+    let d = c.args.self.now in
+    ap Some (c.write.ensures.told ∙ ap (λ (m : Met). after_change (put c.args.at c.args.bytes.now) m (told_in d.file)) c.call-meets.ensures.met)
+
+pub returns-clause-answers : goal.returns-clause-answers
+returns-clause-answers c = subst (λ (m : Met). Answers m c.answer.result) c.call-meets.ensures.met c.answer.ensures
+
+pub returns-clause-once : goal.returns-clause-once
+returns-clause-once c = answers_once c.args.self.now.queue c.call-meets.new.self c.call-meets.result c.answer.result c.answer.ensures c.call-meets.ensures.once
+
+pub returns-clause-counts : goal.returns-clause-counts
+returns-clause-counts c = answers_counts c.args.self.now.queue c.call-meets.new.self c.call-meets.result c.answer.result c.answer.ensures c.call-meets.ensures.counts

@@ -1,4 +1,5 @@
-use Rattle.std.proofs.Common.{sym, subst, ◌∙◌}
+use Rattle.std.proofs.Common.{sym, ap, subst, ◌∙◌}
+use Rattle.zdisk.proofs.Following.{calls_called}
 use Rattle.zbase.specs.Faults.{Counter, Counts, Makes}
 use Rattle.zdisk.specs.Arming.{called_by}
 use Rattle.zdisk.specs.ArmingLaws.{IsCounter, called_counts, called_once}
@@ -21,3 +22,6 @@ returns-clause-once c = λ nothing.
     let ok : IsCounter old = record { count = n.counted.0; calls = n.counted.1; sound = n.sound; waits = n.waits } in
     let all : Makes 1 old (called_by c.next-meets.result old) = subst (λ (m : Met). Makes 1 old (called_by m old)) (sym n.met) (called_once old ok (sym n.met ∙ nothing)) in
     subst (λ (new : Counter). Makes 1 old new) (sym c.count_call.ensures) all
+
+pub returns-clause-call : goal.returns-clause-call
+returns-clause-call c = ap (λ (v : Counter). v.calls) (c.count_call.ensures ∙ ap (λ (m : Met). called_by m c.args.self.now) c.next-meets.ensures.met) ∙ calls_called c.args.self.now

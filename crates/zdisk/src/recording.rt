@@ -1,0 +1,289 @@
+ghost use Rattle.std.specs.Prelude.{◌≡◌, ◌+◌, ◌-◌, ◌≤◌, length, take, IfOk, OnErr, OnOk};
+ghost use Rattle.zdisk.specs.Calls.{put};
+ghost use Rattle.zdisk.specs.Disk.{bytes_at, content, synced};
+ghost use Rattle.zdisk.specs.Effects.{after_change, after_sync, faults_left, image_left, more, needs};
+ghost use Rattle.zdisk.specs.Keeping.{spare_entries, told_in};
+ghost use Rattle.zdisk.specs.Room.{room_for};
+ghost use Rattle.zdisk.specs.Seeds.{image_of};
+
+use crate::queue::Met;
+use crate::record::{Entry, cover, note, push_all};
+use crate::recorded::RecordedFile;
+use crate::seeds::{fill, length_by, takes_new};
+use crate::undoing::mix;
+use zbase::{Bytes, Memory};
+
+impl RecordedFile {
+    /// A synced file of these bytes, with room for no call. Takes no memory.
+    pub fn new(bytes: Bytes) -> RecordedFile
+        ensures told { told_in result ≡ synced bytes }
+    {
+        let alloc = bytes.alloc();
+        let bytes = bytes.into_vec();
+        RecordedFile {
+            len: bytes.len(),
+            bytes,
+            covered: Vec::new(alloc),
+            entries: Vec::new(alloc),
+            spare: 0,
+            faults: 0,
+        }
+    }
+
+    /// The length of the file.
+    pub fn len(&self) -> usize
+        ensures { result ≡ length (content (told_in self.now)) }
+    {
+        self.len
+    }
+
+    /// Fills the buffer with the bytes at a place.
+    pub fn read(&self, at: usize, buf: &mut [u8])
+        requires within { at + length buf.old ≤ length (content (told_in self.now)) }
+        ensures { buf.new ≡ bytes_at (told_in self.now) at (length buf.new) }
+    {
+        buf.copy_from_slice(&self.bytes[at..at + buf.len()]);
+    }
+
+    /// Makes room for so many calls that may change the file, and for so many bytes that writes bring. For want of
+    /// memory the room that there was stays.
+    pub fn reserve(&mut self, calls: usize, bytes: usize) -> Result<(), Memory>
+        ensures told { told_in self.new ≡ told_in self.old }
+        ensures room { OnOk result ((calls ≤ spare_entries self.new) × (bytes ≤ self.new.spare)) }
+        ensures kept { (spare_entries self.old ≤ spare_entries self.new) × (self.old.spare ≤ self.new.spare) }
+        ensures faults { self.new.faults ≡ self.old.faults }
+    {
+        self.entries.reserve(calls)?;
+        self.make_room(self.spare.max(bytes), self.faults)
+    }
+
+    /// Makes room for so many calls that fail. For want of memory the room that there was stays.
+    pub fn reserve_faults(&mut self, faults: usize) -> Result<(), Memory>
+        ensures told { told_in self.new ≡ told_in self.old }
+        ensures spare { (spare_entries self.new ≡ spare_entries self.old) × (self.new.spare ≡ self.old.spare) }
+        ensures room { OnOk result (self.new.faults ≡ faults) }
+        ensures kept { OnErr result (self.new.faults ≡ self.old.faults) }
+    {
+        self.make_room(self.spare, faults)
+    }
+
+    // Makes room for so many bytes that writes bring, and for so many calls that fail.
+    fn make_room(&mut self, spare: usize, faults: usize) -> Result<(), Memory>
+        ensures told { told_in self.new ≡ told_in self.old }
+        ensures entries { spare_entries self.new ≡ spare_entries self.old }
+        ensures room { OnOk result ((self.new.spare ≡ spare) × (self.new.faults ≡ faults)) }
+        ensures kept { OnErr result ((self.new.spare ≡ self.old.spare) × (self.new.faults ≡ self.old.faults)) }
+    {
+        let room = room_of(self.bytes.len(), spare, faults)?;
+        self.bytes.reserve(spare)?;
+        self.covered.reserve(room)?;
+        self.spare = spare;
+        self.faults = faults;
+        Ok(())
+    }
+
+    /// A write, which meets this.
+    pub fn write(&mut self, at: usize, piece: &[u8], meets: Met)
+        requires within { at ≤ length (content (told_in self.old)) }
+        requires room { 1 ≤ spare_entries self.old }
+        requires space { length piece.now ≤ self.old.spare }
+        requires faults { needs meets ≤ self.old.faults }
+        ensures told { told_in self.new ≡ after_change (put at piece.now) meets (told_in self.old) }
+        ensures spare { (spare_entries self.old ≤ spare_entries self.new + 1) × (self.old.spare ≤ self.new.spare + length piece.now) }
+        ensures faults { self.new.faults ≡ faults_left meets self.old.faults }
+    {
+        match meets {
+            Met::Nothing | Met::Stop(_) => self.write_whole(at, piece),
+            Met::Failure(seed) => self.write_mixed(at, piece, seed),
+            Met::Stopped => self.keep(),
+        }
+    }
+
+    /// A cut, which meets this.
+    pub fn cut(&mut self, to: usize, meets: Met)
+        requires within { to ≤ length (content (told_in self.old)) }
+        requires room { 1 ≤ spare_entries self.old }
+        requires faults { needs meets ≤ self.old.faults }
+        ensures told { told_in self.new ≡ after_change (take to) meets (told_in self.old) }
+        ensures spare { (spare_entries self.old ≤ spare_entries self.new + 1) × (self.new.spare ≡ self.old.spare) }
+        ensures faults { self.new.faults ≡ faults_left meets self.old.faults }
+    {
+        match meets {
+            Met::Nothing | Met::Stop(_) => self.cut_whole(to),
+            Met::Failure(seed) => self.cut_mixed(to, seed),
+            Met::Stopped => self.keep(),
+        }
+    }
+
+    /// A sync, which meets this.
+    pub fn sync(&mut self, meets: Met)
+        requires room { 1 ≤ spare_entries self.old }
+        requires faults { needs meets ≤ self.old.faults }
+        ensures told { told_in self.new ≡ after_sync meets (told_in self.old) }
+        ensures spare { (spare_entries self.old ≤ spare_entries self.new + 1) × (self.new.spare ≡ self.old.spare) }
+        ensures faults { self.new.faults ≡ faults_left meets self.old.faults }
+    {
+        match meets {
+            Met::Nothing => note(&mut self.entries, Entry::Sync),
+            Met::Failure(seed) => self.sync_mixed(seed),
+            Met::Stop(_) | Met::Stopped => self.keep(),
+        }
+    }
+
+    /// The file becomes the image that a stop with this seed leaves, which is synced and has no record.
+    pub fn settle(&mut self, seed: u64)
+        ensures told { told_in self.new ≡ synced (image_left seed (told_in self.old)) }
+        ensures spare { (spare_entries self.old ≤ spare_entries self.new) × (self.new.spare ≡ self.old.spare) }
+        ensures faults { self.new.faults ≡ self.old.faults }
+    {
+        self.len = mix(
+            &mut self.bytes,
+            &self.covered,
+            self.len,
+            &self.entries,
+            seed,
+        );
+        self.covered.clear();
+        self.entries.clear();
+    }
+
+    // The call leaves the file as it was.
+    fn keep(&mut self)
+        requires room { 1 ≤ spare_entries self.old }
+        ensures told { told_in self.new ≡ more (content (told_in self.old)) (told_in self.old) }
+        ensures spare { (spare_entries self.old ≤ spare_entries self.new + 1) × (self.new.spare ≡ self.old.spare) }
+        ensures faults { self.new.faults ≡ self.old.faults }
+    {
+        note(&mut self.entries, Entry::Failed);
+    }
+
+    fn write_whole(&mut self, at: usize, piece: &[u8])
+        requires within { at ≤ length (content (told_in self.old)) }
+        requires room { 1 ≤ spare_entries self.old }
+        requires space { length piece.now ≤ self.old.spare }
+        ensures told { told_in self.new ≡ more (put at piece.now (content (told_in self.old))) (told_in self.old) }
+        ensures spare { (spare_entries self.old ≤ spare_entries self.new + 1) × (self.new.spare + length piece.now ≡ self.old.spare) }
+        ensures faults { self.new.faults ≡ self.old.faults }
+    {
+        let covered = cover(&mut self.bytes, &mut self.covered, at, piece);
+        self.spare -= piece.len();
+        let entry = Entry::Write {
+            at,
+            written: piece.len(),
+            covered,
+            len: self.len,
+        };
+        note(&mut self.entries, entry);
+        self.len = self.len.max(at + piece.len());
+    }
+
+    // A write that fails leaves the image that the seed names, of the file before and after.
+    fn write_mixed(&mut self, at: usize, piece: &[u8], seed: u64)
+        requires within { at ≤ length (content (told_in self.old)) }
+        requires room { 1 ≤ spare_entries self.old }
+        requires space { length piece.now ≤ self.old.spare }
+        requires faults { 1 ≤ self.old.faults }
+        ensures told { told_in self.new ≡ more (image_of seed (content (told_in self.old)) (put at piece.now (content (told_in self.old)))) (told_in self.old) }
+        ensures spare { (spare_entries self.old ≤ spare_entries self.new + 1) × (self.new.spare + length piece.now ≡ self.old.spare) }
+        ensures faults { self.new.faults + 1 ≡ self.old.faults }
+    {
+        let from = self.covered.len();
+        let covered = cover(&mut self.bytes, &mut self.covered, at, piece);
+        self.spare -= piece.len();
+        self.faults -= 1;
+        let end = at + piece.len();
+        // Past its end the file had no bytes, but the buffer may have had some that cuts left.
+        let old = &self.covered[from..from + covered.min(self.len - at)];
+        fill(&mut self.bytes, false, at, end, old, seed);
+        let entry = Entry::Write {
+            at,
+            written: piece.len(),
+            covered,
+            len: self.len,
+        };
+        note(&mut self.entries, entry);
+        self.len = length_by(seed, self.len, self.len.max(end));
+    }
+
+    fn cut_whole(&mut self, to: usize)
+        requires within { to ≤ length (content (told_in self.old)) }
+        requires room { 1 ≤ spare_entries self.old }
+        ensures told { told_in self.new ≡ more (take to (content (told_in self.old))) (told_in self.old) }
+        ensures spare { (spare_entries self.old ≤ spare_entries self.new + 1) × (self.new.spare ≡ self.old.spare) }
+        ensures faults { self.new.faults ≡ self.old.faults }
+    {
+        note(&mut self.entries, Entry::Cut { len: self.len });
+        self.len = to;
+    }
+
+    // A cut that fails leaves the image that the seed names, of the file before and after.
+    fn cut_mixed(&mut self, to: usize, seed: u64)
+        requires within { to ≤ length (content (told_in self.old)) }
+        requires room { 1 ≤ spare_entries self.old }
+        requires faults { 1 ≤ self.old.faults }
+        ensures told { told_in self.new ≡ more (image_of seed (content (told_in self.old)) (take to (content (told_in self.old)))) (told_in self.old) }
+        ensures spare { (spare_entries self.old ≤ spare_entries self.new + 1) × (self.new.spare ≡ self.old.spare) }
+        ensures faults { self.new.faults + 1 ≡ self.old.faults }
+    {
+        let count = self.len - to;
+        push_all(&mut self.covered, &self.bytes[to..self.len]);
+        self.faults -= 1;
+        // Where the seed takes the cut file, there is no byte.
+        fill(&mut self.bytes, true, to, self.len, &[], seed);
+        let entry = Entry::Write {
+            at: to,
+            written: count,
+            covered: count,
+            len: self.len,
+        };
+        note(&mut self.entries, entry);
+        self.len = length_by(seed, self.len, to);
+    }
+
+    // A sync that fails leaves the image that the seed names, of what was last synced and the file.
+    fn sync_mixed(&mut self, seed: u64)
+        requires room { 1 ≤ spare_entries self.old }
+        requires faults { 1 ≤ self.old.faults }
+        ensures told { told_in self.new ≡ more (image_left seed (told_in self.old)) (told_in self.old) }
+        ensures spare { (spare_entries self.old ≤ spare_entries self.new + 1) × (self.new.spare ≡ self.old.spare) }
+        ensures faults { self.new.faults + 1 ≡ self.old.faults }
+    {
+        let kept = self.covered.len();
+        let len = self.len;
+        let count = self.bytes.len();
+        push_all(&mut self.covered, &self.bytes);
+        self.faults -= 1;
+        self.len = mix(
+            &mut self.bytes,
+            &self.covered[..kept],
+            len,
+            &self.entries,
+            seed,
+        );
+        let entry = Entry::Write {
+            at: 0,
+            written: count,
+            covered: count,
+            len,
+        };
+        note(&mut self.entries, entry);
+    }
+}
+
+// For how many covered bytes there must be room, beside a buffer of so many bytes, where writes may bring so many and so
+// many calls may fail.
+#[tactic(auto, using(crate::proofs::Covering::room_is))]
+fn room_of(bytes: usize, spare: usize, faults: usize) -> Result<usize, Memory>
+    ensures { IfOk result (λ room. room ≡ spare + room_for faults (bytes + spare)) }
+{
+    let Some(most) = bytes.checked_add(spare) else {
+        return Err(Memory);
+    };
+    let Some(kept) = faults.checked_mul(most) else {
+        return Err(Memory);
+    };
+    match spare.checked_add(kept) {
+        Some(room) => Ok(room),
+        None => Err(Memory),
+    }
+}
