@@ -10,6 +10,7 @@
 //! `specs/Opened` what opening makes of a disk.
 #![tactic(auto)]
 
+mod arming;
 mod committing;
 mod finding;
 mod known;

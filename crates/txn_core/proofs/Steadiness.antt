@@ -1,5 +1,6 @@
 -- What of the slots keeps standing while the store is called, and what may stand behind a store.
 use Rattle.std.proofs.Common.{◌≡◌, ℕ, ◌+◌, ◌<◌, ◌≤◌, ◌⊎◌, inl, inr, List, [], ◌∷◌, map, Option, None, Some, Bool, true, false, refl, sym, ap, ◌∙◌, subst, arith}
+use Rattle.std.specs.Prelude.{IsSome}
 use Rattle.zbase.specs.Faults.{no_arms}
 use Rattle.zbase.specs.History.{History, IsHistory, added}
 use Rattle.zbase.specs.HistoryLaws.{added_history, last_after-append, last_grows, prefix_added, upto_stays}
@@ -8,7 +9,7 @@ use Rattle.evaluator.specs.Exec.{Eval}
 use Rattle.evaluator.specs.Facts.{TrueOf, ask_of}
 use Rattle.schedule.specs.Moments.{Attempt, Moment}
 use Rattle.fs_store.specs.declared.reads.Seen.{Seen}
-use Rattle.fs_store.specs.Seeing.{IsSeen}
+use Rattle.fs_store.specs.Seeing.{IsSeen, SeenOn}
 use Rattle.fs_store.specs.Stores.{IsTold, Loses, Out, Settles, Stands, StoreView, finished, on_disk, settled, staled, unsettled}
 use Rattle.connection.specs.Asks.{asks_at}
 use Rattle.connection.specs.States.{AreSeen}
@@ -205,3 +206,23 @@ voter_decided st o is idle decided = go st.stale refl
     go : (b : Bool) → st.stale ≡ b → st.undecided ≡ None
     go true e = absurd (let bad : Some o ≡ None = sym is ∙ idle e in cc)
     go false e = decided e
+
+-- the same store over another disk that tells the same
+pub carries_on_disk : (old new : StoreView) → new ≡ on_disk old new.disk → new.disk.told ≡ old.disk.told → Carries old new
+carries_on_disk old new same told =
+    let end : new.end ≡ old.end = ap (λ (s : StoreView). s.end) same in
+    record {
+      tells = λ t. subst IsSome (sym told) t;
+      told = λ t. subst IsSome told t;
+      seen = λ seen h. subst (λ d. SeenOn d new.end seen) (sym told) (subst (λ e. SeenOn old.disk.told e seen) (sym end) h);
+      grows = λ t. grows_same old.history new.history (ap (λ (s : StoreView). s.history) same);
+    }
+
+pub stands_on_disk : {E R S : Type 0} (eval : Eval R) (old new : StoreView) (sl : List (Slot E R S)) → new ≡ on_disk old new.disk → new.disk.told ≡ old.disk.told → CoreStands eval old sl → CoreStands eval new sl
+stands_on_disk {E} {R} {S} eval old new sl same told all =
+    let out : new.out ≡ old.out = ap (λ (s : StoreView). s.out) same in
+    record {
+      count = all.count;
+      each = λ v s e. slot_over {E = E} {R = R} {S = S} eval old new v s (carries_on_disk old new same told) out (all.each v s e);
+      voter = λ o e. all.voter o (sym out ∙ e);
+    }
