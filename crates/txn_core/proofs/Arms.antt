@@ -50,7 +50,7 @@ began {E} {R} {S} eval w now old new f a t carries out settles is at it =
       waits = tt;
       asked = λ told. tt;
       stands = stands_quiet {E = E} {R = R} {S = S} eval old new w (Slot.Fresh f) (Slot.Active a) carries out (λ k. k)
-      (subst (λ (k : ActiveView R). ActiveStands new k) (sym is) (refl, (λ i d within. absurd (omega (arith, within))), λ told. nothing_known f new a.attempt.snapshot (at (carries.told told))));
+          (subst (λ (k : ActiveView R). ActiveStands new k) (sym is) (refl, (λ i d within. absurd (omega (arith, within))), λ told. nothing_known f new a.attempt.snapshot (at (carries.told told))));
       moves = λ told. after {E = E} {R = R} {S = S} eval w now old new new (Slot.Fresh f) (Slot.Active a) (StepLine.Begun t) (settles told) (begin_moves eval w now new f a t (settles_none old new (settles told)) is (at told) it);
     }
 
@@ -83,11 +83,15 @@ fetched {E} {R} {S} eval w now old new a b ask carries out settles stands need l
       paces = omega (arith, one);
       waits = tt;
       asked = λ told. tt;
-      stands = stands_quiet {E = E} {R = R} {S = S} eval old new w (Slot.Active a) (Slot.Active b) carries out (λ k. k) (ready, reads, λ told.
-          let was : FactsStand new a.attempt = facts_carried old new a.attempt carries stands.2 told in
-          let given : found ≡ fact (upto new.history a.attempt.snapshot) (ask_of found) = learns.1.1 told ∙ ap (fact (upto new.history a.attempt.snapshot)) (sym learns.1.0) in
-          let whole : TrueOf b.attempt.facts (upto new.history a.attempt.snapshot) = rw learns.2 (true_push a.attempt.facts found (upto new.history a.attempt.snapshot) was.facts given) in
-          record { below = rw at was.below; facts = subst (λ t. TrueOf b.attempt.facts (upto new.history t)) (sym at) whole });
+      stands = stands_quiet {E = E} {R = R} {S = S} eval old new w (Slot.Active a) (Slot.Active b) carries out (λ k. k) (
+        ready,
+        reads,
+        λ told.
+            let was : FactsStand new a.attempt = facts_carried old new a.attempt carries stands.2 told in
+            let given : found ≡ fact (upto new.history a.attempt.snapshot) (ask_of found) = learns.1.1 told ∙ ap (fact (upto new.history a.attempt.snapshot)) (sym learns.1.0) in
+            let whole : TrueOf b.attempt.facts (upto new.history a.attempt.snapshot) = rw learns.2 (true_push a.attempt.facts found (upto new.history a.attempt.snapshot) was.facts given) in
+            record { below = rw at was.below; facts = subst (λ t. TrueOf b.attempt.facts (upto new.history t)) (sym at) whole },
+      );
       moves = λ told.
           after {E = E} {R = R} {S = S} eval w now old new new (Slot.Active a) (Slot.Active b) (StepLine.Fetched ask) (settles told)
           (fetch_moves eval w now new a b ask found (settles_none old new (settles told)) need (learns.1.1 (carries.tells told)) learns.2 is);
@@ -116,7 +120,7 @@ computed {E} {R} {S} eval w now old new a b x d carries same stands change is as
       waits = tt;
       asked = λ told. tt;
       stands = stands_quiet {E = E} {R = R} {S = S} eval old new w (Slot.Active a) (Slot.Computed b) carries (ap (λ (s : StoreView). s.out) same) (λ k. k)
-      (subst (λ (k : ActiveView R). ComputedStands eval new k) (sym is) (x, d, refl, change, reads_keep old new a.reads carries stands.1, whole));
+          (subst (λ (k : ActiveView R). ComputedStands eval new k) (sym is) (x, d, refl, change, reads_keep old new a.reads carries stands.1, whole));
       moves = λ told. computed_moves eval w now old new a b x d (rests_same old new same) change is;
     }
 
@@ -146,7 +150,7 @@ busy {E} {R} {S} eval w now old new a b x d v carries out stands ready is held r
   waits = held;
   asked = λ told. tt;
   stands = stands_quiet {E = E} {R = R} {S = S} eval old new w (Slot.Computed a) (Slot.Computed b) carries out (λ k. k)
-  (subst (λ (k : ActiveView R). ComputedStands eval new k) (sym is) (slot_over {E = E} {R = R} {S = S} eval old new w (Slot.Computed a) carries out stands));
+      (subst (λ (k : ActiveView R). ComputedStands eval new k) (sym is) (slot_over {E = E} {R = R} {S = S} eval old new w (Slot.Computed a) carries out stands));
   moves = λ told.
       let r = ruled told in
       after eval w now old new new (Slot.Computed a) (Slot.Computed b) (StepLine.Busy v) r.0 (busy_moves eval w now new a b x d v (settles_none old new r.0) ready is r.1);
@@ -175,16 +179,16 @@ pub given_up : {E R S : Type 0} (eval : Eval R) (w now : ℕ) (old new : StoreVi
 given_up {E} {R} {S} eval w now old new a x d cs c carries out ready three is ruled =
     troubled {E = E} {R = R} {S = S} eval w now old new (Slot.Computed a) (StepLine.GivenUp cs) carries out (λ k. k) (ends_lower (further_steps (length a.attempt.clashes))) (λ k. k) tt tt (λ told. tt)
     (λ told.
-        let r = ruled told in
-        after eval w now old new new (Slot.Computed a) Slot.Idle (StepLine.GivenUp cs) r.0 (given_up_moves eval w now new a x d cs c (settles_none old new r.0) ready r.1 three is))
+    let r = ruled told in
+    after eval w now old new new (Slot.Computed a) Slot.Idle (StepLine.GivenUp cs) r.0 (given_up_moves eval w now new a x d cs c (settles_none old new r.0) ready r.1 three is))
 
 pub spends : {E R S : Type 0} (eval : Eval R) (w now : ℕ) (old new : StoreView) (a : ActiveView R) (x : Reply) (d : Draft) (k : Spent) → Carries old new → new.out ≡ old.out → a.ready ≡ Some (x, d) → IsRuled old new a.attempt d (VoteRefusal.Spent k)
     → Advances {E = E} {R = R} {S = S} eval w now old new (Slot.Computed a) Slot.Idle (StepLine.Spent k)
 spends {E} {R} {S} eval w now old new a x d k carries out ready ruled =
     troubled {E = E} {R = R} {S = S} eval w now old new (Slot.Computed a) (StepLine.Spent k) carries out (λ c. c) (ends_lower (further_steps (length a.attempt.clashes))) (λ c. c) tt tt (λ told. tt)
     (λ told.
-        let r = ruled told in
-        after eval w now old new new (Slot.Computed a) Slot.Idle (StepLine.Spent k) r.0 (spent_moves eval w now new a x d k (settles_none old new r.0) ready r.1))
+    let r = ruled told in
+    after eval w now old new new (Slot.Computed a) Slot.Idle (StepLine.Spent k) r.0 (spent_moves eval w now new a x d k (settles_none old new r.0) ready r.1))
 
 -- ---- a finish
 

@@ -120,9 +120,9 @@ pub quiet_fresh : {E R S : Type 0} (eval : Eval R) (w now : ℕ) (st : StoreView
 quiet_fresh {E} {R} {S} eval w now st slot next line none not tells =
     quiet eval w now st st slot next line (rests_here st) not
     (λ terms same may possible limit sl free.
-        let is : st ≡ may = sym (only st may none possible) in
-        subst (λ (k : StoreView). terms.limit ≡ k.limit → HoldsNone k w → from_doing terms (clocked (moment_of eval k sl) now) w (Some (doing_of eval slot)) ≡ (step_lines terms.answer w line, turned (clocked (moment_of eval k sl) now) w (doing_of eval next))) is
-        (λ l f. tells terms same l sl f) limit free)
+    let is : st ≡ may = sym (only st may none possible) in
+    subst (λ (k : StoreView). terms.limit ≡ k.limit → HoldsNone k w → from_doing terms (clocked (moment_of eval k sl) now) w (Some (doing_of eval slot)) ≡ (step_lines terms.answer w line, turned (clocked (moment_of eval k sl) now) w (doing_of eval next))) is
+    (λ l f. tells terms same l sl f) limit free)
 
 -- What is a step over the store once it is opened again is one over the stale store.
 pub after : {E R S : Type 0} (eval : Eval R) (w now : ℕ) (old mid new : StoreView) (slot next : Slot E R S) (line : StepLine) → Settles old mid → Moves eval w now mid new slot next line → Moves eval w now old new slot next line
@@ -142,9 +142,9 @@ trouble_moves : {E R S : Type 0} (eval : Eval R) (w now : ℕ) (old new : StoreV
 trouble_moves {E} {R} {S} eval w now old new slot trouble line rests not busy what =
     steady eval w now old new slot Slot.Idle line rests not
     (λ terms same st possible limit sl here free.
-        let m = clocked (moment_of eval st sl) now in
-        let asks : has_request (doing m w) ≡ true = ap has_request (get_map (doing_of eval) sl w slot here) ∙ busy in
-        inr (trouble, rw (asks, held_none sl w st.out free) (what terms m)))
+    let m = clocked (moment_of eval st sl) now in
+    let asks : has_request (doing m w) ≡ true = ap has_request (get_map (doing_of eval) sl w slot here) ∙ busy in
+    inr (trouble, rw (asks, held_none sl w st.out free) (what terms m)))
 
 pub memory_moves : {E R S : Type 0} (eval : Eval R) (w now : ℕ) (old new : StoreView) (slot : Slot E R S) → Rests old new → (IsPending (Some slot) → ⊥) → has_request (Some (doing_of eval slot)) ≡ true → Moves eval w now old new slot Slot.Idle StepLine.Memory
 memory_moves eval w now old new slot rests not busy = trouble_moves eval w now old new slot Wants_memory StepLine.Memory rests not busy (λ terms m. refl)

@@ -233,16 +233,16 @@ voted_moves {E} {R} {S} eval w now new a x d p t none ready change free attempt_
     let old : StoreView = idle new in
     let o : Out = voted_out old w d p.tid in
     rw at (λ sl here voter terms _ limit may possible.
-        let ws = map (doing_of eval) sl in
-        let is : doing_of {E = E} {R = R} {S = S} eval (Slot.Pending p) ≡ doing_of {E = E} {R = R} {S = S} eval (Slot.Computed a) = rw (attempt_is, reply_is, change, ready) refl in
-        let workers : map (doing_of eval) (slice_set sl w (Slot.Pending p)) ≡ ws = map_set (doing_of eval) sl w (Slot.Pending p) ∙ ap (slice_set ws w) is ∙ set_same ws w (doing_of {E = E} {R = R} {S = S} eval (Slot.Computed a)) (get_map (doing_of eval) sl w (Slot.Computed a) here) in
-        let reply : reply_at (slice_get (slice_set sl w (Slot.Pending p)) w) ≡ x = ap reply_at (get_set_same sl w (Slot.Pending p) (Slot.Computed a) here) ∙ reply_is in
-        let made : ℕ → Reply → List (Doing R) → Told R = (λ k y us. (Line.Vote w k ∷ [], parts old now (Some (record { holder = w; reply = y; transaction = settle old.history d k; size = size d })) us)) in
-        let holds : parts new now (Some (record { holder = w; reply = reply_at (slice_get (slice_set sl w (Slot.Pending p)) w); transaction = o.transaction; size = o.size })) (map (doing_of eval) (slice_set sl w (Slot.Pending p))) ≡ clocked (moment_of eval new (slice_set sl w (Slot.Pending p))) now = ap (λ out. parts new now (vote_of (slice_set sl w (Slot.Pending p)) out) (map (doing_of eval) (slice_set sl w (Slot.Pending p)))) (sym out_is) in
-        alone eval terms w now old new may sl (slice_set sl w (Slot.Pending p)) (Line.Vote w p.tid ∷ []) none possible
-        (inl (told_at terms eval old sl w now (Slot.Computed a) here ∙ tells eval terms old sl w now a x d None ready limit (holds_none old sl w (Slot.Computed a) voter here (λ c. c)) free
-        ∙ ap (λ k. made k x ws) (sym tid_is) ∙ ap (λ y. made p.tid y ws) (sym reply) ∙ ap (made p.tid (reply_at (slice_get (slice_set sl w (Slot.Pending p)) w))) (sym workers)
-        ∙ ap (λ m. (let t : Told R = (Line.Vote w p.tid ∷ [], m) in t)) holds)))
+    let ws = map (doing_of eval) sl in
+    let is : doing_of {E = E} {R = R} {S = S} eval (Slot.Pending p) ≡ doing_of {E = E} {R = R} {S = S} eval (Slot.Computed a) = rw (attempt_is, reply_is, change, ready) refl in
+    let workers : map (doing_of eval) (slice_set sl w (Slot.Pending p)) ≡ ws = map_set (doing_of eval) sl w (Slot.Pending p) ∙ ap (slice_set ws w) is ∙ set_same ws w (doing_of {E = E} {R = R} {S = S} eval (Slot.Computed a)) (get_map (doing_of eval) sl w (Slot.Computed a) here) in
+    let reply : reply_at (slice_get (slice_set sl w (Slot.Pending p)) w) ≡ x = ap reply_at (get_set_same sl w (Slot.Pending p) (Slot.Computed a) here) ∙ reply_is in
+    let made : ℕ → Reply → List (Doing R) → Told R = (λ k y us. (Line.Vote w k ∷ [], parts old now (Some (record { holder = w; reply = y; transaction = settle old.history d k; size = size d })) us)) in
+    let holds : parts new now (Some (record { holder = w; reply = reply_at (slice_get (slice_set sl w (Slot.Pending p)) w); transaction = o.transaction; size = o.size })) (map (doing_of eval) (slice_set sl w (Slot.Pending p))) ≡ clocked (moment_of eval new (slice_set sl w (Slot.Pending p))) now = ap (λ out. parts new now (vote_of (slice_set sl w (Slot.Pending p)) out) (map (doing_of eval) (slice_set sl w (Slot.Pending p)))) (sym out_is) in
+    alone eval terms w now old new may sl (slice_set sl w (Slot.Pending p)) (Line.Vote w p.tid ∷ []) none possible
+    (inl (told_at terms eval old sl w now (Slot.Computed a) here ∙ tells eval terms old sl w now a x d None ready limit (holds_none old sl w (Slot.Computed a) voter here (λ c. c)) free
+    ∙ ap (λ k. made k x ws) (sym tid_is) ∙ ap (λ y. made p.tid y ws) (sym reply) ∙ ap (made p.tid (reply_at (slice_get (slice_set sl w (Slot.Pending p)) w))) (sym workers)
+    ∙ ap (λ m. (let t : Told R = (Line.Vote w p.tid ∷ [], m) in t)) holds)))
 
 pub commit_moves : {E R S : Type 0} (eval : Eval R) (w now : ℕ) (old new : StoreView) (p : PendingView R) (x : Reply) (t : ℕ) → PendingStands old w p → old.undecided ≡ None → new ≡ finished old old.out new.disk → x ≡ p.reply → t ≡ p.tid
     → Moves {E = E} {R = R} {S = S} eval w now old new (Slot.Pending p) Slot.Idle (StepLine.Commit x t)
@@ -250,16 +250,16 @@ commit_moves {E} {R} {S} eval w now old new p x t stands none is reply at =
     let o = stands.0 in
     let after : new ≡ finished old (Some o) new.disk = is ∙ ap (λ out. finished old out new.disk) stands.1 in
     rw (at, reply, after) (λ sl here voter terms _ limit may possible.
-        let ws = map (doing_of eval) sl in
-        let m = parts old now (vote_of sl old.out) ws in
-        let d : Draft = draft_of (comes_to eval p.attempt) in
-        let v : ℕ → Reply → Vote = (λ h y. record { holder = h; reply = y; transaction = o.transaction; size = o.size }) in
-        let replied : reply_at (slice_get sl o.holder) ≡ p.reply = ap (λ k. reply_at (slice_get sl k)) stands.2 ∙ ap reply_at here in
-        let chosen : from_computed terms m w p.attempt p.reply d (vote_of sl (Some o)) ≡ commits terms m w (v o.holder (reply_at (slice_get sl o.holder))) = rw (equal o.holder w stands.2) refl in
-        let told_of : ℕ → Reply → List (Doing R) → Told R = (λ k y us. (Line.ReplyCommit w k (terms.answer y (Mark.Commit k)) ∷ shown_lines w y, parts (finished old (Some o) new.disk) now None us)) in
-        alone eval terms w now old (finished old (Some o) new.disk) may sl (slice_set sl w Slot.Idle) (step_lines terms.answer w (StepLine.Commit p.reply p.tid)) none possible
-        (inl (told_at terms eval old sl w now (Slot.Pending p) here ∙ ap (λ out. from_computed terms m w p.attempt p.reply d (vote_of sl out)) stands.1 ∙ chosen
-        ∙ ap (λ y. told_of o.transaction.tid y (slice_set ws w Free)) replied ∙ ap (λ k. told_of k p.reply (slice_set ws w Free)) stands.3 ∙ ap (told_of p.tid p.reply) (sym (map_set (doing_of eval) sl w Slot.Idle)))))
+    let ws = map (doing_of eval) sl in
+    let m = parts old now (vote_of sl old.out) ws in
+    let d : Draft = draft_of (comes_to eval p.attempt) in
+    let v : ℕ → Reply → Vote = (λ h y. record { holder = h; reply = y; transaction = o.transaction; size = o.size }) in
+    let replied : reply_at (slice_get sl o.holder) ≡ p.reply = ap (λ k. reply_at (slice_get sl k)) stands.2 ∙ ap reply_at here in
+    let chosen : from_computed terms m w p.attempt p.reply d (vote_of sl (Some o)) ≡ commits terms m w (v o.holder (reply_at (slice_get sl o.holder))) = rw (equal o.holder w stands.2) refl in
+    let told_of : ℕ → Reply → List (Doing R) → Told R = (λ k y us. (Line.ReplyCommit w k (terms.answer y (Mark.Commit k)) ∷ shown_lines w y, parts (finished old (Some o) new.disk) now None us)) in
+    alone eval terms w now old (finished old (Some o) new.disk) may sl (slice_set sl w Slot.Idle) (step_lines terms.answer w (StepLine.Commit p.reply p.tid)) none possible
+    (inl (told_at terms eval old sl w now (Slot.Pending p) here ∙ ap (λ out. from_computed terms m w p.attempt p.reply d (vote_of sl out)) stands.1 ∙ chosen
+    ∙ ap (λ y. told_of o.transaction.tid y (slice_set ws w Free)) replied ∙ ap (λ k. told_of k p.reply (slice_set ws w Free)) stands.3 ∙ ap (told_of p.tid p.reply) (sym (map_set (doing_of eval) sl w Slot.Idle)))))
 
 -- A finish that failed: whether its transaction stands is known once the store is opened again. Until then the moment is
 -- one of two, and each is a step from the one moment before.
