@@ -126,6 +126,7 @@ pub(crate) fn vote_on<D: Disk>(
     requires rules { IsDraft draft.now }
     requires seen { All (SeenOn (D.told disk.old) known.old.end) reads.now }
     ensures kept { IfOk result (λ w. IsKept (D.told disk.new) known.new limit (Some w) (D.spare_calls disk.new) (D.spare_bytes disk.new)) }
+    ensures holder { IfOk result (λ w. w.holder ≡ holder) }
     ensures voted { IfOk result (λ w. IfSome (D.told disk.old) (λ told. IsVoted (D.told disk.new) (history_at told known.old.end) known.new limit holder draft.now reads.now now w)) }
     ensures refused { IfErr result (λ refusal. IfSome (D.told disk.old) (λ told. (refusal ≡ VoteRefusal.Memory) ⊎ ((refusal ≡ VoteRefusal.Disk) ⊎ (validation_at (history_at told known.old.end) known.old.end limit draft.now (clash_among (history_at told known.old.end) reads.now) ≡ Some refusal)))) }
     ensures own { IfErr result (λ refusal. (w : ℕ) → refusal ≡ VoteRefusal.Busy w → ⊥) }
@@ -168,6 +169,7 @@ fn wait_on<D: Disk>(
     requires free { IsFree known.old.last known.old.next known.old.end limit draft.now }
     requires later { known.old.last < tid }
     ensures kept { IfOk result (λ w. IsKept (D.told disk.new) known.new limit (Some w) (D.spare_calls disk.new) (D.spare_bytes disk.new)) }
+    ensures holder { IfOk result (λ w. w.holder ≡ holder) }
     ensures waits { IfOk result (λ w. IfSome (D.told disk.old) (λ told. out_of (D.told disk.new) known.new.end w ≡ record { holder = holder; transaction = settle (history_at told known.old.end) draft.now tid; size = size draft.now })) }
     ensures stays { IsErrOf result LoadRefusal.Memory → IsKept (D.told disk.new) known.new limit None (D.spare_calls disk.new) (D.spare_bytes disk.new) × (D.told disk.new ≡ D.told disk.old) }
     ensures unsettled { OnErr result (IfSome (D.told disk.new) (IsUnsettled known.new.end None)) }
