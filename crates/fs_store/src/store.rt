@@ -38,7 +38,7 @@ use zdisk::Disk;
 #[derive(Drop)]
 pub struct Store<D: Disk + Drop> {
     alloc: Global,
-    disk: D,
+    pub(crate) disk: D,
     known: Known,
     limit: u64,
     out: Option<Waiting>,
