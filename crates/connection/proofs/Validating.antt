@@ -1,5 +1,5 @@
 -- The store's verdict on the reads of an attempt is the ruling on its facts.
-use Rattle.std.proofs.Common.{◌≡◌, ℕ, List, [], ◌∷◌, map, Option, Some, None, refl, ap, sym, ◌∙◌, ◌⊎◌, inl, inr}
+use Rattle.std.proofs.Common.{◌≡◌, ℕ, List, [], ◌∷◌, map, Option, Some, None, refl, ap, sym, ◌∙◌, subst, ◌⊎◌, inl, inr}
 use Rattle.std.specs.Prelude.{if◌then◌else◌, nat_lt}
 use Rattle.zbase.specs.History.{History}
 use Rattle.zbase.specs.Values.{serial}
@@ -10,10 +10,10 @@ use Rattle.schedule.specs.Moments.{Attempt}
 use Rattle.schedule.specs.Stepping.{clash_of, sooner, first_clash}
 use Rattle.fs_store.specs.declared.reads.Seen.{Seen}
 use Rattle.fs_store.specs.declared.refusal.VoteRefusal.{VoteRefusal}
-use Rattle.fs_store.specs.Stores.{StoreView, Out}
+use Rattle.fs_store.specs.Stores.{IsTold, Loses, Out, Settles, Stands, StoreView}
 use Rattle.fs_store.specs.Verdicts.{clash_among, clash_at, first_of, validation, verdict, verdict_of}
 use Rattle.connection.specs.States.{AreReads, reads_of, serial_seen}
-use Rattle.connection.specs.Votes.{ruling_of, ruling}
+use Rattle.connection.specs.Votes.{IsHeldBy, IsRuled, WasRefused, ruling_of, ruling}
 
 same_first : (a b : Option Clash) → first_of a b ≡ sooner a b
 same_first None b = refl
@@ -52,13 +52,19 @@ verdict_is_ruling s a d reads e = go s.out
 pub ruled : {R : Type 0} (s : StoreView) (a : Attempt R) (d : Draft) (reads : List Seen) (r : Option VoteRefusal) → AreReads reads a.facts → verdict s reads d ≡ r → ruling s a d ≡ r
 ruled s a d reads r e v = sym (verdict_is_ruling s a d reads e) ∙ v
 
--- over a disk that can't fail
-pub ruled_or : {R : Type 0} (s : StoreView) (a : Attempt R) (d : Draft) (reads : List Seen) (e : VoteRefusal) → AreReads reads a.facts → (e ≡ VoteRefusal.Disk → ⊥) → (e ≡ VoteRefusal.Memory) ⊎ ((e ≡ VoteRefusal.Disk) ⊎ (verdict s reads d ≡ Some e)) → (e ≡ VoteRefusal.Memory) ⊎ (ruling s a d ≡ Some e)
-ruled_or s a d reads e same calm (inl m) = inl m
-ruled_or s a d reads e same calm (inr (inl k)) = absurd (calm k)
-ruled_or s a d reads e same calm (inr (inr v)) = inr (ruled s a d reads (Some e) same v)
+-- what the store says of its refusal
+pub was_refused : {R : Type 0} (old new : StoreView) (a : Attempt R) (d : Draft) (reads : List Seen) (e : VoteRefusal) → AreReads reads a.facts
+    → ((e ≡ VoteRefusal.Memory) ⊎ (e ≡ VoteRefusal.Disk) → old.out ≡ None) → ((w : ℕ) → e ≡ VoteRefusal.Busy w → IsHeldBy old w)
+    → ((e ≡ VoteRefusal.Disk → ⊥) → IsTold old → Stands old new) → (e ≡ VoteRefusal.Disk → IsTold old → Loses old new)
+    → (IsTold old → (e ≡ VoteRefusal.Memory) ⊎ ((e ≡ VoteRefusal.Disk) ⊎ (Settles old new × (verdict new reads d ≡ Some e)))) → WasRefused old new a d e
+was_refused old new a d reads e same none holder stands loses cause = record {
+  none = none;
+  holder = holder;
+  stands = λ m. stands (λ k. let bad : VoteRefusal.Memory ≡ VoteRefusal.Disk = sym m ∙ k in cc);
+  loses = loses;
+  ruled = λ memory disk told. elim (cause told) [ inl m ↦ absurd (memory m) | inr r ↦ elim r [ inl k ↦ absurd (disk k) | inr v ↦ (v.0, ruled new a d reads (Some e) same v.1) ] ];
+}
 
--- a refusal that isn't want of memory is the ruling
-pub ruled_as : {R : Type 0} (s : StoreView) (a : Attempt R) (d : Draft) (e f : VoteRefusal) → e ≡ f → (f ≡ VoteRefusal.Memory → ⊥) → (e ≡ VoteRefusal.Memory) ⊎ (ruling s a d ≡ Some e) → ruling s a d ≡ Some f
-ruled_as s a d e f is not (inl m) = absurd (not (sym is ∙ m))
-ruled_as s a d e f is not (inr r) = r ∙ ap (λ k. Some k) is
+-- a refusal that is a ruling
+pub ruled_as : {R : Type 0} (old new : StoreView) (a : Attempt R) (d : Draft) (e f : VoteRefusal) → e ≡ f → (f ≡ VoteRefusal.Memory → ⊥) → (f ≡ VoteRefusal.Disk → ⊥) → WasRefused old new a d e → IsRuled old new a d f
+ruled_as old new a d e f is memory disk was = subst (IsRuled old new a d) is (was.ruled (λ m. memory (sym is ∙ m)) (λ k. disk (sym is ∙ k)))

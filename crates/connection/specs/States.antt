@@ -28,6 +28,10 @@ pub record ActiveView (R : Type 0) : Type 0 where
   pub reads : List Seen
   pub ready : Option (Reply × Draft)
 
+-- an attempt that a request begins at this snapshot: it knows nothing yet
+abbrev pub begun : {R : Type 0} → FreshView R → ℕ → ActiveView R
+begun f at = record { attempt = record { request = f.request; clashes = clashes_of f.conflicts; snapshot = at; facts = [] }; reads = []; ready = None }
+
 -- an attempt that has voted, with the reply that its commit gives
 pub record PendingView (R : Type 0) : Type 0 where
   pub attempt : Attempt R

@@ -1,10 +1,10 @@
 use crate::learning::learn;
-use crate::{CommitRefusal, Conflicts, Fresh, Pending, Turned};
+use crate::{CommitRefusal, Conflicts, Fresh, Pending, TurnRefusal, Turned};
 use evaluator::{Draft, Evaluator, Facts, Outcome, Reply};
-use fs_store::{Seen, Store, VoteRefusal};
+use fs_store::{LoadRefusal, Seen, Store, VoteRefusal, Voted};
 use std::alloc::Global;
 use std::marker::Model;
-use zbase::{Clash, Memory, Tid};
+use zbase::{Clash, Tid};
 use zdisk::Disk;
 
 /// An attempt under way: its request, the last transaction when it began, what the evaluator keeps for it, the
@@ -76,12 +76,18 @@ impl<E: Evaluator> Active<E> {
 }
 
 impl<E: Evaluator> Active<E> {
-    ghost use Rattle.std.specs.Prelude.{◌≡◌, ◌≤◌, None, IfOk, IfErr, length};
+    ghost use Rattle.std.specs.Prelude.{◌≡◌, ◌≤◌, None, IfOk, IfErr, IsErrAnd, OnErr, length};
+    ghost use Rattle.zbase.specs.Faults.{Counts};
     ghost use Rattle.evaluator.specs.Exec.{IsTrail, most_asks};
     ghost use Rattle.evaluator.specs.Facts.{look};
-    ghost use Rattle.fs_store.specs.Stores.{IsSteady, Stays};
+    ghost use Rattle.fs_store.specs.Seeing.{IsSeen};
+    ghost use Rattle.fs_store.specs.Stores.{IsTold, Stands};
+    ghost use Rattle.fs_store.specs.declared.reads.Seen.{Seen};
+    ghost use Rattle.connection.specs.Asks.{Asked};
     ghost use Rattle.connection.specs.States.{AreSeen};
-    ghost use Rattle.connection.specs.Turns.{IsTurn, ReadsStand};
+    ghost use Rattle.connection.specs.Telling.{TellsOn};
+    ghost use Rattle.connection.specs.Turns.{IsTurn, ReadsStand, TurnsStore};
+    ghost use Rattle.connection.specs.declared.refusal.TurnRefusal.{TurnRefusal};
 
     /// The last transaction when the attempt began.
     pub fn snapshot(&self) -> Tid
@@ -99,77 +105,41 @@ impl<E: Evaluator> Active<E> {
     }
 
     /// Evaluates once: where a fact is wanted it is fetched, as the history up to the snapshot gives it, whatever
-    /// was committed since. For want of memory the attempt comes back. The store's disk tells what it holds and
-    /// can't fail.
+    /// was committed since. A stale store is opened again for it. With `Err` the attempt comes back.
+    #[tactic(auto, using(crate::proofs::Telling::same_tells))]
     pub fn turn<D: Disk + Drop>(
-        self,
+        mut self,
         store: &mut Store<D>,
         evaluator: &mut E,
-    ) -> Result<Turned<E>, (Memory, Active<E>)>
+    ) -> Result<Turned<E>, (TurnRefusal, Active<E>)>
         requires unready { self.ready ≡ None }
-        requires steady { IsSteady store.old }
         requires reads { AreSeen store.old self.reads }
-        ensures same { Stays store.old store.new }
-        ensures steady { IsSteady store.new }
-        ensures turned { IfOk result (λ turned. IsTurn E.meaning store.old.history self turned) }
+        ensures turned { IfOk result (λ turned. IsTurn E.meaning store.new self turned) }
+        ensures asked { IfOk result (λ turned. Asked E.meaning self.attempt turned) }
+        ensures store { IfOk result (λ turned. TurnsStore store.old store.new turned) }
         ensures reads { IfOk result (ReadsStand store.new) }
+        ensures stands { OnErr result (IsTold store.old → Stands store.old store.new) }
         ensures back { IfErr result (λ (_, back). back ≡ self) }
+        ensures out { store.new.out ≡ store.old.out }
+        ensures limit { store.new.limit ≡ store.old.limit }
+        ensures tells { TellsOn store.old.disk.told store.new.disk.told }
+        ensures seen { (seen : Seen) → IsSeen store.old seen → IsSeen store.new seen }
+        ensures counts { Counts store.old.disk.counter store.new.disk.counter (IsErrAnd result (λ (refusal, _). refusal ≡ TurnRefusal.Disk)) }
     {
-        let Active {
-            alloc,
-            request,
-            mut state,
-            conflicts,
-            snapshot,
-            mut facts,
-            mut reads,
-            ready,
-        } = self;
-        let outcome = match evaluator.eval(&mut state, &facts, &request) {
-            Ok(outcome) => outcome,
-            Err(memory) => {
-                return Err((
-                    memory,
-                    Active {
-                        alloc,
-                        request,
-                        state,
-                        conflicts,
-                        snapshot,
-                        facts,
-                        reads,
-                        ready,
-                    },
-                ));
-            }
+        let Ok(outcome) = evaluator.eval(&mut self.state, &self.facts, &self.request) else {
+            return Err((TurnRefusal::Memory, self));
         };
         match outcome {
-            Outcome::Answer(reply) => Ok(Turned::Answered(reply, snapshot)),
-            Outcome::Change(reply, draft) => Ok(Turned::Ready(Active {
-                alloc,
-                request,
-                state,
-                conflicts,
-                snapshot,
-                facts,
-                reads,
-                ready: Some((reply, draft)),
-            })),
+            Outcome::Answer(reply) => Ok(Turned::Answered(reply, self.snapshot)),
+            Outcome::Change(reply, draft) => {
+                self.ready = Some((reply, draft));
+                Ok(Turned::Ready(self))
+            }
             Outcome::Need(ask) => {
-                let learned = learn(store, &ask, snapshot, &mut facts, &mut reads);
-                let active = Active {
-                    alloc,
-                    request,
-                    state,
-                    conflicts,
-                    snapshot,
-                    facts,
-                    reads,
-                    ready,
-                };
-                match learned {
-                    Ok(()) => Ok(Turned::Fetched(active, ask)),
-                    Err(memory) => Err((memory, active)),
+                match learn(store, &ask, self.snapshot, &mut self.facts, &mut self.reads) {
+                    Ok(()) => Ok(Turned::Fetched(self, ask)),
+                    Err(LoadRefusal::Disk) => Err((TurnRefusal::Disk, self)),
+                    Err(LoadRefusal::Memory) => Err((TurnRefusal::Memory, self)),
                 }
             }
         }
@@ -177,20 +147,22 @@ impl<E: Evaluator> Active<E> {
 }
 
 impl<E: Evaluator> Active<E> {
-    ghost use Rattle.std.specs.Prelude.{◌≡◌, ◌⊎◌, IfOk, IfErr, OnErr, None, Some};
+    ghost use Rattle.std.specs.Prelude.{◌≡◌, ◌↔◌, IfOk, IfErr, IsErrAnd, OnErr, OnOk, Some};
+    ghost use Rattle.zbase.specs.Faults.{Counts, Twice};
     ghost use Rattle.evaluator.specs.declared.draft.Draft.{Draft};
     ghost use Rattle.evaluator.specs.declared.reply.Reply.{Reply};
-    ghost use Rattle.schedule.specs.Moments.{Attempt};
     ghost use Rattle.fs_store.specs.Seeing.{IsSeen};
-    ghost use Rattle.fs_store.specs.Stores.{IsDraft, IsSteady, StoreView, on_disk};
+    ghost use Rattle.fs_store.specs.Stores.{IsDraft, IsTold, StoreView};
     ghost use Rattle.fs_store.specs.declared.reads.Seen.{Seen};
-    ghost use Rattle.connection.specs.States.{AreSeen};
     ghost use Rattle.fs_store.specs.declared.refusal.VoteRefusal.{VoteRefusal};
-    ghost use Rattle.connection.specs.Votes.{IsRefused, IsVoted, ruling};
+    ghost use Rattle.connection.specs.States.{AreSeen};
+    ghost use Rattle.connection.specs.Telling.{TellsOn};
+    ghost use Rattle.connection.specs.Votes.{IsDiskRefusal, IsRefused, IsRuled, IsVoted, WasRefused};
 
     // The request begins anew, or is given up at its fourth conflict.
     fn again(self, clash: Clash) -> CommitRefusal<E>
-        ensures { (s : StoreView) (d : Draft) → ruling s self.attempt d ≡ Some (VoteRefusal.Conflict clash) → IsRefused s self d result }
+        ensures refused { (old new : StoreView) (d : Draft) → IsRuled old new self.attempt d (VoteRefusal.Conflict clash) → IsRefused old new self d result }
+        ensures disk { IsDiskRefusal result → ⊥ }
     {
         let Active {
             alloc,
@@ -213,73 +185,71 @@ impl<E: Evaluator> Active<E> {
 
     // The state that comes back with a refusal of the store.
     fn refused(self, refusal: VoteRefusal) -> CommitRefusal<E>
-        requires { refusal ≡ VoteRefusal.Disk → ⊥ }
-        ensures { (s : StoreView) (d : Draft) → (refusal ≡ VoteRefusal.Memory) ⊎ (ruling s self.attempt d ≡ Some refusal) → (refusal ≡ VoteRefusal.Memory → s.out ≡ None) → IsRefused s self d result }
+        ensures refused { (old new : StoreView) (d : Draft) → WasRefused old new self.attempt d refusal → IsRefused old new self d result }
+        ensures disk { IsDiskRefusal result ↔ (refusal ≡ VoteRefusal.Disk) }
     {
         match refusal {
             VoteRefusal::Busy(holder) => CommitRefusal::Busy(holder, self),
             VoteRefusal::Conflict(clash) => self.again(clash),
-            VoteRefusal::TidsSpent => CommitRefusal::TidsSpent(self),
-            VoteRefusal::OidsSpent(greatest, new) => CommitRefusal::OidsSpent(greatest, new, self),
-            VoteRefusal::Full(need, limit) => CommitRefusal::Full(need, limit, self),
+            VoteRefusal::Spent(spent) => CommitRefusal::Spent(spent, self),
+            VoteRefusal::Disk => CommitRefusal::Disk(self),
             VoteRefusal::Memory => CommitRefusal::Memory(self),
-            // the disk can't fail
-            VoteRefusal::Disk => unreachable!(),
+        }
+    }
+
+    // The attempt once its vote is out.
+    fn voted(self, reply: Reply, voted: Voted) -> Pending<E>
+        ensures { result ≡ record { attempt = self.attempt; reply = reply; tid = voted } }
+    {
+        let Active {
+            alloc: _,
+            request,
+            state: _,
+            conflicts,
+            snapshot,
+            facts,
+            reads: _,
+            ready: _,
+        } = self;
+        Pending {
+            request,
+            conflicts,
+            snapshot,
+            facts,
+            reply,
+            voted,
         }
     }
 
     /// Votes for the change, for a worker: it is refused where another vote is out, where an object that was
-    /// fetched has a later serial, or where ids or the file's room are spent, in this order. The store's disk
-    /// tells what it holds and can't fail.
+    /// fetched has a later serial, or where ids or the file's room are spent, in this order. A stale store is opened
+    /// again first, and this is judged over what it then holds.
+    #[tactic(auto, using(crate::proofs::Telling::opening_tells))]
     pub fn vote<D: Disk + Drop>(
-        self,
+        mut self,
         store: &mut Store<D>,
         holder: u32,
         now: Tid,
     ) -> Result<Pending<E>, CommitRefusal<E>>
         requires ready { (x : Reply) × (d : Draft) × (self.ready ≡ Some (x, d)) × IsDraft d }
-        requires steady { IsSteady store.old }
         requires reads { AreSeen store.old self.reads }
         ensures voted { IfOk result (λ pending. (x : Reply) × (d : Draft) × (self.ready ≡ Some (x, d)) × IsVoted store.old store.new holder now self.attempt x d pending) }
-        ensures refused { IfErr result (λ refusal. (x : Reply) × (d : Draft) × (self.ready ≡ Some (x, d)) × IsRefused store.old self d refusal) }
-        ensures same { OnErr result (store.new ≡ on_disk store.old store.new.disk) }
-        ensures steady { IsSteady store.new }
+        ensures refused { IfErr result (λ refusal. (x : Reply) × (d : Draft) × (self.ready ≡ Some (x, d)) × IsRefused store.old store.new self d refusal) }
+        ensures kept { OnErr result (store.new.out ≡ store.old.out) }
+        ensures twice { OnOk result (Twice store.old.disk.counter store.new.disk.counter) }
+        ensures limit { store.new.limit ≡ store.old.limit }
+        ensures tells { TellsOn store.old.disk.told store.new.disk.told }
         ensures seen { (seen : Seen) → IsSeen store.old seen → IsSeen store.new seen }
+        ensures counts { Counts store.old.disk.counter store.new.disk.counter (IsErrAnd result IsDiskRefusal) }
     {
-        let Active {
-            alloc,
-            request,
-            state,
-            conflicts,
-            snapshot,
-            facts,
-            reads,
-            ready,
-        } = self;
-        let Some((reply, draft)) = ready else {
+        let Some((reply, draft)) = self.ready.take() else {
             unreachable!()
         };
-        match store.vote(holder, draft, reads.as_slice(), now) {
-            Ok(voted) => Ok(Pending {
-                request,
-                conflicts,
-                snapshot,
-                facts,
-                reply,
-                voted,
-            }),
+        match store.vote(holder, draft, self.reads.as_slice(), now) {
+            Ok(voted) => Ok(self.voted(reply, voted)),
             Err((refusal, draft)) => {
-                let active = Active {
-                    alloc,
-                    request,
-                    state,
-                    conflicts,
-                    snapshot,
-                    facts,
-                    reads,
-                    ready: Some((reply, draft)),
-                };
-                Err(active.refused(refusal))
+                self.ready = Some((reply, draft));
+                Err(self.refused(refusal))
             }
         }
     }

@@ -1,6 +1,6 @@
-use crate::{Active, Conflicts};
+use crate::{Active, BeginRefusal, Conflicts};
 use evaluator::Evaluator;
-use fs_store::Store;
+use fs_store::{LoadRefusal, Store};
 use std::alloc::Global;
 use std::marker::Model;
 use zdisk::Disk;
@@ -31,11 +31,16 @@ impl<E: Evaluator> Drop for Fresh<E> {
 }
 
 impl<E: Evaluator> Fresh<E> {
-    ghost use Rattle.std.specs.Prelude.{◌≡◌, [], None};
+    ghost use Rattle.std.specs.Prelude.{◌≡◌, [], false, IfErr, IfOk, IsErrAnd, None, OnErr, OnOk};
+    ghost use Rattle.zbase.specs.Faults.{Counts};
     ghost use Rattle.zbase.specs.Values.{last};
+    ghost use Rattle.fs_store.specs.Seeing.{IsSeen};
+    ghost use Rattle.fs_store.specs.Stores.{IsTold, Settles, on_disk};
+    ghost use Rattle.fs_store.specs.declared.reads.Seen.{Seen};
     ghost use Rattle.connection.specs.declared.conflicts.Conflicts.{Conflicts};
-    ghost use Rattle.fs_store.specs.Stores.{IsSteady};
-    ghost use Rattle.connection.specs.States.{clashes_of};
+    ghost use Rattle.connection.specs.declared.refusal.BeginRefusal.{BeginRefusal};
+    ghost use Rattle.connection.specs.States.{begun};
+    ghost use Rattle.connection.specs.Telling.{TellsOn};
 
     /// A request that was just given, without conflicts. Takes no memory.
     pub fn new(alloc: Global, request: E::Request) -> Fresh<E>
@@ -55,16 +60,37 @@ impl<E: Evaluator> Fresh<E> {
         }
     }
 
-    /// Begins an attempt: its snapshot is the last transaction, and it knows nothing yet. Takes no memory.
-    pub fn begin<D: Disk + Drop>(self, store: &Store<D>, evaluator: &E) -> Active<E>
-        requires { IsSteady store.now }
-        ensures { result ≡ record { attempt = record { request = self.request; clashes = clashes_of self.conflicts; snapshot = last store.now.history; facts = [] }; reads = []; ready = None } }
+    /// Begins an attempt: its snapshot is the last transaction, and it knows nothing yet. A stale store is opened
+    /// again first, and can't be told from a fresh one behind this. With `Err` the request comes back.
+    #[tactic(auto, using(crate::proofs::Telling::opening_tells))]
+    pub fn begin<D: Disk + Drop>(
+        self,
+        store: &mut Store<D>,
+        evaluator: &E,
+    ) -> Result<Active<E>, (BeginRefusal, Fresh<E>)>
+        ensures settled { OnOk result (IsTold store.old → Settles store.old store.new) }
+        ensures fresh { OnOk result (store.new.stale ≡ false) }
+        ensures began { IfOk result (λ active. active ≡ begun self active.attempt.snapshot) }
+        ensures snapshot { IfOk result (λ active. IsTold store.old → active.attempt.snapshot ≡ last store.new.history) }
+        ensures stands { OnErr result (store.new ≡ on_disk store.old store.new.disk) }
+        ensures back { IfErr result (λ (_, back). back ≡ self) }
+        ensures out { store.new.out ≡ store.old.out }
+        ensures limit { store.new.limit ≡ store.old.limit }
+        ensures tells { TellsOn store.old.disk.told store.new.disk.told }
+        ensures seen { (seen : Seen) → IsSeen store.old seen → IsSeen store.new seen }
+        ensures counts { Counts store.old.disk.counter store.new.disk.counter (IsErrAnd result (λ (refusal, _). refusal ≡ BeginRefusal.Disk)) }
     {
+        match store.refresh() {
+            Ok(()) => {}
+            Err(LoadRefusal::Disk) => return Err((BeginRefusal::Disk, self)),
+            Err(LoadRefusal::Memory) => return Err((BeginRefusal::Memory, self)),
+        }
         let Fresh {
             alloc,
             request,
             conflicts,
         } = self;
-        Active::new(alloc, request, conflicts, store.last(), evaluator)
+        let snapshot = store.last();
+        Ok(Active::new(alloc, request, conflicts, snapshot, evaluator))
     }
 }

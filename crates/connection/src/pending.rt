@@ -1,6 +1,6 @@
 use crate::Conflicts;
 use evaluator::{Evaluator, Facts, Reply};
-use fs_store::{Store, Voted};
+use fs_store::{AbortRefusal, FinishRefusal, Store, Voted};
 use std::marker::Model;
 use zbase::Tid;
 use zdisk::Disk;
@@ -25,10 +25,13 @@ impl<E: Evaluator> Model for Pending<E> {
 }
 
 impl<E: Evaluator> Pending<E> {
-    ghost use Rattle.std.specs.Prelude.{◌≡◌, None};
+    ghost use Rattle.std.specs.Prelude.{◌≡◌, false, IfErr, IfOk, IsErr, None, OnErr, OnOk};
+    ghost use Rattle.zbase.specs.Faults.{Counts, Twice};
     ghost use Rattle.fs_store.specs.Seeing.{IsSeen};
-    ghost use Rattle.fs_store.specs.Stores.{IsSteady, IsVoteOf, finished, voting};
+    ghost use Rattle.fs_store.specs.Stores.{IsTold, IsVoteOf, finished, staled, unsettled, voting};
     ghost use Rattle.fs_store.specs.declared.reads.Seen.{Seen};
+    ghost use Rattle.fs_store.specs.declared.refusal.FinishRefusal.{FinishRefusal};
+    ghost use Rattle.connection.specs.Telling.{TellsOn};
 
     /// The id that the transaction has once it is finished.
     pub fn tid(&self) -> Tid
@@ -37,16 +40,20 @@ impl<E: Evaluator> Pending<E> {
         self.voted.tid()
     }
 
-    /// The transaction stands from now on: its reply, and its id. Takes no memory. The store's disk
-    /// tells what it holds and can't fail.
-    pub fn finish<D: Disk + Drop>(self, store: &mut Store<D>) -> (Reply, Tid)
+    /// The transaction stands from now on: its reply, and its id. Takes no memory. Where the disk failed, whether it
+    /// stands is known once the store is opened again.
+    pub fn finish<D: Disk + Drop>(self, store: &mut Store<D>) -> Result<(Reply, Tid), FinishRefusal>
         requires vote { IsVoteOf store.old self.tid }
-        requires steady { IsSteady store.old }
-        ensures reply { result.0 ≡ self.reply }
-        ensures tid { result.1 ≡ self.tid }
-        ensures stands { store.new ≡ finished store.old store.old.out store.new.disk }
-        ensures steady { IsSteady store.new }
+        ensures reply { IfOk result (λ (reply, tid). (reply ≡ self.reply) × (tid ≡ self.tid)) }
+        ensures stands { OnOk result (IsTold store.old → store.new ≡ finished store.old store.old.out store.new.disk) }
+        ensures done { OnOk result ((store.new.out ≡ None) × (store.new.stale ≡ false)) }
+        ensures unknown { IfErr result (λ refusal. refusal ≡ FinishRefusal.Unknown self.tid) }
+        ensures stale { OnErr result (store.new ≡ unsettled store.old store.new.disk) }
+        ensures twice { OnOk result (Twice store.old.disk.counter store.new.disk.counter) }
+        ensures limit { store.new.limit ≡ store.old.limit }
+        ensures tells { TellsOn store.old.disk.told store.new.disk.told }
         ensures seen { (seen : Seen) → IsSeen store.old seen → IsSeen store.new seen }
+        ensures counts { Counts store.old.disk.counter store.new.disk.counter (IsErr result) }
     {
         let Pending {
             request: _,
@@ -57,19 +64,21 @@ impl<E: Evaluator> Pending<E> {
             voted,
         } = self;
         match store.finish(voted) {
-            Ok(tid) => (reply, tid),
-            // the disk can't fail
-            Err(_) => unreachable!(),
+            Ok(tid) => Ok((reply, tid)),
+            Err(refusal) => Err(refusal),
         }
     }
 
-    /// The transaction never stands. Takes no memory. The store's disk tells what it holds and can't fail.
-    pub fn abort<D: Disk + Drop>(self, store: &mut Store<D>)
+    /// The transaction never stands. Takes no memory. Where the disk failed the store is stale.
+    #[tactic(auto, using(crate::proofs::Telling::opening_tells))]
+    pub fn abort<D: Disk + Drop>(self, store: &mut Store<D>) -> Result<(), AbortRefusal>
         requires vote { IsVoteOf store.old self.tid }
-        requires steady { IsSteady store.old }
-        ensures gone { store.new ≡ voting store.old None store.new.disk }
-        ensures steady { IsSteady store.new }
+        ensures gone { OnOk result (store.new ≡ voting store.old None store.new.disk) }
+        ensures stale { OnErr result (store.new ≡ staled store.old store.new.disk) }
+        ensures limit { store.new.limit ≡ store.old.limit }
+        ensures tells { TellsOn store.old.disk.told store.new.disk.told }
         ensures seen { (seen : Seen) → IsSeen store.old seen → IsSeen store.new seen }
+        ensures counts { Counts store.old.disk.counter store.new.disk.counter (IsErr result) }
     {
         let Pending {
             request: _,
@@ -79,10 +88,6 @@ impl<E: Evaluator> Pending<E> {
             reply: _,
             voted,
         } = self;
-        match store.abort(voted) {
-            Ok(()) => {}
-            // the disk can't fail
-            Err(_) => unreachable!(),
-        }
+        store.abort(voted)
     }
 }

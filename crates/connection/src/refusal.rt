@@ -1,8 +1,27 @@
 use crate::{Active, Fresh};
 use evaluator::Evaluator;
+use fs_store::Spent;
 use zbase::Clash;
 
-/// Why a vote was refused, with the state that comes back. The numbers are those of `fs_store::VoteRefusal`.
+/// Why an attempt didn't begin. The request comes back.
+#[derive(Clone, Copy, Debug, PartialEq, Eq)]
+pub enum BeginRefusal {
+    /// The disk failed.
+    Disk,
+    /// Want of memory.
+    Memory,
+}
+
+/// Why an attempt wasn't evaluated, or its fact not fetched. The attempt comes back.
+#[derive(Clone, Copy, Debug, PartialEq, Eq)]
+pub enum TurnRefusal {
+    /// The disk failed.
+    Disk,
+    /// Want of memory.
+    Memory,
+}
+
+/// Why a vote was refused, with the state that comes back.
 pub enum CommitRefusal<E: Evaluator> {
     /// This worker's vote is out.
     Busy(u32, Active<E>),
@@ -10,12 +29,10 @@ pub enum CommitRefusal<E: Evaluator> {
     Conflict(Clash, Fresh<E>),
     /// That was the fourth conflict of the request: all four, from the first.
     GivenUp([Clash; 4]),
-    /// The last transaction id is taken.
-    TidsSpent(Active<E>),
-    /// So many new objects behind this greatest id would take the last id of all, which is never given, or pass it.
-    OidsSpent(u64, u32, Active<E>),
-    /// The file would need so many bytes, and may have only so many.
-    Full(u64, u64, Active<E>),
+    /// Something is spent, as the store says.
+    Spent(Spent, Active<E>),
+    /// The disk failed.
+    Disk(Active<E>),
     /// Want of memory. It never comes while another vote is out.
     Memory(Active<E>),
 }

@@ -16,3 +16,4 @@ pub mod StaleLaws
 pub mod Staleness
 pub mod Stores
 pub mod Verdicts
+pub mod Arming

@@ -129,6 +129,7 @@ pub(crate) fn vote_on<D: Disk>(
     ensures holder { IfOk result (λ w. w.holder ≡ holder) }
     ensures voted { IfOk result (λ w. IfSome (D.told disk.old) (λ told. IsVoted (D.told disk.new) (history_at told known.old.end) known.new limit holder draft.now reads.now now w)) }
     ensures refused { IfErr result (λ refusal. IfSome (D.told disk.old) (λ told. (refusal ≡ VoteRefusal.Memory) ⊎ ((refusal ≡ VoteRefusal.Disk) ⊎ (validation_at (history_at told known.old.end) known.old.end limit draft.now (clash_among (history_at told known.old.end) reads.now) ≡ Some refusal)))) }
+    ensures own { IfErr result (λ refusal. (w : ℕ) → refusal ≡ VoteRefusal.Busy w → ⊥) }
     ensures stays { IfErr result (λ refusal. (refusal ≡ VoteRefusal.Disk → ⊥) → IsKept (D.told disk.new) known.new limit None (D.spare_calls disk.new) (D.spare_bytes disk.new) × (D.told disk.new ≡ D.told disk.old)) }
     ensures unsettled { OnErr result (IfSome (D.told disk.new) (IsUnsettled known.new.end None)) }
     ensures end { known.new.end ≡ known.old.end }

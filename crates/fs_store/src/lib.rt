@@ -14,6 +14,7 @@
 //! `specs/StaleLaws` what its history becomes.
 #![tactic(auto)]
 
+mod arming;
 mod committing;
 mod finding;
 mod known;
@@ -32,6 +33,6 @@ mod waiting;
 pub use laws::stopped_settles;
 pub use opening::OpenRefusal;
 pub use reads::{Loaded, Seen};
-pub use refusal::{AbortRefusal, FinishRefusal, LoadRefusal, VoteRefusal};
+pub use refusal::{AbortRefusal, FinishRefusal, LoadRefusal, Spent, VoteRefusal};
 pub use store::Store;
 pub use voted::Voted;

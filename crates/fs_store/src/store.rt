@@ -38,7 +38,7 @@ use zdisk::Disk;
 #[derive(Drop)]
 pub struct Store<D: Disk + Drop> {
     alloc: Global,
-    disk: D,
+    pub(crate) disk: D,
     known: Known,
     limit: u64,
     out: Option<Waiting>,
@@ -264,6 +264,7 @@ impl<D: Disk + Drop> Store<D> {
         // A vote that is refused since another is out takes no memory and no device call.
         ensures busy { IfErr result (λ (refusal, _). (refusal ≡ VoteRefusal.Memory) ⊎ (refusal ≡ VoteRefusal.Disk) → self.old.out ≡ None) }
         ensures busy_with { IfErr result (λ (refusal, _). (o : Out) → self.old.out ≡ Some o → (refusal ≡ VoteRefusal.Busy o.holder) × (self.new ≡ self.old)) }
+        ensures busy_by { IfErr result (λ (refusal, _). (w : ℕ) → refusal ≡ VoteRefusal.Busy w → (o : Out) × (self.old.out ≡ Some o) × (o.holder ≡ w)) }
         ensures still { IfErr result (λ _. self.new.out ≡ self.old.out) }
         ensures back { IfErr result (λ (_, back). back ≡ draft) }
         ensures stands { IfErr result (λ (refusal, _). (refusal ≡ VoteRefusal.Disk → ⊥) → IsTold self.old → Stands self.old self.new) }
@@ -321,6 +322,7 @@ impl<D: Disk + Drop> Store<D> {
         ensures unknown { IfErr result (λ refusal. refusal ≡ FinishRefusal.Unknown voted) }
         ensures stale { OnErr result (self.new ≡ unsettled self.old self.new.disk) }
         ensures seen { (seen : Seen) → IsSeen self.old seen → IsSeen self.new seen }
+        ensures limit { self.new.limit ≡ self.old.limit }
         ensures tells { IsTold self.old → IsTold self.new }
         ensures any_moment { (o : Out) → self.old.out ≡ Some o → OpensToEither self.old self.new o }
         ensures calls { OnOk result (self.new.disk.counter.calls ≡ counted (counted self.old.disk.counter.calls)) }
@@ -350,6 +352,7 @@ impl<D: Disk + Drop> Store<D> {
         ensures gone { OnOk result (self.new ≡ voting self.old None self.new.disk) }
         ensures stale { OnErr result (self.new ≡ staled self.old self.new.disk) }
         ensures seen { (seen : Seen) → IsSeen self.old seen → IsSeen self.new seen }
+        ensures limit { self.new.limit ≡ self.old.limit }
         ensures tells { IsTold self.old → IsTold self.new }
         ensures any_moment { KeepsOpening self.old self.new }
         ensures calls { OnOk result (self.new.disk.counter.calls ≡ counted (counted self.old.disk.counter.calls)) }

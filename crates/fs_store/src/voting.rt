@@ -1,4 +1,4 @@
-ghost use Rattle.std.specs.Prelude.{◌≡◌, ◌<◌, ◌≤◌, ◌^◌, ◌==◌, All, false, min, IfOk, IfSome, IsErr, None, Some};
+ghost use Rattle.std.specs.Prelude.{◌≡◌, ◌<◌, ◌≤◌, ◌^◌, ◌==◌, All, ℕ, false, min, IfOk, IfSome, IsErr, None, Some};
 ghost use Rattle.zbase.specs.Faults.{Counts};
 ghost use Rattle.zbase.specs.Limits.{greatest_number};
 ghost use Rattle.evaluator.specs.Change.{is_new, made, named};
@@ -10,9 +10,9 @@ ghost use Rattle.fs_store.specs.Stores.{IsDraft};
 ghost use Rattle.fs_store.specs.declared.refusal.VoteRefusal.{VoteRefusal};
 ghost use Rattle.fs_store.specs.Verdicts.{IsFree, clash_among, clash_at, spent_at, tid_after, validation_at};
 
-use crate::VoteRefusal;
 use crate::known::Known;
 use crate::reads::Seen;
+use crate::{Spent, VoteRefusal};
 use evaluator::{Draft, Entry, Name};
 use fs_record::{BACK_RECORD_LEN, BARE_TXN_LEN, DATA_HEAD_LEN};
 use fs_scan::read_head;
@@ -132,15 +132,19 @@ fn spent(known: &Known, limit: u64, draft: &Draft) -> Option<VoteRefusal>
     ensures { result ≡ spent_at known.now.last known.now.next known.now.end limit draft.now }
 {
     if known.last.0 == u64::MAX {
-        return Some(VoteRefusal::TidsSpent);
+        return Some(VoteRefusal::Spent(Spent::Tids));
     }
     let made = made_by(draft);
     if made > 0 && known.next + u128::from(made) > u128::from(u64::MAX) {
-        return Some(VoteRefusal::OidsSpent((known.next - 1) as u64, made));
+        let greatest = (known.next - 1) as u64;
+        return Some(VoteRefusal::Spent(Spent::Oids {
+            greatest,
+            new: made,
+        }));
     }
     let need = known.end.saturating_add(size_of(draft));
     if limit < need {
-        return Some(VoteRefusal::Full(need, limit));
+        return Some(VoteRefusal::Spent(Spent::Full { need, limit }));
     }
     None
 }
@@ -170,7 +174,7 @@ pub(crate) fn refusal<D: Disk>(
     ensures refusal { IfOk result (λ refusal. IfSome (D.told disk.old) (λ told. refusal ≡ validation_at (history_at told known.now.end) known.now.end limit draft.now (clash_among (history_at told known.now.end) reads.now))) }
     ensures free { IfOk result (λ refusal. refusal ≡ None → IsFree known.now.last known.now.next known.now.end limit draft.now) }
     ensures calls { IfOk result (λ refusal. refusal ≡ None → (D.counter disk.new).calls ≡ (D.counter disk.old).calls) }
-    ensures own { IfOk result (λ refusal. (refusal ≡ Some VoteRefusal.Memory → ⊥) × (refusal ≡ Some VoteRefusal.Disk → ⊥)) }
+    ensures own { IfOk result (λ refusal. (refusal ≡ Some VoteRefusal.Memory → ⊥) × (refusal ≡ Some VoteRefusal.Disk → ⊥) × ((w : ℕ) → refusal ≡ Some (VoteRefusal.Busy w) → ⊥)) }
     ensures same { D.told disk.new ≡ D.told disk.old }
     ensures spare { (D.spare_calls disk.new ≡ D.spare_calls disk.old) × (D.spare_bytes disk.new ≡ D.spare_bytes disk.old) }
     ensures counts { Counts (D.counter disk.old) (D.counter disk.new) (IsErr result) }

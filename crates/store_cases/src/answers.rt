@@ -1,7 +1,7 @@
 //! Answers of a store as lines: words, and numbers behind them.
 use evaluator::{LogRows, Parts};
 use fs_record::Damage;
-use fs_store::{FinishRefusal, LoadRefusal, Loaded, OpenRefusal, VoteRefusal};
+use fs_store::{FinishRefusal, LoadRefusal, Loaded, OpenRefusal, Spent, VoteRefusal};
 use zbase::{Bytes, Clash, Memory, Value};
 
 /// Adds a blank and the number.
@@ -109,11 +109,13 @@ pub(crate) fn put_vote_refusal(out: &mut Bytes, refusal: VoteRefusal) -> Result<
             let Clash { oid, seen, found } = clash;
             put_line(out, "refused conflict", &[oid, seen, found])
         }
-        VoteRefusal::TidsSpent => put_line(out, "refused tids", &[]),
-        VoteRefusal::OidsSpent(last, new) => {
-            put_line(out, "refused oids", &[last, u64::from(new)])
+        VoteRefusal::Spent(Spent::Tids) => put_line(out, "refused tids", &[]),
+        VoteRefusal::Spent(Spent::Oids { greatest, new }) => {
+            put_line(out, "refused oids", &[greatest, u64::from(new)])
         }
-        VoteRefusal::Full(need, limit) => put_line(out, "refused full", &[need, limit]),
+        VoteRefusal::Spent(Spent::Full { need, limit }) => {
+            put_line(out, "refused full", &[need, limit])
+        }
         VoteRefusal::Disk => put_line(out, "refused disk", &[]),
         VoteRefusal::Memory => put_line(out, "refused memory", &[]),
     }

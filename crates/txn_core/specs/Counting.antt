@@ -2,7 +2,7 @@
 use Rattle.std.specs.Prelude.{ℕ, ◌≡◌, ◌+◌, ◌-◌, ◌*◌, ◌<◌, List, [], length, Option, Some, None, slice_get}
 use Rattle.evaluator.specs.declared.fact.Fact.{Fact}
 use Rattle.evaluator.specs.Exec.{most_asks}
-use Rattle.connection.specs.States.{clashes_of}
+use Rattle.connection.specs.States.{PendingView, clashes_of}
 use Rattle.txn_core.specs.declared.slot.Slot.{Slot}
 use Rattle.txn_core.specs.declared.step_line.StepLine.{StepLine}
 
@@ -31,7 +31,7 @@ left slots w = left_at (slice_get slots w)
 
 -- a step lowers the number, but where the worker has no request or waits for another's vote
 abbrev pub Lowers : StepLine → ℕ → ℕ → Type 0
-Lowers StepLine.Idle old new = new ≡ old
+Lowers StepLine.Idle old new = (old ≡ 0) × (new ≡ old)
 Lowers (StepLine.Busy v) old new = new ≡ old
 Lowers _ old new = new < old
 
@@ -52,7 +52,7 @@ steps_of (Slot.Computed a) = 2 + length a.attempt.facts
 steps_of (Slot.Pending p) = 3 + length p.attempt.facts
 
 -- Each step of an attempt is one more of these. So an answer comes in the second step beside those that fetched its
--- facts, and a commit in the fourth.
+-- facts, and a commit, or a finish of unknown outcome, in the fourth.
 abbrev pub Paces : {E R S : Type 0} → StepLine → Slot E R S → Slot E R S → Type 0
 Paces (StepLine.Begun t) old new = steps_of new ≡ 1
 Paces (StepLine.Fetched ask) old new = steps_of new ≡ steps_of old + 1
@@ -60,9 +60,24 @@ Paces StepLine.Computed old new = steps_of new ≡ steps_of old + 1
 Paces (StepLine.Voted t) old new = steps_of new ≡ steps_of old + 1
 Paces (StepLine.Read x t) old new = steps_of old + 1 ≡ length (facts_of old) + 2
 Paces (StepLine.Commit x t) old new = steps_of old + 1 ≡ length (facts_of old) + 4
+Paces (StepLine.Unknown t) old new = steps_of old + 1 ≡ length (facts_of old) + 4
 Paces _ old new = Unit {0}
 
--- where the worker has voted, this step ends its request
-abbrev pub EndsVote : {E R S : Type 0} → Slot E R S → Slot E R S → Type 0
-EndsVote (Slot.Pending p) next = next ≡ Slot.Idle
-EndsVote _ next = Unit {0}
+-- a finish commits what was voted for, or whether it stands isn't known
+abbrev pub IsOutcome : {R : Type 0} → PendingView R → StepLine → Type 0
+IsOutcome p (StepLine.Commit x t) = (x ≡ p.reply) × (t ≡ p.tid)
+IsOutcome p (StepLine.Unknown t) = t ≡ p.tid
+IsOutcome p _ = ⊥
+
+abbrev pub IsFinishLine : StepLine → Type 0
+IsFinishLine (StepLine.Commit x t) = Unit {0}
+IsFinishLine (StepLine.Unknown t) = Unit {0}
+IsFinishLine _ = ⊥
+
+-- where the worker has voted, this step finishes, which ends its request; and no other step does
+abbrev pub EndsVote : {E R S : Type 0} → StepLine → Slot E R S → Slot E R S → Type 0
+EndsVote line (Slot.Pending p) next = (next ≡ Slot.Idle) × IsOutcome p line
+EndsVote line Slot.Idle next = IsFinishLine line → ⊥
+EndsVote line (Slot.Fresh f) next = IsFinishLine line → ⊥
+EndsVote line (Slot.Active a) next = IsFinishLine line → ⊥
+EndsVote line (Slot.Computed a) next = IsFinishLine line → ⊥

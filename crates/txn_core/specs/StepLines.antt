@@ -5,8 +5,8 @@ use Rattle.evaluator.specs.declared.reply.Mark.{Mark}
 use Rattle.evaluator.specs.declared.reply.Reply.{Reply}
 use Rattle.evaluator.specs.Change.{IsReply}
 use Rattle.schedule.specs.declared.line.Line.{Line}
-use Rattle.schedule.specs.Causes.{conflict_reply, denied_line, full_reply, memory_reply, oids_reply, shown_lines, tids_reply}
-use Rattle.txn_core.specs.declared.step_line.Spent.{Spent}
+use Rattle.schedule.specs.Causes.{conflict_reply, denied_line, fault_reply, full_reply, memory_reply, oids_reply, shown_lines, tids_reply, unknown_reply}
+use Rattle.fs_store.specs.declared.refusal.Spent.{Spent}
 use Rattle.txn_core.specs.declared.step_line.StepLine.{StepLine}
 
 -- the last of some conflicts, or this one
@@ -49,5 +49,24 @@ step_lines answer w (StepLine.Conflict c) = Line.Conflict w c ∷ []
 step_lines answer w (StepLine.GivenUp cs) = none_lines answer w (Line.Conflict w (latest cs) ∷ Line.GivenUp w cs ∷ []) (conflict_reply (latest cs).oid)
 step_lines answer w (StepLine.Spent s) = none_lines answer w (spent_line w s ∷ []) (spent_reply s)
 step_lines answer w StepLine.Memory = none_lines answer w (Line.Memory w ∷ []) memory_reply
+step_lines answer w StepLine.DiskFault = none_lines answer w (Line.DiskFault w ∷ []) fault_reply
+step_lines answer w (StepLine.Unknown t) = none_lines answer w (Line.Unknown w t ∷ []) (unknown_reply t)
 step_lines answer w (StepLine.Read x t) = Line.ReplyRead w t (answer x (Mark.Read t)) ∷ (shown_lines w x ++ denied_line w x.denied)
 step_lines answer w (StepLine.Commit x t) = Line.ReplyCommit w t (answer x (Mark.Commit t)) ∷ shown_lines w x
+
+-- the disk failed in the step
+abbrev pub IsFaultLine : StepLine → Type 0
+IsFaultLine StepLine.DiskFault = Unit {0}
+IsFaultLine (StepLine.Unknown t) = Unit {0}
+IsFaultLine _ = ⊥
+
+-- the step voted, or committed
+abbrev pub IsVoteLine : StepLine → Type 0
+IsVoteLine (StepLine.Voted t) = Unit {0}
+IsVoteLine (StepLine.Commit x t) = Unit {0}
+IsVoteLine _ = ⊥
+
+-- the step committed
+abbrev pub IsCommitLine : StepLine → Type 0
+IsCommitLine (StepLine.Commit x t) = Unit {0}
+IsCommitLine _ = ⊥

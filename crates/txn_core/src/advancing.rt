@@ -1,32 +1,42 @@
-ghost use Rattle.std.specs.Prelude.{◌≡◌, ◌≤◌, None};
-ghost use Rattle.zbase.specs.Values.{last};
-ghost use Rattle.fs_store.specs.Stores.{IsSteady};
+ghost use Rattle.std.specs.Prelude.{◌≡◌, false};
+ghost use Rattle.zbase.specs.Faults.{Counts, Twice};
+ghost use Rattle.connection.specs.Telling.{TellsOn};
 ghost use Rattle.txn_core.specs.Slots.{ActiveStands, Advances, ChangeStands, ComputedStands, PendingStands, SlotStands};
-ghost use Rattle.txn_core.specs.StepLines.{IsAnswered};
+ghost use Rattle.txn_core.specs.StepLines.{IsAnswered, IsCommitLine, IsFaultLine, IsVoteLine};
 ghost use Rattle.txn_core.specs.declared.slot.Slot.{Slot};
 
+use crate::StepLine;
 use crate::slot::Slot;
-use crate::{Spent, StepLine};
-use connection::{Active, CommitRefusal, Fresh, Pending, Turned};
+use connection::{Active, BeginRefusal, CommitRefusal, Fresh, Pending, TurnRefusal, Turned};
 use evaluator::Evaluator;
 use fs_store::Store;
 use zbase::Tid;
 use zdisk::Disk;
 
 fn begin<D: Disk + Drop, E: Evaluator>(
-    store: &Store<D>,
+    store: &mut Store<D>,
     evaluator: &E,
     worker: u32,
     now: Tid,
     fresh: Fresh<E>,
 ) -> (Slot<E>, StepLine)
-    requires { IsSteady store.now }
-    ensures advances { Advances E.meaning worker now store.now store.now (Slot.Fresh fresh) result.0 result.1 }
+    ensures advances { Advances E.meaning worker now store.old store.new (Slot.Fresh fresh) result.0 result.1 }
+    ensures limit { store.new.limit ≡ store.old.limit }
+    ensures tells { TellsOn store.old.disk.told store.new.disk.told }
     ensures answered { IsAnswered result.1 }
+    ensures counts { Counts store.old.disk.counter store.new.disk.counter (IsFaultLine result.1) }
+    ensures fresh { IsCommitLine result.1 → store.new.stale ≡ false }
+    ensures twice { IsVoteLine result.1 → Twice store.old.disk.counter store.new.disk.counter }
 {
-    let active = fresh.begin(store, evaluator);
-    let snapshot = active.snapshot();
-    (Slot::Active(active), StepLine::Begun(snapshot))
+    store.is_sound();
+    match fresh.begin(store, evaluator) {
+        Ok(active) => {
+            let snapshot = active.snapshot();
+            (Slot::Active(active), StepLine::Begun(snapshot))
+        }
+        Err((BeginRefusal::Disk, _fresh)) => (Slot::Idle, StepLine::DiskFault),
+        Err((BeginRefusal::Memory, _fresh)) => (Slot::Idle, StepLine::Memory),
+    }
 }
 
 fn turn<D: Disk + Drop, E: Evaluator>(
@@ -36,11 +46,16 @@ fn turn<D: Disk + Drop, E: Evaluator>(
     now: Tid,
     active: Active<E>,
 ) -> (Slot<E>, StepLine)
-    requires steady { IsSteady store.old }
     requires stands { ActiveStands store.old active }
     ensures advances { Advances E.meaning worker now store.old store.new (Slot.Active active) result.0 result.1 }
+    ensures limit { store.new.limit ≡ store.old.limit }
+    ensures tells { TellsOn store.old.disk.told store.new.disk.told }
     ensures answered { IsAnswered result.1 }
+    ensures counts { Counts store.old.disk.counter store.new.disk.counter (IsFaultLine result.1) }
+    ensures fresh { IsCommitLine result.1 → store.new.stale ≡ false }
+    ensures twice { IsVoteLine result.1 → Twice store.old.disk.counter store.new.disk.counter }
 {
+    store.is_sound();
     match active.turn(store, evaluator) {
         Ok(Turned::Fetched(active, ask)) => {
             active.is_sound();
@@ -48,7 +63,8 @@ fn turn<D: Disk + Drop, E: Evaluator>(
         }
         Ok(Turned::Answered(reply, at)) => (Slot::Idle, StepLine::Read(reply, at)),
         Ok(Turned::Ready(active)) => (Slot::Computed(active), StepLine::Computed),
-        Err((_, _active)) => (Slot::Idle, StepLine::Memory),
+        Err((TurnRefusal::Disk, _active)) => (Slot::Idle, StepLine::DiskFault),
+        Err((TurnRefusal::Memory, _active)) => (Slot::Idle, StepLine::Memory),
     }
 }
 
@@ -58,11 +74,16 @@ fn vote<D: Disk + Drop, E: Evaluator>(
     now: Tid,
     active: Active<E>,
 ) -> (Slot<E>, StepLine)
-    requires steady { IsSteady store.old }
     requires stands { ComputedStands E.meaning store.old active }
     ensures advances { Advances E.meaning worker now store.old store.new (Slot.Computed active) result.0 result.1 }
+    ensures limit { store.new.limit ≡ store.old.limit }
+    ensures tells { TellsOn store.old.disk.told store.new.disk.told }
     ensures answered { IsAnswered result.1 }
+    ensures counts { Counts store.old.disk.counter store.new.disk.counter (IsFaultLine result.1) }
+    ensures fresh { IsCommitLine result.1 → store.new.stale ≡ false }
+    ensures twice { IsVoteLine result.1 → Twice store.old.disk.counter store.new.disk.counter }
 {
+    store.is_sound();
     match active.vote(store, worker, now) {
         Ok(pending) => {
             let tid = pending.tid();
@@ -75,13 +96,8 @@ fn vote<D: Disk + Drop, E: Evaluator>(
             (Slot::Fresh(fresh), StepLine::Conflict(clash))
         }
         Err(CommitRefusal::GivenUp(clashes)) => (Slot::Idle, StepLine::GivenUp(clashes)),
-        Err(CommitRefusal::TidsSpent(_active)) => (Slot::Idle, StepLine::Spent(Spent::Tids)),
-        Err(CommitRefusal::OidsSpent(greatest, new, _active)) => {
-            (Slot::Idle, StepLine::Spent(Spent::Oids { greatest, new }))
-        }
-        Err(CommitRefusal::Full(need, limit, _active)) => {
-            (Slot::Idle, StepLine::Spent(Spent::Full { need, limit }))
-        }
+        Err(CommitRefusal::Spent(spent, _active)) => (Slot::Idle, StepLine::Spent(spent)),
+        Err(CommitRefusal::Disk(_active)) => (Slot::Idle, StepLine::DiskFault),
         Err(CommitRefusal::Memory(_active)) => (Slot::Idle, StepLine::Memory),
     }
 }
@@ -92,15 +108,22 @@ fn finish<D: Disk + Drop, E: Evaluator>(
     now: Tid,
     pending: Pending<E>,
 ) -> (Slot<E>, StepLine)
-    requires steady { IsSteady store.old }
     requires vote { PendingStands store.old worker pending }
-    requires change { ChangeStands E.meaning pending }
+    requires change { ChangeStands E.meaning store.old pending }
     ensures advances { Advances E.meaning worker now store.old store.new (Slot.Pending pending) result.0 result.1 }
+    ensures limit { store.new.limit ≡ store.old.limit }
+    ensures tells { TellsOn store.old.disk.told store.new.disk.told }
     ensures answered { IsAnswered result.1 }
+    ensures counts { Counts store.old.disk.counter store.new.disk.counter (IsFaultLine result.1) }
+    ensures fresh { IsCommitLine result.1 → store.new.stale ≡ false }
+    ensures twice { IsVoteLine result.1 → Twice store.old.disk.counter store.new.disk.counter }
 {
     store.is_sound();
-    let (reply, tid) = pending.finish(store);
-    (Slot::Idle, StepLine::Commit(reply, tid))
+    let voted = pending.tid();
+    match pending.finish(store) {
+        Ok((reply, tid)) => (Slot::Idle, StepLine::Commit(reply, tid)),
+        Err(_) => (Slot::Idle, StepLine::Unknown(voted)),
+    }
 }
 
 /// One step of a worker, from what its slot holds to what it then holds.
@@ -111,10 +134,14 @@ pub(crate) fn advance<D: Disk + Drop, E: Evaluator>(
     now: Tid,
     slot: Slot<E>,
 ) -> (Slot<E>, StepLine)
-    requires steady { IsSteady store.old }
-    requires stands { SlotStands E.meaning store.old worker slot }
+    requires { SlotStands E.meaning store.old worker slot }
     ensures advances { Advances E.meaning worker now store.old store.new slot result.0 result.1 }
+    ensures limit { store.new.limit ≡ store.old.limit }
+    ensures tells { TellsOn store.old.disk.told store.new.disk.told }
     ensures answered { IsAnswered result.1 }
+    ensures counts { Counts store.old.disk.counter store.new.disk.counter (IsFaultLine result.1) }
+    ensures fresh { IsCommitLine result.1 → store.new.stale ≡ false }
+    ensures twice { IsVoteLine result.1 → Twice store.old.disk.counter store.new.disk.counter }
 {
     match slot {
         Slot::Idle => (Slot::Idle, StepLine::Idle),

@@ -1,7 +1,8 @@
-ghost use Rattle.std.specs.Prelude.{◌≡◌, [], None, length, map};
-ghost use Rattle.fs_store.specs.Stores.{IsSteady, voting};
+ghost use Rattle.std.specs.Prelude.{◌≡◌, [], None, length, map, true};
+ghost use Rattle.zbase.specs.Faults.{Counts};
+ghost use Rattle.connection.specs.Telling.{TellsOn};
 ghost use Rattle.txn_core.specs.Cores.{is_taken};
-ghost use Rattle.txn_core.specs.Slots.{CanEnd, Closing, ended};
+ghost use Rattle.txn_core.specs.Slots.{CanEnd, Closes, Closing, Ended};
 
 use crate::slot::Slot;
 use evaluator::Evaluator;
@@ -34,33 +35,44 @@ pub(crate) fn taken<E: Evaluator>(slots: &[Slot<E>]) -> [bool; WORKERS]
     all
 }
 
-// Ends what a slot holds: a vote that is out never stands.
-fn end_slot<D: Disk + Drop, E: Evaluator>(store: &mut Store<D>, slot: Slot<E>)
-    requires steady { IsSteady store.old }
-    requires vote { CanEnd store.old slot }
-    ensures store { store.new ≡ ended store.old slot store.new.disk }
-    ensures steady { IsSteady store.new }
+// Ends what a slot holds: a vote that is out never stands. Whether the disk failed in it.
+#[tactic(auto, using(connection::specs::Telling::tells_self))]
+fn end_slot<D: Disk + Drop, E: Evaluator>(store: &mut Store<D>, slot: Slot<E>) -> bool
+    requires { CanEnd store.old slot }
+    ensures ended { Ended store.old slot result store.new }
+    ensures tells { TellsOn store.old.disk.told store.new.disk.told }
+    ensures counts { Counts store.old.disk.counter store.new.disk.counter (result ≡ true) }
 {
     match slot {
-        Slot::Idle => {}
-        Slot::Fresh(_fresh) => {}
-        Slot::Active(_active) => {}
-        Slot::Computed(_active) => {}
-        Slot::Pending(pending) => pending.abort(store),
+        Slot::Idle => false,
+        Slot::Fresh(_fresh) => false,
+        Slot::Active(_active) => false,
+        Slot::Computed(_active) => false,
+        Slot::Pending(pending) => match pending.abort(store) {
+            Ok(()) => false,
+            Err(_) => true,
+        },
     }
 }
 
-/// Ends all slots, from the last on.
+/// Ends all slots, from the last on. Whether the disk failed in it.
+#[tactic(auto, using(connection::specs::Telling::tells_self))]
 pub(crate) fn end_slots<D: Disk + Drop, E: Evaluator>(
     store: &mut Store<D>,
     slots: &mut Vec<Slot<E>>,
-)
+) -> bool
     requires { Closing store.old slots.old.items }
-    ensures store { store.new ≡ voting store.old None store.new.disk }
-    ensures steady { IsSteady store.new }
+    ensures closes { Closes store.old result store.new }
+    ensures idle { store.new.out ≡ None }
+    ensures tells { TellsOn store.old.disk.told store.new.disk.told }
+    ensures counts { Counts store.old.disk.counter store.new.disk.counter (result ≡ true) }
     ensures slots { slots.new.items ≡ [] }
 {
+    let mut fault = false;
     while let Some(slot) = slots.pop() {
-        end_slot(store, slot);
+        if end_slot(store, slot) {
+            fault = true;
+        }
     }
+    fault
 }

@@ -1,16 +1,6 @@
 use evaluator::{Ask, Reply};
+use fs_store::Spent;
 use zbase::{Clash, Tid};
-
-/// What is spent, so that a change can't be voted for.
-#[derive(Clone, Copy, Debug, PartialEq, Eq)]
-pub enum Spent {
-    /// The last transaction id is taken.
-    Tids,
-    /// The new objects behind the greatest id would take the last id of all, which is never given, or pass it.
-    Oids { greatest: u64, new: u32 },
-    /// The file would need so many bytes, and may have only `limit`.
-    Full { need: u64, limit: u64 },
-}
 
 /// What a step of a worker answers.
 #[derive(Debug, Drop)]
@@ -37,6 +27,10 @@ pub enum StepLine {
     Commit(Reply, Tid),
     /// The request ended, since something is spent.
     Spent(Spent),
+    /// The request ended, since the disk failed.
+    DiskFault,
     /// The request ended for want of memory.
     Memory,
+    /// The request ended, since the disk failed in its finish: whether its transaction stands isn't known.
+    Unknown(Tid),
 }

@@ -1,12 +1,18 @@
-ghost use Rattle.std.specs.Prelude.{◌≡◌, ◌<◌, ◌≤◌, ◌≢◌, ◌↔◌, ℕ, List, [], Some, None, IfOk, IfErr, OnOk, IsTrue, All, length, map, slice_get};
+ghost use Rattle.std.specs.Prelude.{◌≡◌, ◌<◌, ◌≤◌, ◌≢◌, ◌↔◌, ⊤, Bool, false, true, ℕ, List, [], Some, None, IfOk, IfErr, IfSome, OnOk, All, length, map, slice_get};
+ghost use Rattle.zbase.specs.Faults.{Counts, Twice};
 ghost use Rattle.schedule.specs.Follows.{Follows};
 ghost use Rattle.schedule.specs.Moments.{Terms};
 ghost use Rattle.schedule.specs.declared.item.Item2.{Item2};
-ghost use Rattle.fs_store.specs.Stores.{IsSteady, voting};
+ghost use Rattle.zdisk.specs.Images.{IsImage};
+ghost use Rattle.fs_store.specs.Moments.{OpensAsKnown};
+ghost use Rattle.fs_store.specs.Stores.{IsTold};
 ghost use Rattle.connection.specs.States.{PendingView};
-ghost use Rattle.txn_core.specs.Counting.{Lowers, Paces, left};
-ghost use Rattle.txn_core.specs.StepLines.{IsAnswered, step_lines};
+ghost use Rattle.connection.specs.Telling.{TellsOn};
+ghost use Rattle.txn_core.specs.Counting.{IsFinishLine, IsOutcome, Lowers, Paces, left};
+ghost use Rattle.txn_core.specs.StepLines.{IsAnswered, IsCommitLine, IsFaultLine, IsVoteLine, step_lines};
+ghost use Rattle.txn_core.specs.Slots.{Closes, IsLeft, RestsOn};
 ghost use Rattle.txn_core.specs.declared.slot.Slot.{Slot};
+ghost use Rattle.txn_core.specs.declared.step_line.StepLine.{StepLine};
 
 use crate::advancing::advance;
 use crate::closing::{end_slots, taken};
@@ -14,7 +20,7 @@ use crate::slot::Slot;
 use crate::{GiveRefusal, StepLine};
 use connection::Fresh;
 use evaluator::Evaluator;
-use fs_store::Store;
+use fs_store::{AbortRefusal, Store};
 use schedule::WORKERS;
 use std::alloc::Global;
 use std::marker::Model;
@@ -34,10 +40,10 @@ fn idle_slots<E: Evaluator>(alloc: Global) -> Result<Vec<Slot<E>>, Memory>
     Ok(slots)
 }
 
-/// Sixteen workers over one store, numbered from 0 to 15. The store's disk tells what it holds and can't fail.
+/// Sixteen workers over one store, numbered from 0 to 15. Its disk may fail, and may tell nothing.
 pub struct Core<D: Disk + Drop, E: Evaluator> {
     alloc: Global,
-    store: Store<D>,
+    pub(crate) store: Store<D>,
     evaluator: E,
     slots: Vec<Slot<E>>,
 }
@@ -62,8 +68,7 @@ impl<D: Disk + Drop, E: Evaluator> Core<D, E> {
         store: Store<D>,
         evaluator: E,
     ) -> Result<Core<D, E>, (Memory, Store<D>, E)>
-        requires idle { store.out ≡ None }
-        requires steady { IsSteady store }
+        requires { store.out ≡ None }
         ensures store { IfOk result (λ core. core.store ≡ store) }
         ensures rest { IfOk result (λ core. IsAtRest E.meaning core) }
         ensures back { IfErr result (λ (_, store_back, evaluator_back). (store_back ≡ store) × (evaluator_back ≡ evaluator)) }
@@ -79,9 +84,8 @@ impl<D: Disk + Drop, E: Evaluator> Core<D, E> {
         }
     }
 
-    /// The store is steady. There are sixteen workers, and one has no step left exactly where it has no request.
+    /// There are sixteen workers, and one has no step left exactly where it has no request.
     pub fn is_sound(&self)
-        ensures steady { IsSteady self.now.store }
         ensures workers { length self.now.slots ≡ WORKERS }
         ensures idle { (worker : ℕ) → worker < WORKERS → left self.now.slots worker ≡ 0 ↔ IsIdle self.now worker }
     {
@@ -130,20 +134,30 @@ impl<D: Disk + Drop, E: Evaluator> Core<D, E> {
     }
 
     /// One event of a worker, at this stamp of the clock: a step of the table, whatever the other workers are
-    /// doing.
+    /// doing, where the store tells. Where the outcome of a finish isn't known, the core is at one of two moments, and
+    /// each moment at which it is behind the step is one that a step led to.
     ///
-    /// Each step but one that answers `Idle` or `Busy` lowers the worker's number `left`, and no other number is
-    /// changed. An answer comes in the second step of its attempt beside those that fetch its facts, a commit in the
-    /// fourth.
+    /// Where the count of the disk's faults rose, the answer is `DiskFault`, or `Unknown` in a finish; neither comes
+    /// elsewhere. Each step but one that answers `Idle` or `Busy` lowers the worker's number `left`, and no other number
+    /// is changed. A worker is idle exactly where it has no request, and waits only for one whose vote is out. An answer
+    /// comes in the second step of its attempt beside those that fetch its facts, a commit in the fourth; the facts
+    /// are those for which the evaluation of its request asks, each once.
     pub fn step(&mut self, worker: u32, now: Tid) -> StepLine
         requires { worker < WORKERS }
-        ensures step { (terms : Terms E.Request) → terms.eval ≡ E.meaning → terms.limit ≡ self.old.store.limit →
+        ensures step { IsTold self.old.store → (terms : Terms E.Request) → terms.eval ≡ E.meaning → terms.limit ≡ self.old.store.limit →
             Follows terms (MayBe E.meaning self.old) now (MayBe E.meaning self.new) now (Item2.Step worker) (step_lines terms.answer worker result) }
         ensures limit { self.new.store.limit ≡ self.old.store.limit }
+        ensures tells { TellsOn self.old.store.disk.told self.new.store.disk.told }
+        ensures fresh { IsCommitLine result → self.new.store.stale ≡ false }
         ensures answered { IsAnswered result }
+        ensures counts { Counts self.old.store.disk.counter self.new.store.disk.counter (IsFaultLine result) }
+        ensures twice { IsVoteLine result → Twice self.old.store.disk.counter self.new.store.disk.counter }
         ensures left { Lowers result (left self.old.slots worker) (left self.new.slots worker) }
         ensures paces { (old new : Slot E E.Request E.State) → slice_get self.old.slots worker ≡ Some old → slice_get self.new.slots worker ≡ Some new → Paces result old new }
-        ensures ends { (p : PendingView E.Request) → slice_get self.old.slots worker ≡ Some (Slot.Pending p) → IsIdle self.new worker }
+        ensures asked { IsTold self.old.store → (old : Slot E E.Request E.State) → slice_get self.old.slots worker ≡ Some old → RestsOn E.meaning self.old.store result old }
+        ensures waits { (v : ℕ) → result ≡ StepLine.Busy v → (p : PendingView E.Request) × (slice_get self.old.slots v ≡ Some (Slot.Pending p)) }
+        ensures ends { (p : PendingView E.Request) → slice_get self.old.slots worker ≡ Some (Slot.Pending p) → IsIdle self.new worker × IsOutcome p result }
+        ensures finishes { IsFinishLine result → (p : PendingView E.Request) × (slice_get self.old.slots worker ≡ Some (Slot.Pending p)) }
         ensures others { (v : ℕ) → v ≢ worker → slice_get self.new.slots v ≡ slice_get self.old.slots v }
     {
         let at = worker as usize;
@@ -155,10 +169,13 @@ impl<D: Disk + Drop, E: Evaluator> Core<D, E> {
     }
 
     /// Ends all requests: the store, in which a vote that was out never stands, and which workers had a request.
-    pub fn close(self) -> (Store<D>, [bool; WORKERS])
-        ensures store { result.0 ≡ voting self.store None result.0.disk }
-        ensures steady { IsSteady result.0 }
-        ensures taken { result.1 ≡ map is_taken self.slots }
+    /// Refused only where the disk failed in that; the store is stale then.
+    pub fn close(self) -> Result<(Store<D>, [bool; WORKERS]), (AbortRefusal, Store<D>)>
+        ensures store { IfOk result (λ (store, _). Closes self.store false store × TellsOn self.store.disk.told store.disk.told) }
+        ensures taken { IfOk result (λ (_, taken). taken ≡ map is_taken self.slots) }
+        ensures stale { IfErr result (λ (_, store). Closes self.store true store × TellsOn self.store.disk.told store.disk.told) }
+        ensures counts { IfOk result (λ (store, _). Counts self.store.disk.counter store.disk.counter ⊥) }
+        ensures fault { IfErr result (λ (_, store). Counts self.store.disk.counter store.disk.counter ⊤) }
     {
         let Core {
             alloc: _,
@@ -167,8 +184,32 @@ impl<D: Disk + Drop, E: Evaluator> Core<D, E> {
             mut slots,
         } = self;
         let lost = taken(slots.as_slice());
-        end_slots(&mut store, &mut slots);
+        let fault = end_slots(&mut store, &mut slots);
         slots.destroy_empty();
-        (store, lost)
+        if fault {
+            Err((AbortRefusal::Disk, store))
+        } else {
+            Ok((store, lost))
+        }
+    }
+
+    /// Ends all requests after a stop: the disk, the evaluator, and which workers had a request. A vote that was out
+    /// never stands; whether the disk failed in that isn't told. Each image of the disk opens to what is known, or to that
+    /// and the transaction of a finish whose outcome isn't known.
+    pub fn lose(self) -> (D, E, [bool; WORKERS])
+        ensures left { IsLeft self.store (D.told result.0) (D.counter result.0) }
+        ensures images { IfSome (D.told result.0) (λ told. (image : List ℕ) → IsImage told.now image → OpensAsKnown self.store image) }
+        ensures taken { result.2 ≡ map is_taken self.slots }
+    {
+        let Core {
+            alloc: _,
+            mut store,
+            evaluator,
+            mut slots,
+        } = self;
+        let lost = taken(slots.as_slice());
+        let _fault = end_slots(&mut store, &mut slots);
+        slots.destroy_empty();
+        (store.into_disk(), evaluator, lost)
     }
 }

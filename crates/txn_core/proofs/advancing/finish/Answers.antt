@@ -1,8 +1,22 @@
-use Rattle.txn_core.proofs.Voting.{commit_advances, commit_reply}
+use Rattle.std.proofs.Common.{ap}
+use Rattle.fs_store.specs.Stores.{StoreView}
+use Rattle.connection.specs.Telling.{tells_back, tells_forth}
+use Rattle.txn_core.proofs.Arms.{committed, unknown}
+use Rattle.txn_core.proofs.Steadiness.{Carries, grows_finished, grows_same, voter_decided}
+use Rattle.txn_core.proofs.Voting.{commit_reply}
 use Rattle.txn_core.proofs.advancing.finish.Goals as goal
 
-pub returns-clause-advances : goal.returns-clause-advances
-returns-clause-advances g c = commit_advances {E = g.row.E.Denot} {R = g.row.E-Request.Denot} {S = g.row.E-State.Denot} g.E.Evaluator.meaning c.args.worker c.args.now c.args.store.now c.finish-reply.new.store c.args.pending c.finish-reply.result.0 c.finish-reply.result.1 (record { steady = c.finish-reply.ensures.steady; seen = c.finish-reply.ensures.seen }) c.requires.vote (c.is_sound.ensures.later c.requires.steady.told) c.finish-reply.ensures.stands c.finish-reply.ensures.reply c.finish-reply.ensures.tid
+pub returns-in-Ok-clause-advances : goal.returns-in-Ok-clause-advances
+returns-in-Ok-clause-advances g c =
+    let vote = c.requires.vote in
+    let carries : Carries c.args.store.now c.finish.new.store = record { tells = tells_forth c.args.store.now.disk.told c.finish.new.store.disk.told c.finish.ensures.tells; told = tells_back c.args.store.now.disk.told c.finish.new.store.disk.told c.finish.ensures.tells; seen = c.finish.ensures.seen; grows = λ told. grows_finished c.args.store.now c.finish.new.store vote.0 vote.1 (c.in-Ok.ensures.stands told) (c.is_sound.ensures.history told) (c.is_sound.ensures.later told vote.0 vote.1) } in
+    committed {E = g.row.E.Denot} {R = g.row.E-Request.Denot} {S = g.row.E-State.Denot} g.E.Evaluator.meaning c.args.worker c.args.now c.args.store.now c.finish.new.store c.args.pending c.in-Ok.reply c.in-Ok.tid carries vote c.requires.change (voter_decided c.args.store.now vote.0 vote.1 c.is_sound.ensures.idle c.is_sound.ensures.undecided) c.in-Ok.ensures.done.0 c.in-Ok.ensures.stands c.in-Ok.ensures.reply.0 c.in-Ok.ensures.reply.1
 
-pub returns-clause-answered : goal.returns-clause-answered
-returns-clause-answered g c = rw c.finish-reply.ensures.reply (commit_reply g.E.Evaluator.meaning c.args.pending g.met.E.Evaluator.changes c.requires.change)
+pub returns-in-Err-clause-advances : goal.returns-in-Err-clause-advances
+returns-in-Err-clause-advances g c =
+    let same = ap (λ (s : StoreView). s.history) c.in-Err.ensures.stale in
+    let carries : Carries c.args.store.now c.finish.new.store = record { tells = tells_forth c.args.store.now.disk.told c.finish.new.store.disk.told c.finish.ensures.tells; told = tells_back c.args.store.now.disk.told c.finish.new.store.disk.told c.finish.ensures.tells; seen = c.finish.ensures.seen; grows = λ told. grows_same c.args.store.now.history c.finish.new.store.history same } in
+    unknown {E = g.row.E.Denot} {R = g.row.E-Request.Denot} {S = g.row.E-State.Denot} g.E.Evaluator.meaning c.args.worker c.args.now c.args.store.now c.finish.new.store c.args.pending c.tid-voted.result carries c.requires.vote c.in-Err.ensures.stale c.tid-voted.ensures
+
+pub returns-in-Ok-clause-answered : goal.returns-in-Ok-clause-answered
+returns-in-Ok-clause-answered g c = rw c.in-Ok.ensures.reply.0 (commit_reply g.E.Evaluator.meaning c.args.store.now c.args.pending g.met.E.Evaluator.changes c.requires.change)

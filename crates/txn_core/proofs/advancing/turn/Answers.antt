@@ -1,34 +1,53 @@
-use Rattle.std.proofs.Common.{refl}
+use Rattle.std.proofs.Common.{ap, refl}
+use Rattle.fs_store.specs.Stores.{StoreView}
+use Rattle.connection.specs.Telling.{tells_back, tells_forth}
 use Rattle.txn_core.specs.declared.slot.Slot.{Slot}
-use Rattle.txn_core.proofs.QuietArms.{fetch_advances, read_advances, computed_advances}
-use Rattle.txn_core.proofs.Steadiness.{rests_read}
-use Rattle.txn_core.proofs.Voting.{active_left, memory_advances, read_reply}
+use Rattle.txn_core.specs.declared.step_line.StepLine.{StepLine}
+use Rattle.txn_core.proofs.Arms.{answered, computed, fetched, troubled}
+use Rattle.txn_core.proofs.QuietArms.{active_left, fault_moves, memory_moves, stands_moves}
+use Rattle.txn_core.proofs.Steadiness.{Carries, grows_same, grows_settles, grows_stands}
+use Rattle.txn_core.proofs.Voting.{read_reply}
 use Rattle.txn_core.proofs.advancing.turn.Goals as goal
 
 pub returns-in-Ok-Fetched-clause-advances : goal.returns-in-Ok-Fetched-clause-advances
 returns-in-Ok-Fetched-clause-advances g c =
     let t = rw c.in-Ok-Fetched.field-0-is at c.in-Ok-Fetched.ensures.turned in
     let reads = rw c.in-Ok-Fetched.field-0-is at c.in-Ok-Fetched.ensures.reads in
-    let rests = rests_read c.args.store.now c.turn.new.store c.turn.ensures.same c.turn.ensures.steady in
-    fetch_advances {E = g.row.E.Denot} {R = g.row.E-Request.Denot} {S = g.row.E-State.Denot} g.E.Evaluator.meaning c.args.worker c.args.now c.args.store.now c.turn.new.store c.args.active c.in-Ok-Fetched.active c.in-Ok-Fetched.ask rests c.requires.stands t.0 t.1 t.2 reads c.is_sound.ensures.few
+    let settles = rw c.in-Ok-Fetched.field-0-is at c.in-Ok-Fetched.ensures.store in
+    let carries : Carries c.args.store.now c.turn.new.store = record { tells = tells_forth c.args.store.now.disk.told c.turn.new.store.disk.told c.turn.ensures.tells; told = tells_back c.args.store.now.disk.told c.turn.new.store.disk.told c.turn.ensures.tells; seen = c.turn.ensures.seen; grows = λ told. grows_settles c.args.store.now c.turn.new.store (settles told) (c.is_sound.ensures.history told) (c.is_sound.ensures.later_undecided told) } in
+    fetched {E = g.row.E.Denot} {R = g.row.E-Request.Denot} {S = g.row.E-State.Denot} g.E.Evaluator.meaning c.args.worker c.args.now c.args.store.now c.turn.new.store c.args.active c.in-Ok-Fetched.active c.in-Ok-Fetched.ask carries c.turn.ensures.out settles c.requires.stands t.0 t.1 t.2 t.3 reads c.is_sound-in-Ok-Fetched.ensures.few
 
 pub returns-in-Ok-Answered-clause-advances : goal.returns-in-Ok-Answered-clause-advances
 returns-in-Ok-Answered-clause-advances g c =
     let t = rw c.in-Ok-Answered.field-0-is at c.in-Ok-Answered.ensures.turned in
-    let rests = rests_read c.args.store.now c.turn.new.store c.turn.ensures.same c.turn.ensures.steady in
-    read_advances {E = g.row.E.Denot} {R = g.row.E-Request.Denot} {S = g.row.E-State.Denot} g.E.Evaluator.meaning c.args.worker c.args.now c.args.store.now c.turn.new.store c.args.active c.in-Ok-Answered.reply c.in-Ok-Answered.at rests t.0 t.1
+    let same = rw c.in-Ok-Answered.field-0-is at c.in-Ok-Answered.ensures.store in
+    let asks = rw c.in-Ok-Answered.field-0-is at c.in-Ok-Answered.ensures.asked in
+    let carries : Carries c.args.store.now c.turn.new.store = record { tells = tells_forth c.args.store.now.disk.told c.turn.new.store.disk.told c.turn.ensures.tells; told = tells_back c.args.store.now.disk.told c.turn.new.store.disk.told c.turn.ensures.tells; seen = c.turn.ensures.seen; grows = λ told. grows_same c.args.store.now.history c.turn.new.store.history (ap (λ (s : StoreView). s.history) same) } in
+    answered {E = g.row.E.Denot} {R = g.row.E-Request.Denot} {S = g.row.E-State.Denot} g.E.Evaluator.meaning c.args.worker c.args.now c.args.store.now c.turn.new.store c.args.active c.in-Ok-Answered.reply c.in-Ok-Answered.at carries same c.requires.stands t.0 t.1 asks
 
 pub returns-in-Ok-Ready-clause-advances : goal.returns-in-Ok-Ready-clause-advances
 returns-in-Ok-Ready-clause-advances g c =
     let t = rw c.in-Ok-Ready.field-0-is at c.in-Ok-Ready.ensures.turned in
-    let reads = rw c.in-Ok-Ready.field-0-is at c.in-Ok-Ready.ensures.reads in
-    let rests = rests_read c.args.store.now c.turn.new.store c.turn.ensures.same c.turn.ensures.steady in
-    computed_advances {E = g.row.E.Denot} {R = g.row.E-Request.Denot} {S = g.row.E-State.Denot} g.E.Evaluator.meaning c.args.worker c.args.now c.args.store.now c.turn.new.store c.args.active c.in-Ok-Ready.active t.0 t.1 rests t.2 t.3 reads
+    let same = rw c.in-Ok-Ready.field-0-is at c.in-Ok-Ready.ensures.store in
+    let asks = rw c.in-Ok-Ready.field-0-is at c.in-Ok-Ready.ensures.asked in
+    let carries : Carries c.args.store.now c.turn.new.store = record { tells = tells_forth c.args.store.now.disk.told c.turn.new.store.disk.told c.turn.ensures.tells; told = tells_back c.args.store.now.disk.told c.turn.new.store.disk.told c.turn.ensures.tells; seen = c.turn.ensures.seen; grows = λ told. grows_same c.args.store.now.history c.turn.new.store.history (ap (λ (s : StoreView). s.history) same) } in
+    computed {E = g.row.E.Denot} {R = g.row.E-Request.Denot} {S = g.row.E-State.Denot} g.E.Evaluator.meaning c.args.worker c.args.now c.args.store.now c.turn.new.store c.args.active c.in-Ok-Ready.active t.0 t.1 carries same c.requires.stands t.2 t.3 asks
 
-pub returns-in-Err-clause-advances : goal.returns-in-Err-clause-advances
-returns-in-Err-clause-advances g c =
-    let rests = rests_read c.args.store.now c.turn.new.store c.turn.ensures.same c.turn.ensures.steady in
-    memory_advances {E = g.row.E.Denot} {R = g.row.E-Request.Denot} {S = g.row.E-State.Denot} g.E.Evaluator.meaning c.args.worker c.args.now c.args.store.now c.turn.new.store (Slot.Active c.args.active) rests (λ k. k) refl (active_left c.args.active)
+pub returns-in-Err-Disk-default-clause-advances : goal.returns-in-Err-Disk-default-clause-advances
+returns-in-Err-Disk-default-clause-advances g c =
+    let stands = c.in-Err-Disk-default.ensures.stands in
+    let carries : Carries c.args.store.now c.turn.new.store = record { tells = tells_forth c.args.store.now.disk.told c.turn.new.store.disk.told c.turn.ensures.tells; told = tells_back c.args.store.now.disk.told c.turn.new.store.disk.told c.turn.ensures.tells; seen = c.turn.ensures.seen; grows = λ told. grows_stands c.args.store.now c.turn.new.store (stands told) (c.is_sound.ensures.history told) (c.is_sound.ensures.later_undecided told) } in
+    troubled {E = g.row.E.Denot} {R = g.row.E-Request.Denot} {S = g.row.E-State.Denot} g.E.Evaluator.meaning c.args.worker c.args.now c.args.store.now c.turn.new.store (Slot.Active c.args.active) StepLine.DiskFault carries c.turn.ensures.out (λ k. k) (active_left c.args.active) (λ k. k) tt tt (λ told. tt)
+    (λ told. stands_moves {E = g.row.E.Denot} {R = g.row.E-Request.Denot} {S = g.row.E-State.Denot} g.E.Evaluator.meaning c.args.worker c.args.now c.args.store.now c.turn.new.store (Slot.Active c.args.active) StepLine.DiskFault (stands told)
+    (λ st rests. fault_moves {E = g.row.E.Denot} {R = g.row.E-Request.Denot} {S = g.row.E-State.Denot} g.E.Evaluator.meaning c.args.worker c.args.now st c.turn.new.store (Slot.Active c.args.active) rests (λ k. k) refl))
+
+pub returns-in-Err-Memory-default-clause-advances : goal.returns-in-Err-Memory-default-clause-advances
+returns-in-Err-Memory-default-clause-advances g c =
+    let stands = c.in-Err-Memory-default.ensures.stands in
+    let carries : Carries c.args.store.now c.turn.new.store = record { tells = tells_forth c.args.store.now.disk.told c.turn.new.store.disk.told c.turn.ensures.tells; told = tells_back c.args.store.now.disk.told c.turn.new.store.disk.told c.turn.ensures.tells; seen = c.turn.ensures.seen; grows = λ told. grows_stands c.args.store.now c.turn.new.store (stands told) (c.is_sound.ensures.history told) (c.is_sound.ensures.later_undecided told) } in
+    troubled {E = g.row.E.Denot} {R = g.row.E-Request.Denot} {S = g.row.E-State.Denot} g.E.Evaluator.meaning c.args.worker c.args.now c.args.store.now c.turn.new.store (Slot.Active c.args.active) StepLine.Memory carries c.turn.ensures.out (λ k. k) (active_left c.args.active) (λ k. k) tt tt (λ told. tt)
+    (λ told. stands_moves {E = g.row.E.Denot} {R = g.row.E-Request.Denot} {S = g.row.E-State.Denot} g.E.Evaluator.meaning c.args.worker c.args.now c.args.store.now c.turn.new.store (Slot.Active c.args.active) StepLine.Memory (stands told)
+    (λ st rests. memory_moves {E = g.row.E.Denot} {R = g.row.E-Request.Denot} {S = g.row.E-State.Denot} g.E.Evaluator.meaning c.args.worker c.args.now st c.turn.new.store (Slot.Active c.args.active) rests (λ k. k) refl))
 
 pub returns-in-Ok-Answered-clause-answered : goal.returns-in-Ok-Answered-clause-answered
 returns-in-Ok-Answered-clause-answered g c =

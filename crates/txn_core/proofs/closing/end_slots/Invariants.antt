@@ -1,12 +1,15 @@
-use Rattle.std.proofs.Common.{◌≡◌, None, length}
-use Rattle.fs_store.specs.Stores.{voting}
-use Rattle.txn_core.specs.Slots.{Closing}
+use Rattle.std.proofs.Common.{◌≡◌, true, length}
+use Rattle.zbase.specs.Faults.{Counts}
+use Rattle.connection.specs.Telling.{TellsOn}
+use Rattle.txn_core.specs.Slots.{Closes, Closing}
 use Rattle.txn_core.proofs.closing.end_slots.Given as goal
 
 abbrev pub invariant-loop-slot : goal.invariant-loop-slot
 invariant-loop-slot g l = record {
   left : Closing l.store l.slots.items;
-  same : voting l.store None l.fn.store.disk ≡ voting l.fn.store None l.fn.store.disk;
+  tells : TellsOn l.fn.store.disk.told l.store.disk.told;
+  closes : Closes l.fn.store l.fault l.store;
+  counts : Counts l.fn.store.disk.counter l.store.disk.counter (l.fault ≡ true);
 }
 
 abbrev pub decreases-loop-slot : goal.decreases-loop-slot

@@ -1,7 +1,8 @@
-use Rattle.connection.proofs.Steadiness.{steady_then}
+use Rattle.connection.proofs.Telling.{finish_tells}
 use Rattle.connection.proofs.pending.Pending.finish.Goals as goal
 
-pub returns-clause-steady : goal.returns-clause-steady
-returns-clause-steady g c =
-    let vote = c.requires.vote in
-    steady_then _ c.args.store.now c.finish.new.self c.requires.steady (c.in-Ok.ensures.any_moment vote.0 vote.1) c.in-Ok.ensures.done.1 c.in-Ok.ensures.counts
+pub returns-in-Ok-clause-tells : goal.returns-in-Ok-clause-tells
+returns-in-Ok-clause-tells g c = let vote = c.requires.vote in finish_tells c.args.store.now c.finish.new.self _ vote c.finish.ensures.any_moment
+
+pub returns-in-Err-clause-tells : goal.returns-in-Err-clause-tells
+returns-in-Err-clause-tells g c = let vote = c.requires.vote in finish_tells c.args.store.now c.finish.new.self _ vote c.finish.ensures.any_moment

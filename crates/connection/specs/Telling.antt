@@ -1,0 +1,36 @@
+-- What a disk tells from one call to the next.
+use Rattle.std.specs.Prelude.{Option, Some, None, IsSome, refl}
+use Rattle.zdisk.specs.Crashes.{Piles}
+use Rattle.zdisk.specs.Disk.{Told}
+use Rattle.zdisk.specs.MomentLaws.{piles_none, piles_then}
+
+-- What a disk told of earlier moments it tells still, and one that tells nothing goes on telling nothing.
+abbrev pub TellsOn : Option Told → Option Told → Type 0
+TellsOn None None = Unit {0}
+TellsOn (Some old) (Some new) = Piles old new
+TellsOn (Some old) None = ⊥
+TellsOn None (Some new) = ⊥
+
+pub tells_self : (told : Option Told) → TellsOn told told
+tells_self None = tt
+tells_self (Some told) = piles_none told
+
+pub tells_then : (a b c : Option Told) → TellsOn a b → TellsOn b c → TellsOn a c
+tells_then None None None first second = tt
+tells_then None None (Some c) first second = second
+tells_then None (Some b) c first second = absurd first
+tells_then (Some a) None c first second = absurd first
+tells_then (Some a) (Some b) None first second = second
+tells_then (Some a) (Some b) (Some c) first second = piles_then a b c first second
+
+pub tells_forth : (a b : Option Told) → TellsOn a b → IsSome a → IsSome b
+tells_forth None None on some = some
+tells_forth None (Some b) on some = absurd on
+tells_forth (Some a) None on some = absurd on
+tells_forth (Some a) (Some b) on some = refl
+
+pub tells_back : (a b : Option Told) → TellsOn a b → IsSome b → IsSome a
+tells_back None None on some = some
+tells_back None (Some b) on some = absurd on
+tells_back (Some a) None on some = absurd on
+tells_back (Some a) (Some b) on some = refl
