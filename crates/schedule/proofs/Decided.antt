@@ -1,4 +1,4 @@
--- Whether a text begins with a front, a number or a worker.
+-- Whether a text begins with a front, a number, a worker, or a count of calls with its seed.
 use Rattle.std.proofs.Common.{◌≡◌, ◌≢◌, ℕ, ◌<◌, ◌≤◌, ◌^◌, Bool, true, false, List, [], ◌∷◌, ◌++◌, ◌⊎◌, inl, inr, refl, sym, ap, subst, ◌∙◌, arith}
 use Rattle.std.specs.Prelude.{decimal, nat_lt, nat_eq}
 use Rattle.std.specs.Bool.{Decides}
@@ -11,6 +11,7 @@ use Rattle.std.proofs.lemmas.Fmt.{decimal_is_IsNumeral}
 use Rattle.schedule.specs.Rows.{Lacks}
 use Rattle.schedule.specs.Items.{workers}
 use Rattle.schedule.proofs.Fronts.{one_front, has_byte, decimal_lacks}
+use Rattle.schedule.proofs.BadItems.{Calls}
 use Rattle.schedule.proofs.OneSchedule.{number_ends}
 
 pub decided : {P : Type 0} (b : Bool) → Decides b P → P ⊎ (P → ⊥)
@@ -86,3 +87,22 @@ worker_by_number end text no_digit (inr none) = inr (λ w rest below. none w res
 
 pub worker_at : (end : ℕ) (text : List ℕ) → 10 ≤ digit_value end → WorkerAt end text
 worker_at end text no_digit = worker_by_number end text no_digit (number_at end text no_digit)
+
+-- a count of device calls, a seed and LF, or not
+abbrev pub CallsAt : List ℕ → Type 0
+CallsAt text = Calls text ⊎ (Calls text → ⊥)
+
+calls_by_count : (n seed : ℕ) (text rest more : List ℕ) → n < 2 ^ 64 → seed < 2 ^ 64 → text ≡ decimal n ++ 32 ∷ rest → rest ≡ decimal seed ++ 10 ∷ more → (0 < n) ⊎ (0 < n → ⊥) → CallsAt text
+calls_by_count n seed text rest more small seed_small e f (inl some) = inl (record { calls = n; seed = seed; more = more; some = some; calls_small = small; seed_small = seed_small; text = e ∙ ap (λ xs. decimal n ++ 32 ∷ xs) f })
+calls_by_count n seed text rest more small seed_small e f (inr zero) = inr (λ c. zero (subst (λ k. 0 < k) (sym (number_ends n c.calls 32 rest (decimal c.seed ++ 10 ∷ c.more) small c.calls_small (omega arith) (sym e ∙ c.text)).0) c.some))
+
+calls_by_seed : (n : ℕ) (text rest : List ℕ) → n < 2 ^ 64 → text ≡ decimal n ++ 32 ∷ rest → NumberAt 10 rest → CallsAt text
+calls_by_seed n text rest small e (inl (seed, more, seed_small, f)) = calls_by_count n seed text rest more small seed_small e f (decided (nat_lt 0 n) (Decides-ltb 0 n))
+calls_by_seed n text rest small e (inr none) = inr (λ c. none c.seed c.more c.seed_small (number_ends n c.calls 32 rest (decimal c.seed ++ 10 ∷ c.more) small c.calls_small (omega arith) (sym e ∙ c.text)).1)
+
+calls_by_number : (text : List ℕ) → NumberAt 32 text → CallsAt text
+calls_by_number text (inl (n, rest, small, e)) = calls_by_seed n text rest small e (number_at 10 rest (omega arith))
+calls_by_number text (inr none) = inr (λ c. none c.calls (decimal c.seed ++ 10 ∷ c.more) c.calls_small c.text)
+
+pub calls_at : (text : List ℕ) → CallsAt text
+calls_at text = calls_by_number text (number_at 32 text (omega arith))

@@ -1,17 +1,17 @@
--- Each text is a schedule that arms nothing or has a bad line.
+-- Each text is a schedule or has a bad line.
 use Rattle.std.proofs.Common.{◌≡◌, ℕ, ◌<◌, ◌+◌, ◌^◌, List, [], ◌∷◌, ◌++◌, ◌⊎◌, inl, inr, length, take, drop, zero, suc, refl, sym, ap, subst, ◌∙◌, append_assoc, length-append, arith}
 use Rattle.std.specs.Prelude.{codes, decimal, flat_map}
 use Rattle.std.specs.List.{AllByRecursion}
 use Rattle.std.proofs.lemmas.List.{take-append-drop}
 use Rattle.schedule.specs.declared.item.Item2.{Item2}
-use Rattle.schedule.specs.Items.{item_text, first_line, workers, HasLine, ArmNothing, IsSchedule}
+use Rattle.schedule.specs.Items.{item_text, first_line, workers, HasLine, IsSchedule}
 use Rattle.schedule.specs.BadLines.{BeginsItem, IsBadLine, GoesOn, IsBadAt}
-use Rattle.schedule.proofs.BadItems.{regroup_step, regroup_clock, a_request, a_step, a_clock, no_word, behind_worker, behind_length}
-use Rattle.schedule.proofs.Decided.{Begins, begins, NumberAt, number_at, WorkerAt, worker_at}
+use Rattle.schedule.proofs.BadItems.{regroup_step, regroup_clock, regroup_stop, regroup_fail, a_request, a_step, a_clock, a_stop, a_fail, no_word, behind_worker, behind_length}
+use Rattle.schedule.proofs.Decided.{Begins, begins, NumberAt, number_at, WorkerAt, worker_at, CallsAt, calls_at}
 use Rattle.schedule.proofs.OneSchedule.{regroup_request}
 use Rattle.schedule.proofs.Stamps.{Stamp, stamp}
 
--- an item that arms nothing begins, or none does
+-- an item begins, or none does
 abbrev Item : List ℕ → Type 0
 Item text = BeginsItem text ⊎ (BeginsItem text → ⊥)
 
@@ -26,7 +26,7 @@ request_by_bytes fields w n rest below small e (inl (more, f)) =
     let parts : rest ≡ take n rest ++ 10 ∷ more = sym (take-append-drop n rest) ∙ ap (λ xs. take n rest ++ xs) f in
     let text : codes "request " ++ fields ≡ item_text (Item2.Request w (take n rest)) ++ more =
     ap (λ xs. codes "request " ++ xs) (e ∙ ap (λ xs. decimal w ++ 32 ∷ xs) (ap (λ k. decimal k ++ 10 ∷ rest) (sym count) ∙ ap (λ xs. decimal (length (take n rest)) ++ 10 ∷ xs) parts)) ∙ sym (regroup_request w (take n rest) more) in
-    inl (Item2.Request w (take n rest), more, (below, omega (arith, count, small)), tt, text)
+    inl (Item2.Request w (take n rest), more, (below, omega (arith, count, small)), text)
 request_by_bytes fields w n rest below small e (inr none) = inr (λ item. (let parts = behind_length fields (decimal n ++ 10 ∷ rest) w n rest below e small refl item in none parts.0 parts.2))
 
 request_by_length : (fields rest : List ℕ) (w : ℕ) → w < workers → fields ≡ decimal w ++ 32 ∷ rest → NumberAt 10 rest → Item (codes "request " ++ fields)
@@ -38,28 +38,38 @@ request fields (inl (w, rest, below, e)) = request_by_length fields rest w below
 request fields (inr none) = inr (λ item. (let parts = a_request fields item in none parts.0 (decimal (length parts.1) ++ 10 ∷ (parts.1 ++ 10 ∷ parts.2)) parts.3 parts.5))
 
 step : (fields : List ℕ) → WorkerAt 10 fields → Item (codes "step " ++ fields)
-step fields (inl (w, rest, below, e)) = inl (Item2.Step w, rest, below, tt, ap (λ xs. codes "step " ++ xs) e ∙ sym (regroup_step w rest))
+step fields (inl (w, rest, below, e)) = inl (Item2.Step w, rest, below, ap (λ xs. codes "step " ++ xs) e ∙ sym (regroup_step w rest))
 step fields (inr none) = inr (λ item. (let parts = a_step fields item in none parts.0 parts.1 parts.2 parts.3))
 
 clock : (fields : List ℕ) → Stamp fields → Item (codes "clock " ++ fields)
-clock fields (inl (t, rest, small, e)) = inl (Item2.Clock t, rest, small, tt, ap (λ xs. codes "clock " ++ xs) e ∙ sym (regroup_clock t rest))
+clock fields (inl (t, rest, small, e)) = inl (Item2.Clock t, rest, small, ap (λ xs. codes "clock " ++ xs) e ∙ sym (regroup_clock t rest))
 clock fields (inr none) = inr (λ item. (let parts = a_clock fields item in none parts.0 parts.1 parts.3))
 
-item_by_word : (text : List ℕ) → Begins (codes "request ") text → Begins (codes "step ") text → Begins (codes "clock ") text → Item text
-item_by_word text (inl (fields, e)) _ _ = subst (λ xs. Item xs) (sym e) (request fields (worker_at 32 fields (omega arith)))
-item_by_word text (inr _) (inl (fields, e)) _ = subst (λ xs. Item xs) (sym e) (step fields (worker_at 10 fields (omega arith)))
-item_by_word text (inr _) (inr _) (inl (fields, e)) = subst (λ xs. Item xs) (sym e) (clock fields (stamp fields))
-item_by_word text (inr r) (inr s) (inr c) = inr (no_word text r s c)
+stop : (fields : List ℕ) → CallsAt fields → Item (codes "stop " ++ fields)
+stop fields (inl c) = inl (Item2.Stop c.calls c.seed, c.more, (c.some, c.calls_small, c.seed_small), ap (λ xs. codes "stop " ++ xs) c.text ∙ sym (regroup_stop c.calls c.seed c.more))
+stop fields (inr none) = inr (λ item. none (a_stop fields item))
+
+fail : (fields : List ℕ) → CallsAt fields → Item (codes "fail " ++ fields)
+fail fields (inl c) = inl (Item2.Fail c.calls c.seed, c.more, (c.some, c.calls_small, c.seed_small), ap (λ xs. codes "fail " ++ xs) c.text ∙ sym (regroup_fail c.calls c.seed c.more))
+fail fields (inr none) = inr (λ item. none (a_fail fields item))
+
+item_by_word : (text : List ℕ) → Begins (codes "request ") text → Begins (codes "step ") text → Begins (codes "clock ") text → Begins (codes "stop ") text → Begins (codes "fail ") text → Item text
+item_by_word text (inl (fields, e)) _ _ _ _ = subst (λ xs. Item xs) (sym e) (request fields (worker_at 32 fields (omega arith)))
+item_by_word text (inr _) (inl (fields, e)) _ _ _ = subst (λ xs. Item xs) (sym e) (step fields (worker_at 10 fields (omega arith)))
+item_by_word text (inr _) (inr _) (inl (fields, e)) _ _ = subst (λ xs. Item xs) (sym e) (clock fields (stamp fields))
+item_by_word text (inr _) (inr _) (inr _) (inl (fields, e)) _ = subst (λ xs. Item xs) (sym e) (stop fields (calls_at fields))
+item_by_word text (inr _) (inr _) (inr _) (inr _) (inl (fields, e)) = subst (λ xs. Item xs) (sym e) (fail fields (calls_at fields))
+item_by_word text (inr r) (inr s) (inr c) (inr h) (inr f) = inr (no_word text r s c h f)
 
 item : (text : List ℕ) → Item text
-item text = item_by_word text (begins (codes "request ") text) (begins (codes "step ") text) (begins (codes "clock ") text)
+item text = item_by_word text (begins (codes "request ") text) (begins (codes "step ") text) (begins (codes "clock ") text) (begins (codes "stop ") text) (begins (codes "fail ") text)
 
 -- good lines, and why they end
 abbrev Ends : List ℕ → Type 0
 Ends others = (others ≡ item_text Item2.End) ⊎ (GoesOn others ⊎ IsBadLine others)
 
 abbrev Read : List ℕ → Type 0
-Read rest = (items : List Item2) × (others : List ℕ) × AllByRecursion HasLine items × ArmNothing items × (rest ≡ flat_map item_text items ++ others) × Ends others
+Read rest = (items : List Item2) × (others : List ℕ) × AllByRecursion HasLine items × (rest ≡ flat_map item_text items ++ others) × Ends others
 
 at_end : (rest more : List ℕ) → rest ≡ item_text Item2.End ++ more → Ends rest
 at_end rest [] e = inl e
@@ -74,29 +84,29 @@ item_long (Item2.Fail n seed) = omega arith
 item_long Item2.End = omega arith
 
 read_by : (k : ℕ) (rest : List ℕ) → ((others : List ℕ) → length others < k → Read others) → length rest < suc k → Begins (item_text Item2.End) rest → Item rest → Read rest
-read_by k rest go f (inl (more, e)) _ = ([], rest, tt, tt, refl, at_end rest more e)
-read_by k rest go f (inr none) (inl (item, others, line, arms, e)) =
+read_by k rest go f (inl (more, e)) _ = ([], rest, tt, refl, at_end rest more e)
+read_by k rest go f (inr none) (inl (item, others, line, e)) =
     let count : length rest ≡ length (item_text item) + length others = ap length e ∙ length-append (item_text item) others in
     let long = item_long item in
     let r = go others (omega (arith, count, long, f)) in
-    (item ∷ r.0, r.1, (line, r.2), (arms, r.3), e ∙ ap (λ xs. item_text item ++ xs) r.4 ∙ sym (append_assoc (item_text item) (flat_map item_text r.0) r.1), r.5)
-read_by k rest go f (inr none) (inr nothing) = ([], rest, tt, tt, refl, inr (inr (record { no_item = nothing; no_end = none })))
+    (item ∷ r.0, r.1, (line, r.2), e ∙ ap (λ xs. item_text item ++ xs) r.3 ∙ sym (append_assoc (item_text item) (flat_map item_text r.0) r.1), r.4)
+read_by k rest go f (inr none) (inr nothing) = ([], rest, tt, refl, inr (inr (record { no_item = nothing; no_end = none })))
 
 read : (k : ℕ) (rest : List ℕ) → length rest < k → Read rest
 read zero rest f = absurd (omega (arith, f))
 read (suc k) rest f = read_by k rest (read k) f (begins (item_text Item2.End) rest) (item rest)
 
 abbrev Either : List ℕ → Type 0
-Either text = ((items : List Item2) × IsSchedule text items × ArmNothing items) ⊎ ((n : ℕ) × IsBadAt text n)
+Either text = ((items : List Item2) × IsSchedule text items) ⊎ ((n : ℕ) × IsBadAt text n)
 
 either_read : (text rest : List ℕ) → text ≡ first_line ++ rest → Read rest → Either text
-either_read text rest e (items, others, lines, arms, f, inl end) = inl (items, record { lines = lines; text = e ∙ ap (λ xs. first_line ++ xs) (f ∙ ap (λ xs. flat_map item_text items ++ xs) end) }, arms)
-either_read text rest e (items, others, lines, arms, f, inr (inl more)) = inr (length items + 3, inr (items, others, record { lines = lines; arm_nothing = arms; text_is = e ∙ ap (λ xs. first_line ++ xs) f }, inr (refl, more)))
-either_read text rest e (items, others, lines, arms, f, inr (inr bad)) = inr (length items + 2, inr (items, others, record { lines = lines; arm_nothing = arms; text_is = e ∙ ap (λ xs. first_line ++ xs) f }, inl (refl, bad)))
+either_read text rest e (items, others, lines, f, inl end) = inl (items, record { lines = lines; text = e ∙ ap (λ xs. first_line ++ xs) (f ∙ ap (λ xs. flat_map item_text items ++ xs) end) })
+either_read text rest e (items, others, lines, f, inr (inl more)) = inr (length items + 3, inr (items, others, record { lines = lines; text_is = e ∙ ap (λ xs. first_line ++ xs) f }, inr (refl, more)))
+either_read text rest e (items, others, lines, f, inr (inr bad)) = inr (length items + 2, inr (items, others, record { lines = lines; text_is = e ∙ ap (λ xs. first_line ++ xs) f }, inl (refl, bad)))
 
 either_by : (text : List ℕ) → Begins first_line text → Either text
 either_by text (inl (rest, e)) = either_read text rest e (read (length rest + 1) rest (omega arith))
 either_by text (inr none) = inr (1, inl (refl, none))
 
-pub either : (text : List ℕ) → ((items : List Item2) × IsSchedule text items × ArmNothing items) ⊎ ((n : ℕ) × IsBadAt text n)
+pub either : (text : List ℕ) → ((items : List Item2) × IsSchedule text items) ⊎ ((n : ℕ) × IsBadAt text n)
 either text = either_by text (begins first_line text)

@@ -6,13 +6,13 @@
 use Rattle.std.specs.Prelude.{◌≡◌, ◌≢◌, ◌⊎◌, ℕ, ◌+◌, List, [], ◌++◌, length, flat_map}
 use Rattle.std.specs.List.{AllByRecursion}
 use Rattle.schedule.specs.declared.item.Item2.{Item2}
-use Rattle.schedule.specs.Items.{item_text, first_line, HasLine, ArmsNothing, ArmNothing}
+use Rattle.schedule.specs.Items.{item_text, first_line, HasLine}
 
--- an item that arms nothing begins here, with its line
+-- an item begins here, with its line
 abbrev pub BeginsItem : List ℕ → Type 0
-BeginsItem bytes = (item : Item2) × (rest : List ℕ) × HasLine item × ArmsNothing item × (bytes ≡ item_text item ++ rest)
+BeginsItem bytes = (item : Item2) × (rest : List ℕ) × HasLine item × (bytes ≡ item_text item ++ rest)
 
--- neither such an item nor the end begins here
+-- neither an item nor the end begins here
 pub record IsBadLine (bytes : List ℕ) : Type 0 where
   pub no_item : BeginsItem bytes → ⊥
   pub no_end : (rest : List ℕ) → bytes ≢ item_text Item2.End ++ rest
@@ -26,7 +26,6 @@ pub record GoesOn (bytes : List ℕ) : Type 0 where
 -- good lines, and what stands behind them
 pub record GoodLines (text : List ℕ) (items : List Item2) (rest : List ℕ) : Type 0 where
   pub lines : AllByRecursion HasLine items
-  pub arm_nothing : ArmNothing items
   pub text_is : text ≡ first_line ++ flat_map item_text items ++ rest
 
 -- the first line isn't the one of schedules

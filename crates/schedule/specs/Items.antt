@@ -34,15 +34,3 @@ HasLine Item2.End = ⊥
 pub record IsSchedule (bytes : List ℕ) (items : List Item2) : Type 0 where
   pub lines : AllByRecursion HasLine items
   pub text : bytes ≡ first_line ++ flat_map item_text items ++ item_text Item2.End
-
--- an item that arms neither a stop nor a failure: a request, a step or a clock
-abbrev pub ArmsNothing : Item2 → Type 0
-ArmsNothing (Item2.Request w bytes) = Unit {0}
-ArmsNothing (Item2.Step w) = Unit {0}
-ArmsNothing (Item2.Clock t) = Unit {0}
-ArmsNothing (Item2.Stop n seed) = ⊥
-ArmsNothing (Item2.Fail n seed) = ⊥
-ArmsNothing Item2.End = ⊥
-
-abbrev pub ArmNothing : List Item2 → Type 0
-ArmNothing items = AllByRecursion ArmsNothing items

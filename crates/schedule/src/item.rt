@@ -12,11 +12,10 @@ pub enum Item2 {
     Step(u32),
     /// `clock HEX`: the stamp for later votes, in sixteen hexadecimal digits.
     Clock(Tid),
-    /// `stop N SEED`: the machine stops at the N-th device call, and the seed picks what the disk has then. So far
-    /// it is written and not read.
+    /// `stop N SEED`: arms a stop of the machine at the N-th device call, N at least 1; the seed picks what the disk
+    /// has then.
     Stop(u64, u64),
-    /// `fail N SEED`: the N-th device call fails, and the seed picks what it leaves. So far it is written and not
-    /// read.
+    /// `fail N SEED`: arms a failure of the N-th device call, N at least 1; the seed picks what it leaves.
     Fail(u64, u64),
     /// `end`: the run ends.
     End,

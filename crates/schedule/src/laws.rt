@@ -2,7 +2,7 @@ ghost use Rattle.std.specs.Prelude.{◌≡◌, ◌⊎◌, ℕ, List};
 ghost use Rattle.zbase.specs.History.{History, IsHistory};
 ghost use Rattle.evaluator.specs.Exec.{IsLawful};
 ghost use Rattle.schedule.specs.declared.item.Item2.{Item2};
-ghost use Rattle.schedule.specs.Items.{ArmNothing, IsSchedule};
+ghost use Rattle.schedule.specs.Items.{IsSchedule};
 ghost use Rattle.schedule.specs.BadLines.{IsBadAt};
 ghost use Rattle.schedule.specs.Moments.{Terms, Moment, start};
 ghost use Rattle.schedule.specs.Courses.{Place, Course, items_of};
@@ -28,9 +28,9 @@ pub fn one_schedule()
     ensures { (text : List ℕ) (a b : List Item2) → IsSchedule text a → IsSchedule text b → a ≡ b }
 {}
 
-/// A text is a schedule that arms nothing or has one first bad line, and never both.
+/// A text is a schedule or has one first bad line, and never both.
 pub fn one_bad_line()
-    ensures either { (text : List ℕ) → ((items : List Item2) × IsSchedule text items × ArmNothing items) ⊎ ((n : ℕ) × IsBadAt text n) }
-    ensures not_both { (text : List ℕ) (items : List Item2) (n : ℕ) → IsSchedule text items → ArmNothing items → IsBadAt text n → ⊥ }
+    ensures either { (text : List ℕ) → ((items : List Item2) × IsSchedule text items) ⊎ ((n : ℕ) × IsBadAt text n) }
+    ensures not_both { (text : List ℕ) (items : List Item2) (n : ℕ) → IsSchedule text items → IsBadAt text n → ⊥ }
     ensures number { (text : List ℕ) (m n : ℕ) → IsBadAt text m → IsBadAt text n → m ≡ n }
 {}

@@ -1,9 +1,9 @@
 //! Schedules and reports: their lines, their texts, and which report explains which schedule.
 //!
-//! A schedule names requests, the order of their single steps, the clock, disk faults and machine stops. So far one
-//! is read only without faults and stops. A report has what each step printed, each reply, and the whole history
-//! that came of it. *Explained* (`specs/Explained`) says which reports a schedule may have; the run law
-//! (`runs_are_serial`) says that whoever steps rightly, item by item, prints such a report.
+//! A schedule names requests, the order of their single steps, the clock, disk faults and machine stops. A report has
+//! what each step printed, each reply, and the whole history that came of it. *Explained* (`specs/Explained`) says
+//! which reports a schedule may have; the run law (`runs_are_serial`) says that whoever steps rightly, item by item,
+//! prints such a report.
 #![tactic(auto)]
 
 mod item;

@@ -1,9 +1,9 @@
 ghost use Rattle.std.specs.Prelude.{◌≡◌, ◌≢◌, ◌++◌, ◌∷◌, ◌<◌, ◌≤◌, ◌^◌, ℕ, List, Err, codes, decimal, IfOk, IfSome, MatchOption};
 ghost use Rattle.std.specs.Char.{digit_value};
 ghost use Rattle.schedule.specs.Rows.{Lacks};
-ghost use Rattle.schedule.specs.Items.{ArmNothing, ArmsNothing, HasLine, IsSchedule, item_text, workers};
+ghost use Rattle.schedule.specs.Items.{HasLine, IsSchedule, item_text, workers};
 ghost use Rattle.schedule.specs.BadLines.{BeginsItem, IsBadAt};
-ghost use Rattle.schedule.specs.declared.reader.Stop.TheVariants.{Bad, Memory};
+ghost use Rattle.schedule.specs.declared.reader.Unread.TheVariants.{Bad, Memory};
 ghost use Rattle.schedule.specs.declared.reader.ScheduleRefusal.TheVariants.{BadLine};
 
 use crate::{Item2, Schedule, WORKERS};
@@ -23,24 +23,24 @@ pub enum ScheduleRefusal {
 
 // Why an item was not read.
 #[derive(Clone, Copy, Debug, PartialEq, Eq)]
-enum Stop {
+enum Unread {
     Bad,
     Memory,
 }
 
-impl From<AllocError> for Stop {
+impl From<AllocError> for Unread {
     ghost from_gives = { λ _ e. e ≡ Memory };
 
-    fn from(_: AllocError) -> Stop {
-        Stop::Memory
+    fn from(_: AllocError) -> Unread {
+        Unread::Memory
     }
 }
 
-impl From<NoMemory> for Stop {
+impl From<NoMemory> for Unread {
     ghost from_gives = { λ _ e. e ≡ Memory };
 
-    fn from(_: NoMemory) -> Stop {
-        Stop::Memory
+    fn from(_: NoMemory) -> Unread {
+        Unread::Memory
     }
 }
 
@@ -62,31 +62,31 @@ fn after<'a>(bytes: &'a [u8], front: &[u8]) -> Option<&'a [u8]>
 
 // The number whose decimal form the text is. It is read, printed again and compared, so that leading zeros,
 // signs and spaces are refused.
-fn read_decimal(alloc: Global, text: &[u8]) -> Result<u64, Stop>
+fn read_decimal(alloc: Global, text: &[u8]) -> Result<u64, Unread>
     ensures number { IfOk result (λ n. text.now ≡ decimal n) }
     ensures bad { result ≡ Err Bad → (n : ℕ) → n < 2 ^ 64 → text.now ≢ decimal n }
 {
-    let digits = std::str::from_utf8(text).ok().ok_or(Stop::Bad)?;
-    let n: u64 = digits.parse().ok().ok_or(Stop::Bad)?;
+    let digits = std::str::from_utf8(text).ok().ok_or(Unread::Bad)?;
+    let n: u64 = digits.parse().ok().ok_or(Unread::Bad)?;
     let again = n.to_string(alloc)?;
     if again.as_bytes() != text {
-        return Err(Stop::Bad);
+        return Err(Unread::Bad);
     }
     Ok(n)
 }
 
 // The number at the front and the byte that ends it, and what is behind them.
-fn number_at(alloc: Global, bytes: &[u8], end: u8) -> Result<(u64, &[u8]), Stop>
+fn number_at(alloc: Global, bytes: &[u8], end: u8) -> Result<(u64, &[u8]), Unread>
     requires no_digit { 10 ≤ digit_value end }
     ensures number { IfOk result (λ read. bytes.now ≡ decimal read.0 ++ end ∷ read.1.now) }
     ensures bad { result ≡ Err Bad → (n : ℕ) (rest : List ℕ) → n < 2 ^ 64 → bytes.now ≢ decimal n ++ end ∷ rest }
 {
-    let (number, rest) = split_byte(bytes, end).ok_or(Stop::Bad)?;
+    let (number, rest) = split_byte(bytes, end).ok_or(Unread::Bad)?;
     Ok((read_decimal(alloc, number)?, rest))
 }
 
 // A worker's number and the byte that ends it, and what is behind them.
-fn worker_at(alloc: Global, bytes: &[u8], end: u8) -> Result<(u32, &[u8]), Stop>
+fn worker_at(alloc: Global, bytes: &[u8], end: u8) -> Result<(u32, &[u8]), Unread>
     requires no_digit { 10 ≤ digit_value end }
     ensures number { IfOk result (λ read. bytes.now ≡ decimal read.0 ++ end ∷ read.1.now) }
     ensures worker { IfOk result (λ read. read.0 < workers) }
@@ -94,26 +94,25 @@ fn worker_at(alloc: Global, bytes: &[u8], end: u8) -> Result<(u32, &[u8]), Stop>
 {
     let (number, rest) = number_at(alloc, bytes, end)?;
     if number >= WORKERS as u64 {
-        return Err(Stop::Bad);
+        return Err(Unread::Bad);
     }
     Ok((number as u32, rest))
 }
 
 // The request whose line goes on here behind its word, and what is behind it.
-fn request_at(alloc: Global, fields: &[u8]) -> Result<(Item2, &[u8]), Stop>
+fn request_at(alloc: Global, fields: &[u8]) -> Result<(Item2, &[u8]), Unread>
     ensures text { IfOk result (λ read. codes "request " ++ fields.now ≡ item_text read.0 ++ read.1.now) }
     ensures line { IfOk result (λ read. HasLine read.0) }
-    ensures arms_nothing { IfOk result (λ read. ArmsNothing read.0) }
     ensures bad { result ≡ Err Bad → BeginsItem (codes "request " ++ fields.now) → ⊥ }
 {
     let (worker, rest) = worker_at(alloc, fields, b' ')?;
     let (len, rest) = number_at(alloc, rest, b'\n')?;
     let len = len as usize;
     if rest.len() < len {
-        return Err(Stop::Bad);
+        return Err(Unread::Bad);
     }
     let (bytes, rest) = rest.split_at(len);
-    let rest = after(rest, b"\n").ok_or(Stop::Bad)?;
+    let rest = after(rest, b"\n").ok_or(Unread::Bad)?;
     Ok((
         Item2::Request(worker, Bytes::from_slice(alloc, bytes)?),
         rest,
@@ -121,10 +120,9 @@ fn request_at(alloc: Global, fields: &[u8]) -> Result<(Item2, &[u8]), Stop>
 }
 
 // The step whose line goes on here behind its word, and what is behind it.
-fn step_at(alloc: Global, fields: &[u8]) -> Result<(Item2, &[u8]), Stop>
+fn step_at(alloc: Global, fields: &[u8]) -> Result<(Item2, &[u8]), Unread>
     ensures text { IfOk result (λ read. codes "step " ++ fields.now ≡ item_text read.0 ++ read.1.now) }
     ensures line { IfOk result (λ read. HasLine read.0) }
-    ensures arms_nothing { IfOk result (λ read. ArmsNothing read.0) }
     ensures bad { result ≡ Err Bad → BeginsItem (codes "step " ++ fields.now) → ⊥ }
 {
     let (worker, rest) = worker_at(alloc, fields, b'\n')?;
@@ -132,22 +130,54 @@ fn step_at(alloc: Global, fields: &[u8]) -> Result<(Item2, &[u8]), Stop>
 }
 
 // The clock whose line goes on here behind its word, and what is behind it.
-fn clock_at(fields: &[u8]) -> Result<(Item2, &[u8]), Stop>
+fn clock_at(fields: &[u8]) -> Result<(Item2, &[u8]), Unread>
     ensures text { IfOk result (λ read. codes "clock " ++ fields.now ≡ item_text read.0 ++ read.1.now) }
     ensures line { IfOk result (λ read. HasLine read.0) }
-    ensures arms_nothing { IfOk result (λ read. ArmsNothing read.0) }
     ensures bad { result ≡ Err Bad → BeginsItem (codes "clock " ++ fields.now) → ⊥ }
 {
-    let (digits, rest) = split_byte(fields, b'\n').ok_or(Stop::Bad)?;
-    let stamp = read_hex16(digits).ok_or(Stop::Bad)?;
+    let (digits, rest) = split_byte(fields, b'\n').ok_or(Unread::Bad)?;
+    let stamp = read_hex16(digits).ok_or(Unread::Bad)?;
     Ok((Item2::Clock(Tid(stamp)), rest))
 }
 
+// The count of device calls and the seed of an armed fault, and what is behind their line.
+fn calls_at(alloc: Global, fields: &[u8]) -> Result<(u64, u64, &[u8]), Unread>
+    ensures numbers { IfOk result (λ read. fields.now ≡ decimal read.0 ++ 32 ∷ (decimal read.1 ++ 10 ∷ read.2.now)) }
+    ensures some { IfOk result (λ read. 0 < read.0) }
+    ensures bad { result ≡ Err Bad → (n seed : ℕ) (rest : List ℕ) → 0 < n → n < 2 ^ 64 → seed < 2 ^ 64 → fields.now ≢ decimal n ++ 32 ∷ (decimal seed ++ 10 ∷ rest) }
+{
+    let (calls, rest) = number_at(alloc, fields, b' ')?;
+    if calls == 0 {
+        return Err(Unread::Bad);
+    }
+    let (seed, rest) = number_at(alloc, rest, b'\n')?;
+    Ok((calls, seed, rest))
+}
+
+// The stop whose line goes on here behind its word, and what is behind it.
+fn stop_at(alloc: Global, fields: &[u8]) -> Result<(Item2, &[u8]), Unread>
+    ensures text { IfOk result (λ read. codes "stop " ++ fields.now ≡ item_text read.0 ++ read.1.now) }
+    ensures line { IfOk result (λ read. HasLine read.0) }
+    ensures bad { result ≡ Err Bad → BeginsItem (codes "stop " ++ fields.now) → ⊥ }
+{
+    let (calls, seed, rest) = calls_at(alloc, fields)?;
+    Ok((Item2::Stop(calls, seed), rest))
+}
+
+// The failure whose line goes on here behind its word, and what is behind it.
+fn fail_at(alloc: Global, fields: &[u8]) -> Result<(Item2, &[u8]), Unread>
+    ensures text { IfOk result (λ read. codes "fail " ++ fields.now ≡ item_text read.0 ++ read.1.now) }
+    ensures line { IfOk result (λ read. HasLine read.0) }
+    ensures bad { result ≡ Err Bad → BeginsItem (codes "fail " ++ fields.now) → ⊥ }
+{
+    let (calls, seed, rest) = calls_at(alloc, fields)?;
+    Ok((Item2::Fail(calls, seed), rest))
+}
+
 // The item at the front, and what is behind it.
-fn item_at(alloc: Global, bytes: &[u8]) -> Result<(Item2, &[u8]), Stop>
+fn item_at(alloc: Global, bytes: &[u8]) -> Result<(Item2, &[u8]), Unread>
     ensures text { IfOk result (λ read. bytes.now ≡ item_text read.0 ++ read.1.now) }
     ensures line { IfOk result (λ read. HasLine read.0) }
-    ensures arms_nothing { IfOk result (λ read. ArmsNothing read.0) }
     ensures bad { result ≡ Err Bad → BeginsItem bytes.now → ⊥ }
 {
     if let Some(fields) = after(bytes, b"request ") {
@@ -156,16 +186,19 @@ fn item_at(alloc: Global, bytes: &[u8]) -> Result<(Item2, &[u8]), Stop>
     if let Some(fields) = after(bytes, b"step ") {
         return step_at(alloc, fields);
     }
-    let fields = after(bytes, b"clock ").ok_or(Stop::Bad)?;
-    clock_at(fields)
+    if let Some(fields) = after(bytes, b"clock ") {
+        return clock_at(fields);
+    }
+    if let Some(fields) = after(bytes, b"stop ") {
+        return stop_at(alloc, fields);
+    }
+    let fields = after(bytes, b"fail ").ok_or(Unread::Bad)?;
+    fail_at(alloc, fields)
 }
 
 /// The schedule that the bytes spell, all of them.
-///
-/// So far lines that arm a stop or a failure are bad.
 pub fn read_schedule(alloc: Global, bytes: &[u8]) -> Result<Schedule, ScheduleRefusal>
     ensures schedule { IfOk result (λ items. IsSchedule bytes.now items) }
-    ensures arms_nothing { IfOk result ArmNothing }
     ensures bad_line { (n : ℕ) → result ≡ Err (BadLine n) → IsBadAt bytes.now n }
 {
     let mut items = Schedule::new(alloc);
@@ -182,8 +215,8 @@ pub fn read_schedule(alloc: Global, bytes: &[u8]) -> Result<Schedule, ScheduleRe
         }
         let (item, others) = match item_at(alloc, rest) {
             Ok(read) => read,
-            Err(Stop::Bad) => return Err(ScheduleRefusal::BadLine(line)),
-            Err(Stop::Memory) => return Err(ScheduleRefusal::Memory),
+            Err(Unread::Bad) => return Err(ScheduleRefusal::BadLine(line)),
+            Err(Unread::Memory) => return Err(ScheduleRefusal::Memory),
         };
         if items.push(item).is_err() {
             return Err(ScheduleRefusal::Memory);

@@ -10,7 +10,7 @@ use Rattle.fs_record.specs.File.{Front}
 use Rattle.fs_record.specs.Opening.{Cut, Damaged}
 use Rattle.schedule.specs.declared.item.Item2.{Item2}
 use Rattle.schedule.specs.BadLines.{IsBadAt}
-use Rattle.schedule.specs.Items.{ArmNothing, IsSchedule}
+use Rattle.schedule.specs.Items.{IsSchedule}
 use Rattle.zope.specs.declared.refusal.Refusal.{Refusal}
 use Rattle.fs_store.specs.Stores.{most_length}
 use Rattle.zope.specs.Causes.{Cause, NoCause}
@@ -27,7 +27,7 @@ abbrev pub OneSchedule : Type 0
 OneSchedule = (text : List ℕ) (a b : List Item2) → IsSchedule text a → IsSchedule text b → a ≡ b
 
 abbrev pub NotBoth : Type 0
-NotBoth = (text : List ℕ) (items : List Item2) (n : ℕ) → IsSchedule text items → ArmNothing items → IsBadAt text n → ⊥
+NotBoth = (text : List ℕ) (items : List Item2) (n : ℕ) → IsSchedule text items → IsBadAt text n → ⊥
 
 abbrev pub NotDamaged : Type 0
 NotDamaged = (bytes : List ℕ) (front : Front) (m n : ℕ) (kind : Damage) → Cut bytes front m → Damaged bytes n kind → ⊥
@@ -51,22 +51,22 @@ same_bytes o a b p q = cc
 not_none : {X : Type 0} (o : Option X) (a : X) → o ≡ Some a → o ≡ None → ⊥
 not_none o a p q = cc
 
-of_input : (input : Option (List ℕ)) (text : List ℕ) (failed : Type 0) (items : List Item2) → input ≡ Some text → length text ≤ most_input → IsSchedule text items → ArmNothing items → NotBoth → (failed → ⊥) → (e : Refusal) → InputCause input failed e → e ≡ Refusal.Memory
-of_input input text failed items given within spells first law calm Refusal.Memory cause = refl
-of_input input text failed items given within spells first law calm Refusal.Input cause = absurd (calm cause)
-of_input input text failed items given within spells first law calm Refusal.InputTooLarge cause =
+of_input : (input : Option (List ℕ)) (text : List ℕ) (failed : Type 0) (items : List Item2) → input ≡ Some text → length text ≤ most_input → IsSchedule text items → NotBoth → (failed → ⊥) → (e : Refusal) → InputCause input failed e → e ≡ Refusal.Memory
+of_input input text failed items given within spells law calm Refusal.Memory cause = refl
+of_input input text failed items given within spells law calm Refusal.Input cause = absurd (calm cause)
+of_input input text failed items given within spells law calm Refusal.InputTooLarge cause =
     let long : most_input < length text = subst (λ i. IfSome i (λ t. most_input < length t)) given cause in
     absurd (omega arith)
-of_input input text failed items given within spells first law calm (Refusal.BadLine n) cause =
+of_input input text failed items given within spells law calm (Refusal.BadLine n) cause =
     let bad : (length text ≤ most_input) × IsBadAt text n = subst (λ i. IfSome i (λ t. (length t ≤ most_input) × IsBadAt t n)) given cause in
-    absurd (law text items n spells first bad.1)
-of_input input text failed items given within spells first law calm Refusal.Usage cause = absurd cause
-of_input input text failed items given within spells first law calm (Refusal.Damaged kind place) cause = absurd cause
-of_input input text failed items given within spells first law calm Refusal.Disk cause = absurd cause
-of_input input text failed items given within spells first law calm Refusal.Output cause = absurd cause
-of_input input text failed items given within spells first law calm Refusal.Missing cause = absurd cause
-of_input input text failed items given within spells first law calm (Refusal.FileTooLarge n) cause = absurd cause
-of_input input text failed items given within spells first law calm (Refusal.TooLong n) cause = absurd cause
+    absurd (law text items n spells bad.1)
+of_input input text failed items given within spells law calm Refusal.Usage cause = absurd cause
+of_input input text failed items given within spells law calm (Refusal.Damaged kind place) cause = absurd cause
+of_input input text failed items given within spells law calm Refusal.Disk cause = absurd cause
+of_input input text failed items given within spells law calm Refusal.Output cause = absurd cause
+of_input input text failed items given within spells law calm Refusal.Missing cause = absurd cause
+of_input input text failed items given within spells law calm (Refusal.FileTooLarge n) cause = absurd cause
+of_input input text failed items given within spells law calm (Refusal.TooLong n) cause = absurd cause
 
 has_same : (files : Option (List Entry)) (entries : List Entry) (name a b : List ℕ) → files ≡ Some entries → file_at entries name ≡ Some a → HasFile files name b → a ≡ b
 has_same files entries name a b shelf there has = same_bytes (file_at entries name) a b there (subst (λ f. HasFile f name b) shelf has)
@@ -138,7 +138,7 @@ of_print failed text old new calm (Refusal.TooLong n) cause = absurd cause
 
 -- the sink of the whole run has failed where that of the command has
 replay_memory : (name : List ℕ) (limit : ℕ) (files : Option (List Entry)) (input : Option (List ℕ)) (source sink more disk : Type 0) (old new : Option (List ℕ)) (e : Refusal) → OneSchedule → NotBoth → NotDamaged → (sink → more) → ReplayCause name limit files input source sink disk old new e → NoReplayCause name limit files input source more disk → e ≡ Refusal.Memory
-replay_memory name limit files input source sink more disk old new e one both law wider (inl c) meets = of_input input meets.text source meets.items meets.given meets.within meets.spells meets.arms_nothing both meets.source_calm e c.0
+replay_memory name limit files input source sink more disk old new e one both law wider (inl c) meets = of_input input meets.text source meets.items meets.given meets.within meets.spells both meets.source_calm e c.0
 replay_memory name limit files input source sink more disk old new e one both law wider (inr (inl c)) meets = of_file files meets.entries name meets.bytes meets.front meets.end disk meets.shelf meets.there meets.fits meets.opens law meets.disk_calm e c.2
 replay_memory name limit files input source sink more disk old new e one both law wider (inr (inr c)) meets =
     let spelled : IsSchedule meets.text c.0 = subst (λ i. IfSome i (λ t. IsSchedule t c.0)) meets.given c.1.spells in

@@ -4,7 +4,7 @@ use Rattle.zio.specs.Shelves.{Entry, file_at}
 use Rattle.fs_record.specs.File.{Front}
 use Rattle.fs_record.specs.Opening.{Cut}
 use Rattle.schedule.specs.declared.item.Item2.{Item2}
-use Rattle.schedule.specs.Items.{ArmNothing, IsSchedule}
+use Rattle.schedule.specs.Items.{IsSchedule}
 use Rattle.fs_store.specs.Stores.{most_length}
 use Rattle.zope.specs.Shelved.{HasFile}
 
@@ -15,11 +15,10 @@ most_input = 67108864
 abbrev pub most_file : ℕ
 most_file = 268435456
 
--- where the source tells, all of the input is a schedule that arms nothing
+-- where the source tells, all of the input is a schedule
 pub record Scheduled (input : Option (List ℕ)) (items : List Item2) : Type 0 where
   pub within : IfSome input (λ text. length text ≤ most_input)
   pub spells : IfSome input (λ text. IsSchedule text items)
-  pub arms_nothing : ArmNothing items
 
 -- where the shelf tells, its file of that name has these bytes, and not too many for a replay
 pub record Stored (files : Option (List Entry)) (name bytes : List ℕ) : Type 0 where

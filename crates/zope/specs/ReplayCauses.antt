@@ -7,7 +7,7 @@ use Rattle.fs_record.specs.File.{Front}
 use Rattle.fs_record.specs.Opening.{Cut, Damaged}
 use Rattle.schedule.specs.declared.item.Item2.{Item2}
 use Rattle.schedule.specs.BadLines.{IsBadAt}
-use Rattle.schedule.specs.Items.{ArmNothing, IsSchedule}
+use Rattle.schedule.specs.Items.{IsSchedule}
 use Rattle.schedule.specs.declared.reader.ScheduleRefusal.{ScheduleRefusal}
 use Rattle.zope.specs.declared.refusal.FileRefusal.{FileRefusal}
 use Rattle.zope.specs.declared.refusal.InputRefusal.{InputRefusal}
@@ -101,7 +101,6 @@ pub record NoReplayCause (name : List ℕ) (limit : ℕ) (files : Option (List E
   pub within : length text ≤ most_input
   pub items : List Item2
   pub spells : IsSchedule text items
-  pub arms_nothing : ArmNothing items
   pub runs : (s : StoreView) (n : ℕ) (old new : Option (List ℕ)) → Opens bytes limit s → Broke s items old new n → ⊥
   pub source_calm : source → ⊥
   pub sink_calm : sink → ⊥

@@ -1,6 +1,6 @@
 use Rattle.std.proofs.Common.{◌≡◌, ◌++◌, ◌+◌, ◌≤◌, length, flat_map}
 use Rattle.std.specs.List.{AllByRecursion}
-use Rattle.schedule.specs.Items.{item_text, first_line, HasLine, ArmNothing}
+use Rattle.schedule.specs.Items.{item_text, first_line, HasLine}
 use Rattle.schedule.proofs.reader.read_schedule.Given as goal
 
 -- the items so far, the rest, and the number of its first line
@@ -8,7 +8,6 @@ abbrev pub invariant-reading : goal.invariant-reading
 invariant-reading l = record {
   parts : l.bytes ≡ (first_line ++ flat_map item_text l.items) ++ l.rest;
   lines : AllByRecursion HasLine l.items;
-  arm_nothing : ArmNothing l.items;
   number : l.line ≡ length l.items + 2;
   line : l.line + length l.rest ≤ length l.bytes;
 }
