@@ -1,0 +1,3 @@
+mod Steps
+mod Properties
+mod Loops

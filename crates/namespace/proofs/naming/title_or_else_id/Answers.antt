@@ -1,0 +1,19 @@
+use Rattle.std.proofs.Common.{◌∙◌, ap, sym, Some}
+use Rattle.zknown.specs.Seen.{objects}
+use Rattle.namespace.specs.Looks.{Done}
+use Rattle.namespace.specs.Names.{text, title_or_id, viewing, title_or_id_in}
+use Rattle.std.proofs.lemmas.Result.{err_from_is_err_and}
+use Rattle.namespace.proofs.Steps.{stops, view_goes}
+use Rattle.namespace.proofs.naming.title_or_else_id.Goals as goal
+
+pub returns-in_err-role-clause-is : goal.returns-in_err-role-clause-is
+unfolding title_or_id_in
+returns-in_err-role-clause-is c =
+    let p = err_from_is_err_and c.from_residual.result c.from_residual.ensures.1 in
+    rw (p.1, p.2) (stops (objects c.args.known.now) c.args.shown.now (viewing c.args.who.now c.args.oid) (λ object. Done (Some (text (title_or_id object)))) _ (c.in_err-role.ensures.err c.args.shown.now))
+
+pub returns-clause-is : goal.returns-clause-is
+unfolding title_or_id_in
+returns-clause-is c =
+    view_goes (objects c.args.known.now) c.args.who.now c.args.oid c.in_ok-role.role c.args.object.now c.args.shown.now c.take.new.shown (λ object. Done (Some (text (title_or_id object)))) (Some c.in_ok-title.title)
+    c.in_ok-role.ensures.ok c.requires (ap (λ v. Done (Some v)) (sym (c.in_ok-title.ensures ∙ ap text c.title_or_id.ensures))) c.in_ok-take.ensures.taken

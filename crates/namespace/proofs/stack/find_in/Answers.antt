@@ -1,0 +1,22 @@
+use Rattle.std.proofs.Common.{sym, subst, reverse}
+use Rattle.zknown.specs.Seen.{objects}
+use Rattle.namespace.specs.Names.{in_layers, in_base, named_for}
+use Rattle.namespace.specs.Told.{told, OnlyHits, Shows}
+use Rattle.namespace.proofs.Loops.{hit_ends, none_shown, rest_decides}
+use Rattle.namespace.proofs.stack.find_in.Goals as goal
+
+pub returns-then-is_some-clause-is : goal.returns-then-is_some-clause-is
+unfolding named_for
+returns-then-is_some-clause-is c =
+    hit_ends (objects c.args.known.now) c.args.shown.now c.in_layers.new.shown (in_layers c.args.who.now c.args.name.now (reverse c.args.layers.now)) (in_base c.args.who.now c.args.name.now c.args.client.now c.args.request.now) c.in_ok-hit.hit c.in_ok-hit.ensures.is c.if-is_some.ensures
+
+pub returns-clause-is : goal.returns-clause-is
+unfolding named_for
+returns-clause-is c =
+    subst (Shows told (λ v. v) c.in_base.new.shown c.in_base.result)
+    (sym (rest_decides (objects c.args.known.now) c.args.shown.now c.in_layers.new.shown (in_layers c.args.who.now c.args.name.now (reverse c.args.layers.now)) (in_base c.args.who.now c.args.name.now c.args.client.now c.args.request.now) c.in_ok-hit.hit c.in_ok-hit.ensures.is c.if-is_some.ensures))
+    c.in_base.ensures.is
+
+pub returns-clause-shown : goal.returns-clause-shown
+returns-clause-shown c =
+    subst (λ former. OnlyHits former c.in_base.new.shown c.in_base.result) (none_shown c.args.shown.now c.in_layers.new.shown c.in_ok-hit.hit c.in_ok-hit.ensures.shown c.if-is_some.ensures) c.in_base.ensures.shown

@@ -1,0 +1,334 @@
+ghost use Rattle.std.specs.Prelude.{◌≡◌, List, [], IfOk, Ok, Some, option_map};
+ghost use Rattle.std.specs.List.{find};
+ghost use Rattle.std.specs.Str.{bytes_eq};
+ghost use Rattle.zbase.specs.Query.{run};
+ghost use Rattle.zobject.specs.Shapes.{form_of, shape_of};
+ghost use Rattle.zknown.specs.Seen.{objects};
+ghost use Rattle.evaluator.specs.declared.reply.Shown.{Shown as ShownObject};
+ghost use Rattle.acquisition.specs.Acquiring.{here};
+ghost use Rattle.namespace.specs.Looks.{looked};
+ghost use Rattle.namespace.specs.Names as spec;
+ghost use Rattle.namespace.specs.Told.{told, OnlyHits, Shows};
+
+use crate::looks::{enter, reach, see, take, view_role};
+use crate::refusal::NameRefusal;
+use crate::val::{Single, Singles, Val};
+use crate::word::{Word, word_of};
+use acquisition::Wrapped;
+use evaluator::ShownList;
+use permissions::Who;
+use std::alloc::Global;
+use zbase::{Items, Memory, Oid, Text};
+use zknown::Known;
+use zobject::{Child, Object, Part2, PropValue, Property, child_in};
+
+fn text_value(text: &Text) -> Result<Val, Memory>
+    ensures { IfOk result (λ val. val ≡ spec.text text.now) }
+{
+    Ok(Val::Single(Single::Text(text.copy()?)))
+}
+
+fn title_or_id(object: &Object) -> &Text
+    ensures { result.now ≡ spec.title_or_id object.now }
+{
+    if object.title.is_empty() {
+        &object.id
+    } else {
+        &object.title
+    }
+}
+
+// The title of an object, which needs a view.
+#[tactic(auto, unfolding(crate::specs::Names::title_in))]
+fn title(
+    alloc: Global,
+    known: &Known,
+    who: &Who,
+    shown: &mut ShownList,
+    oid: Oid,
+    object: &Object,
+) -> Result<Option<Val>, NameRefusal>
+    requires { run (objects known.now) (here oid) ≡ Ok object.now }
+    ensures is { Shows told (λ v. v) shown.new result (looked (objects known.now) shown.old (spec.title_in who.now oid)) }
+    ensures shown { OnlyHits shown.old shown.new result }
+{
+    let role = view_role(alloc, known, who, oid)?;
+    let title = text_value(&object.title)?;
+    take(shown, oid, role)?;
+    Ok(Some(title))
+}
+
+// The title or else the id, which need a view too.
+#[tactic(auto, unfolding(crate::specs::Names::title_or_id_in))]
+fn title_or_else_id(
+    alloc: Global,
+    known: &Known,
+    who: &Who,
+    shown: &mut ShownList,
+    oid: Oid,
+    object: &Object,
+) -> Result<Option<Val>, NameRefusal>
+    requires { run (objects known.now) (here oid) ≡ Ok object.now }
+    ensures is { Shows told (λ v. v) shown.new result (looked (objects known.now) shown.old (spec.title_or_id_in who.now oid)) }
+    ensures shown { OnlyHits shown.old shown.new result }
+{
+    let role = view_role(alloc, known, who, oid)?;
+    let title = text_value(title_or_id(object))?;
+    take(shown, oid, role)?;
+    Ok(Some(title))
+}
+
+fn ids_of(alloc: Global, children: &[Child]) -> Result<Singles, Memory>
+    ensures { IfOk result (λ ids. ids ≡ spec.ids_of children.now) }
+{
+    let mut ids = Items::new(alloc);
+    for child in children {
+        ids.push(Single::Text(child.name.copy()?))?;
+    }
+    Ok(ids)
+}
+
+// The names of a folder's children, whose list the user must be granted.
+#[tactic(auto, using(crate::proofs::Steps::goes, crate::proofs::Steps::stops), unfolding(crate::specs::Names::ids_in))]
+fn object_ids(
+    alloc: Global,
+    known: &Known,
+    who: &Who,
+    oid: Oid,
+    part: &Part2,
+) -> Result<Option<Val>, NameRefusal>
+    ensures { (shown : List ShownObject) → Shows told (λ v. v) shown result (looked (objects known.now) shown (spec.ids_in who.now oid (form_of part.now))) }
+{
+    match part {
+        Part2::Folder(children) => {
+            enter(alloc, known, who, oid)?;
+            let ids = ids_of(alloc, children.as_slice())?;
+            Ok(Some(Val::Seq(ids)))
+        }
+        Part2::Method { .. } | Part2::Document { .. } | Part2::UserFolder(_) => Ok(None),
+    }
+}
+
+// Each child, reached through the wrapper.
+#[tactic(auto, using(crate::proofs::Steps::goes, crate::proofs::Steps::stops), unfolding(crate::specs::Names::reach_each))]
+fn reach_each(
+    alloc: Global,
+    known: &Known,
+    whole: &Wrapped,
+    children: &[Child],
+) -> Result<Singles, NameRefusal>
+    ensures { (shown : List ShownObject) → Shows told (λ all. all) shown result (looked (objects known.now) shown (spec.reach_each whole.now [] children.now)) }
+{
+    let mut all = Items::new(alloc);
+    for child in children {
+        let found = reach(known, whole, child.oid)?;
+        all.push(Single::Obj(found))?;
+    }
+    Ok(all)
+}
+
+#[tactic(auto, using(crate::proofs::Steps::goes, crate::proofs::Steps::stops))]
+fn all_reached(
+    alloc: Global,
+    known: &Known,
+    whole: &Wrapped,
+    children: &[Child],
+) -> Result<Option<Val>, NameRefusal>
+    ensures { (shown : List ShownObject) → Shows told (λ v. v) shown result (looked (objects known.now) shown (spec.all_reached whole.now children.now)) }
+{
+    let all = reach_each(alloc, known, whole, children)?;
+    Ok(Some(Val::Seq(all)))
+}
+
+// A folder's children, whose list the user must be granted.
+#[tactic(auto, using(crate::proofs::Steps::goes_so, crate::proofs::Steps::stops), unfolding(crate::specs::Names::values_in))]
+fn object_values(
+    alloc: Global,
+    known: &Known,
+    who: &Who,
+    whole: &Wrapped,
+    oid: Oid,
+    part: &Part2,
+) -> Result<Option<Val>, NameRefusal>
+    ensures { (shown : List ShownObject) → Shows told (λ v. v) shown result (looked (objects known.now) shown (spec.values_in who.now whole.now oid (form_of part.now))) }
+{
+    match part {
+        Part2::Folder(children) => {
+            enter(alloc, known, who, oid)?;
+            all_reached(alloc, known, whole, children.as_slice())
+        }
+        Part2::Method { .. } | Part2::Document { .. } | Part2::UserFolder(_) => Ok(None),
+    }
+}
+
+fn texts(alloc: Global, lines: &[Text]) -> Result<Singles, Memory>
+    ensures { IfOk result (λ all. all ≡ spec.texts lines.now) }
+{
+    let mut all = Items::new(alloc);
+    for line in lines {
+        all.push(Single::Text(line.copy()?))?;
+    }
+    Ok(all)
+}
+
+fn value_of(alloc: Global, value: &PropValue) -> Result<Val, Memory>
+    ensures { IfOk result (λ val. val ≡ spec.value_of value.now) }
+{
+    match value {
+        PropValue::Line(text) => Ok(Val::Single(Single::Text(text.copy()?))),
+        PropValue::Int(number) => Ok(Val::Single(Single::Int(*number))),
+        PropValue::Lines(lines) => Ok(Val::Seq(texts(alloc, lines.as_slice())?)),
+    }
+}
+
+fn property_of<'a>(name: &str, properties: &'a [Property]) -> Option<&'a Property>
+    ensures { option_map (λ p. p.now) result ≡ find (λ p. bytes_eq p.name name.now) properties.now }
+{
+    properties
+        .iter()
+        .find(|property| property.name.as_str() == name)
+}
+
+// The value of a property, which needs a view.
+#[tactic(auto, unfolding(crate::specs::Names::property_in))]
+fn viewed_property(
+    alloc: Global,
+    known: &Known,
+    who: &Who,
+    shown: &mut ShownList,
+    name: &str,
+    oid: Oid,
+    object: &Object,
+    property: &Property,
+) -> Result<Option<Val>, NameRefusal>
+    requires here { run (objects known.now) (here oid) ≡ Ok object.now }
+    requires found { find (λ p. bytes_eq p.name name.now) object.now.properties ≡ Some property.now }
+    ensures is { Shows told (λ v. v) shown.new result (looked (objects known.now) shown.old (spec.property_in who.now name.now oid)) }
+    ensures shown { OnlyHits shown.old shown.new result }
+{
+    let role = view_role(alloc, known, who, oid)?;
+    let value = value_of(alloc, &property.value)?;
+    take(shown, oid, role)?;
+    Ok(Some(value))
+}
+
+// A child, reached through the wrapper.
+#[tactic(auto, using(crate::proofs::Steps::goes, crate::proofs::Steps::stops), unfolding(crate::specs::Names::child_at))]
+fn child_at(known: &Known, whole: &Wrapped, child: Option<Oid>) -> Result<Option<Val>, NameRefusal>
+    ensures { (shown : List ShownObject) → Shows told (λ v. v) shown result (looked (objects known.now) shown (spec.child_at whole.now child)) }
+{
+    let Some(child) = child else {
+        return Ok(None);
+    };
+    let found = reach(known, whole, child)?;
+    Ok(Some(Val::Single(Single::Obj(found))))
+}
+
+// A property comes before a child of its name.
+#[tactic(auto, unfolding(crate::specs::Names::property_or_child, zobject::specs::Shapes::shape_of))]
+fn property_or_child(
+    alloc: Global,
+    known: &Known,
+    who: &Who,
+    shown: &mut ShownList,
+    name: &str,
+    whole: &Wrapped,
+    oid: Oid,
+    object: &Object,
+) -> Result<Option<Val>, NameRefusal>
+    requires { run (objects known.now) (here oid) ≡ Ok object.now }
+    ensures is { Shows told (λ v. v) shown.new result (looked (objects known.now) shown.old (spec.property_or_child who.now name.now whole.now oid (shape_of object.now))) }
+    ensures shown { OnlyHits shown.old shown.new result }
+{
+    match property_of(name, object.properties.as_slice()) {
+        Some(property) => { viewed_property(alloc, known, who, shown, name, oid, object, property) }
+        None => child_at(known, whole, child_in(name, &object.part)),
+    }
+}
+
+#[tactic(auto, unfolding(crate::specs::Names::by_word, zobject::specs::Shapes::shape_of))]
+fn by_word(
+    alloc: Global,
+    known: &Known,
+    who: &Who,
+    shown: &mut ShownList,
+    name: &str,
+    whole: &Wrapped,
+    oid: Oid,
+    object: &Object,
+) -> Result<Option<Val>, NameRefusal>
+    requires { run (objects known.now) (here oid) ≡ Ok object.now }
+    ensures is { Shows told (λ v. v) shown.new result (looked (objects known.now) shown.old (spec.by_word who.now (spec.word_of name.now) name.now whole.now oid (shape_of object.now))) }
+    ensures shown { OnlyHits shown.old shown.new result }
+{
+    match word_of(name) {
+        Word::Id => Ok(Some(text_value(&object.id)?)),
+        Word::Title => title(alloc, known, who, shown, oid, object),
+        Word::TitleOrId => title_or_else_id(alloc, known, who, shown, oid, object),
+        Word::ObjectIds => object_ids(alloc, known, who, oid, &object.part),
+        Word::ObjectValues => object_values(alloc, known, who, whole, oid, &object.part),
+        Word::Other => property_or_child(alloc, known, who, shown, name, whole, oid, object),
+    }
+}
+
+// What the object itself has under the name.
+#[tactic(auto, using(crate::proofs::Steps::goes_so, crate::proofs::Steps::stops), unfolding(crate::specs::Names::in_one))]
+fn in_one(
+    alloc: Global,
+    known: &Known,
+    who: &Who,
+    shown: &mut ShownList,
+    name: &str,
+    whole: &Wrapped,
+    oid: Oid,
+) -> Result<Option<Val>, NameRefusal>
+    ensures is { Shows told (λ v. v) shown.new result (looked (objects known.now) shown.old (spec.in_one who.now name.now whole.now oid)) }
+    ensures shown { OnlyHits shown.old shown.new result }
+{
+    let object = see(known, oid)?;
+    by_word(alloc, known, who, shown, name, whole, oid, object)
+}
+
+// In the first object from the left that has the name: containers before the context.
+#[tactic(auto, unfolding(crate::specs::Names::searched))]
+fn search(
+    alloc: Global,
+    known: &Known,
+    who: &Who,
+    shown: &mut ShownList,
+    name: &str,
+    whole: &Wrapped,
+) -> Result<Option<Val>, NameRefusal>
+    ensures is { Shows told (λ v. v) shown.new result (looked (objects known.now) shown.old (spec.searched who.now name.now whole.now whole.now)) }
+    ensures shown { OnlyHits shown.old shown.new result }
+{
+    let mut left = whole.order();
+    while let Some((oid, others)) = left.split_first() {
+        let hit = in_one(alloc, known, who, shown, name, whole, *oid)?;
+        if hit.is_some() {
+            return Ok(hit);
+        }
+        left = others;
+    }
+    Ok(None)
+}
+
+/// The value of a name in an object that was reached through others: in the object itself, or else in the first of
+/// those that has it.
+#[tactic(auto, unfolding(crate::specs::Names::in_object))]
+pub(crate) fn in_object(
+    alloc: Global,
+    known: &Known,
+    who: &Who,
+    shown: &mut ShownList,
+    name: &str,
+    whole: &Wrapped,
+) -> Result<Option<Val>, NameRefusal>
+    ensures is { Shows told (λ v. v) shown.new result (looked (objects known.now) shown.old (spec.in_object who.now whole.now name.now)) }
+    ensures shown { OnlyHits shown.old shown.new result }
+{
+    if name.as_bytes().starts_with(b"_") {
+        return Ok(None);
+    }
+    search(alloc, known, who, shown, name, whole)
+}

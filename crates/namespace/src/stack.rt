@@ -1,0 +1,296 @@
+ghost use Rattle.std.specs.Prelude.{◌≡◌, ◌<◌, [], None, length, option_map, reverse, OnOk, OnErr, IfOk};
+ghost use Rattle.std.specs.List.{find};
+ghost use Rattle.std.specs.Str.{bytes_eq};
+ghost use Rattle.zknown.specs.Seen.{objects};
+ghost use Rattle.permissions.specs.Verdicts.{or_user};
+ghost use Rattle.namespace.specs.Looks.{looked};
+ghost use Rattle.namespace.specs.Names as spec;
+ghost use Rattle.namespace.specs.Told.{told, OnlyAnswers, OnlyHits, Shows};
+ghost use Rattle.namespace.specs.declared.val.Layer.TheVariants as layer;
+
+use crate::looks::{offer, view};
+use crate::naming::in_object;
+use crate::refusal::NameRefusal;
+use crate::val::{Layer, Named, Names, Val};
+use acquisition::Wrapped;
+use evaluator::ShownList;
+use permissions::Who;
+use std::alloc::Global;
+use std::marker::Model;
+use std::mem;
+use zbase::{Memory, Oid};
+use zknown::Known;
+use zobject::Object;
+
+/// The names of a page: layers that are pushed and taken away again, a client and the request's values, for a user. It
+/// keeps the list of the objects that were shown, and its allocator.
+///
+/// Zope Book, "Variables and Advanced DTML": the DTML namespace.
+#[derive(Debug, Drop)]
+pub struct Stack {
+    alloc: Global,
+    user: Who,
+    acting: Option<Who>,
+    layers: Vec<Layer>,
+    client: Wrapped,
+    request: Names,
+    shown: ShownList,
+}
+
+impl Model for Stack {
+    ghost use Rattle.namespace.specs.Names.{Space};
+
+    ghost Value = { Space };
+
+    ghost view = { λ s. record {
+      scope = record { user = s.user; acting = s.acting; layers = s.layers.items; client = s.client; request = s.request };
+      shown = s.shown;
+    } };
+}
+
+// The user of the verdicts.
+fn whose<'a>(user: &'a Who, acting: Option<&'a Who>) -> &'a Who
+    ensures { result.now ≡ or_user user.now (option_map (λ w. w.now) acting.entry) }
+{
+    match acting {
+        None => user,
+        Some(other) => other,
+    }
+}
+
+fn named<'a>(names: &'a [Named], name: &str) -> Option<&'a Named>
+    ensures { option_map (λ n. n.now) result ≡ find (λ n. bytes_eq n.name name.now) names.now }
+{
+    names.iter().find(|named| named.name.as_str() == name)
+}
+
+fn value_in(names: &[Named], name: &str) -> Result<Option<Val>, Memory>
+    ensures { IfOk result (λ val. val ≡ spec.value_in name.now names.now) }
+{
+    match named(names, name) {
+        Some(named) => Ok(Some(named.val.copy()?)),
+        None => Ok(None),
+    }
+}
+
+#[tactic(auto, unfolding(crate::specs::Names::in_layer))]
+fn in_layer(
+    alloc: Global,
+    known: &Known,
+    who: &Who,
+    shown: &mut ShownList,
+    name: &str,
+    layer: &Layer,
+) -> Result<Option<Val>, NameRefusal>
+    ensures is { Shows told (λ v. v) shown.new result (looked (objects known.now) shown.old (spec.in_layer who.now name.now layer.now)) }
+    ensures shown { OnlyHits shown.old shown.new result }
+{
+    match layer {
+        Layer::Names(names) => Ok(value_in(names.as_slice(), name)?),
+        Layer::Object(whole) => in_object(alloc, known, who, shown, name, whole),
+    }
+}
+
+// In the newest of these layers that has the name; the oldest comes first in the list.
+#[tactic(auto, unfolding(crate::specs::Names::in_layers))]
+fn in_layers(
+    alloc: Global,
+    known: &Known,
+    who: &Who,
+    shown: &mut ShownList,
+    name: &str,
+    layers: &[Layer],
+) -> Result<Option<Val>, NameRefusal>
+    ensures is { Shows told (λ v. v) shown.new result (looked (objects known.now) shown.old (spec.in_layers who.now name.now (reverse layers.now))) }
+    ensures shown { OnlyHits shown.old shown.new result }
+{
+    let mut left = layers;
+    while let Some((layer, older)) = left.split_last() {
+        let hit = in_layer(alloc, known, who, shown, name, layer)?;
+        if hit.is_some() {
+            return Ok(hit);
+        }
+        left = older;
+    }
+    Ok(None)
+}
+
+// In the client, and then among the request's values.
+#[tactic(auto, using(crate::proofs::Steps::stops), unfolding(crate::specs::Names::in_base))]
+fn in_base(
+    alloc: Global,
+    known: &Known,
+    who: &Who,
+    shown: &mut ShownList,
+    name: &str,
+    client: &Wrapped,
+    request: &[Named],
+) -> Result<Option<Val>, NameRefusal>
+    ensures is { Shows told (λ v. v) shown.new result (looked (objects known.now) shown.old (spec.in_base who.now name.now client.now request.now)) }
+    ensures shown { OnlyHits shown.old shown.new result }
+{
+    let hit = in_object(alloc, known, who, shown, name, client)?;
+    if hit.is_some() {
+        return Ok(hit);
+    }
+    Ok(value_in(request, name)?)
+}
+
+// In the newest layer that has the name, or else in the client, and then among the request's values.
+#[tactic(auto, using(crate::proofs::Steps::stops), unfolding(crate::specs::Names::named_for))]
+fn find_in(
+    alloc: Global,
+    known: &Known,
+    who: &Who,
+    shown: &mut ShownList,
+    name: &str,
+    layers: &[Layer],
+    client: &Wrapped,
+    request: &[Named],
+) -> Result<Option<Val>, NameRefusal>
+    ensures is { Shows told (λ v. v) shown.new result (looked (objects known.now) shown.old (spec.named_for who.now name.now layers.now client.now request.now)) }
+    ensures shown { OnlyHits shown.old shown.new result }
+{
+    let hit = in_layers(alloc, known, who, shown, name, layers)?;
+    if hit.is_some() {
+        return Ok(hit);
+    }
+    in_base(alloc, known, who, shown, name, client, request)
+}
+
+impl Stack {
+    /// A stack without layers, on which nothing was shown. Takes no memory.
+    pub fn new(alloc: Global, user: Who, client: Wrapped, request: Names) -> Stack
+        ensures { result ≡ record { scope = record { user = user; acting = None; layers = []; client = client; request = request }; shown = [] } }
+    {
+        Stack {
+            alloc,
+            user,
+            acting: None,
+            layers: Vec::new(alloc),
+            client,
+            request,
+            shown: ShownList::new(alloc),
+        }
+    }
+
+    /// Pushes names. For want of memory the stack stays as it was.
+    pub fn push_names(&mut self, names: Names) -> Result<(), Memory>
+        ensures ok { OnOk result (self.new ≡ record { scope = spec.push (layer.Names names) self.old.scope; shown = self.old.shown }) }
+        ensures err { OnErr result (self.new ≡ self.old) }
+    {
+        self.layers.push(Layer::Names(names))?;
+        Ok(())
+    }
+
+    /// Pushes an object. For want of memory the stack stays as it was.
+    pub fn push_object(&mut self, object: Wrapped) -> Result<(), Memory>
+        ensures ok { OnOk result (self.new ≡ record { scope = spec.push (layer.Object object) self.old.scope; shown = self.old.shown }) }
+        ensures err { OnErr result (self.new ≡ self.old) }
+    {
+        self.layers.push(Layer::Object(object))?;
+        Ok(())
+    }
+
+    /// Takes away what was pushed last. Takes no memory.
+    pub fn pop(&mut self)
+        requires { 0 < length self.old.scope.layers }
+        ensures { self.new ≡ record { scope = spec.popped self.old.scope; shown = self.old.shown } }
+    {
+        let _popped = self.layers.pop();
+    }
+
+    /// Sets in whose place later verdicts are taken for someone else, nobody's where it is none, and answers who that
+    /// was before. Takes no memory.
+    pub fn act(&mut self, acting: Option<Who>) -> Option<Who>
+        ensures set { self.new ≡ record { scope = spec.act acting self.old.scope; shown = self.old.shown } }
+        ensures former { result ≡ self.old.scope.acting }
+    {
+        mem::replace(&mut self.acting, acting)
+    }
+
+    /// The value of a name: in the layers from the newest, then in the client, then among the request's values. None
+    /// exactly where none of them has it.
+    ///
+    /// A refusal is that of the first object or permission that is wanted on this way. Only a hit shows an object: after a
+    /// refusal, want of memory included, the stack is what it was.
+    pub fn find(&mut self, known: &Known, name: &str) -> Result<Option<Val>, NameRefusal>
+        ensures is { Shows told (λ v. v) self.new.shown result (looked (objects known.now) self.old.shown (spec.named self.old.scope name.now)) }
+        ensures scope { self.new.scope ≡ self.old.scope }
+        ensures shown { OnlyHits self.old.shown self.new.shown result }
+    {
+        let who = whose(&self.user, self.acting.as_ref());
+        let layers = self.layers.as_slice();
+        let request = self.request.as_slice();
+        find_in(
+            self.alloc,
+            known,
+            who,
+            &mut self.shown,
+            name,
+            layers,
+            &self.client,
+            request,
+        )
+    }
+
+    /// The value of a name in an object. None exactly where the object hasn't it.
+    pub fn look(
+        &mut self,
+        known: &Known,
+        object: &Wrapped,
+        name: &str,
+    ) -> Result<Option<Val>, NameRefusal>
+        ensures is { Shows told (λ v. v) self.new.shown result (looked (objects known.now) self.old.shown (spec.in_object (spec.whose self.old.scope) object.now name.now)) }
+        ensures scope { self.new.scope ≡ self.old.scope }
+        ensures shown { OnlyHits self.old.shown self.new.shown result }
+    {
+        let who = whose(&self.user, self.acting.as_ref());
+        in_object(self.alloc, known, who, &mut self.shown, name, object)
+    }
+
+    /// The object with its contents, which the user must be granted to view; it is then shown.
+    pub fn open<'k>(&mut self, known: &'k Known, oid: Oid) -> Result<&'k Object, NameRefusal>
+        ensures is { Shows told (λ o. o.now) self.new.shown result (looked (objects known.now) self.old.shown (spec.viewing (spec.whose self.old.scope) oid)) }
+        ensures scope { self.new.scope ≡ self.old.scope }
+        ensures shown { OnlyAnswers self.old.shown self.new.shown result }
+    {
+        let who = whose(&self.user, self.acting.as_ref());
+        view(self.alloc, known, who, &mut self.shown, oid)
+    }
+
+    /// That the user is granted to view an object, which is then shown.
+    #[tactic(auto, using(crate::proofs::Steps::goes, crate::proofs::Steps::stops))]
+    pub fn view(&mut self, known: &Known, oid: Oid) -> Result<(), NameRefusal>
+        ensures is { Shows told (λ u. tt {0}) self.new.shown result (looked (objects known.now) self.old.shown (spec.allowing (spec.whose self.old.scope) oid)) }
+        ensures scope { self.new.scope ≡ self.old.scope }
+        ensures shown { OnlyAnswers self.old.shown self.new.shown result }
+    {
+        let _object = self.open(known, oid)?;
+        Ok(())
+    }
+
+    /// Whether the user is granted to view an object, which is then shown.
+    pub fn offer(&mut self, known: &Known, oid: Oid) -> Result<bool, NameRefusal>
+        ensures is { Shows told (λ b. b) self.new.shown result (looked (objects known.now) self.old.shown (spec.offering (spec.whose self.old.scope) oid)) }
+        ensures scope { self.new.scope ≡ self.old.scope }
+        ensures shown { OnlyAnswers self.old.shown self.new.shown result }
+    {
+        let who = whose(&self.user, self.acting.as_ref());
+        offer(self.alloc, known, who, &mut self.shown, oid)
+    }
+
+    /// How many layers were pushed and not taken away. Takes no memory.
+    pub fn depth(&self) -> usize
+        ensures { result ≡ length self.now.scope.layers }
+    {
+        self.layers.len()
+    }
+
+    /// The objects that were shown, in the order of their first use. Takes no memory.
+    pub fn shown(&self) -> &ShownList
+        ensures { result.now ≡ self.now.shown }
+    {
+        &self.shown
+    }
+}
