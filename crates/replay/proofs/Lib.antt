@@ -9,3 +9,4 @@ pub mod LostMarks
 pub mod Giving
 pub mod DumpSteps
 pub mod Closing
+pub mod Steadiness

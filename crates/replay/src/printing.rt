@@ -12,13 +12,14 @@ ghost use Rattle.std.specs.BTreeMap.{insert_entry};
 ghost use Rattle.std.specs.Ordering.{nat_cmp};
 ghost use Rattle.replay.specs.ShownInOrder.{entry_of, shown_line};
 
-use crate::replies::{conflict_reply, memory_reply, spent_reply};
+use crate::replies::{conflict_reply, fault_reply, memory_reply, spent_reply, unknown_reply};
 use evaluator::{Denial, Mark, Reply, Shown};
+use fs_store::Spent;
 use http_out::reply_bytes;
 use schedule::{Line, line_bytes};
 use std::alloc::Global;
 use std::collections::BTreeMap;
-use txn_core::{Spent, StepLine};
+use txn_core::StepLine;
 use zbase::{Clash, Memory, Oid, Tid};
 use zio::{OutsideRefusal, Pending, Sink};
 
@@ -239,6 +240,41 @@ fn put_memory<K: Sink>(
     put_none(alloc, worker, &reply, held, out)
 }
 
+// Writes that the disk failed in a step of a request.
+fn put_fault<K: Sink>(
+    alloc: Global,
+    worker: u32,
+    held: &mut Pending,
+    out: &mut K,
+) -> Result<(), OutsideRefusal>
+    ensures ok { OnOk result (Prints (due (K.written out.old) held.old) (due (K.written out.new) held.new) (step_lines answer worker StepLine.DiskFault)) }
+    ensures counts { Counts (K.counter out.old) (K.counter out.new) (IsErrOf result OutsideRefusal.Failed) }
+{
+    let Ok(reply) = fault_reply(alloc) else {
+        return Err(OutsideRefusal::Memory);
+    };
+    put_line(alloc, &Line::DiskFault(worker), held, out)?;
+    put_none(alloc, worker, &reply, held, out)
+}
+
+// Writes that the disk failed in a finish: whether the transaction with this id stands isn't known.
+fn put_unknown<K: Sink>(
+    alloc: Global,
+    worker: u32,
+    tid: Tid,
+    held: &mut Pending,
+    out: &mut K,
+) -> Result<(), OutsideRefusal>
+    ensures ok { OnOk result (Prints (due (K.written out.old) held.old) (due (K.written out.new) held.new) (step_lines answer worker (StepLine.Unknown tid))) }
+    ensures counts { Counts (K.counter out.old) (K.counter out.new) (IsErrOf result OutsideRefusal.Failed) }
+{
+    let Ok(reply) = unknown_reply(alloc, tid.0) else {
+        return Err(OutsideRefusal::Memory);
+    };
+    put_line(alloc, &Line::Unknown(worker, tid), held, out)?;
+    put_none(alloc, worker, &reply, held, out)
+}
+
 /// Writes the lines of a step of a worker.
 pub(crate) fn put_step<K: Sink>(
     alloc: Global,
@@ -263,6 +299,8 @@ pub(crate) fn put_step<K: Sink>(
         StepLine::Read(reply, tid) => put_read(alloc, worker, reply, *tid, held, out),
         StepLine::Commit(reply, tid) => put_commit(alloc, worker, reply, *tid, held, out),
         StepLine::Spent(spent) => put_spent(alloc, worker, *spent, held, out),
+        StepLine::DiskFault => put_fault(alloc, worker, held, out),
         StepLine::Memory => put_memory(alloc, worker, held, out),
+        StepLine::Unknown(tid) => put_unknown(alloc, worker, *tid, held, out),
     }
 }

@@ -1,11 +1,11 @@
 ghost use Rattle.std.specs.Prelude.{◌≡◌, IfOk};
 ghost use Rattle.http_out.specs.Replies.{IsStatus};
-ghost use Rattle.schedule.specs.Causes.{conflict_reply, memory_reply};
+ghost use Rattle.schedule.specs.Causes.{conflict_reply, fault_reply, memory_reply, unknown_reply};
 ghost use Rattle.txn_core.specs.StepLines.{spent_reply};
 
 use evaluator::Reply;
+use fs_store::Spent;
 use std::alloc::Global;
-use txn_core::Spent;
 use zbase::{Memory, Text};
 
 /// The reply to a request that was given up, whose last conflict was over this object.
@@ -46,4 +46,24 @@ pub(crate) fn memory_reply(alloc: Global) -> Result<Reply, Memory>
     ensures status { IfOk result (λ reply. IsStatus reply.status) }
 {
     Reply::one_line(alloc, 503, Text::from_str(alloc, "out of memory")?)
+}
+
+/// The reply to a request in which the disk failed.
+#[tactic(auto, unfolding(schedule::specs::Causes::fault_reply))]
+pub(crate) fn fault_reply(alloc: Global) -> Result<Reply, Memory>
+    ensures reply { IfOk result (λ reply. reply ≡ fault_reply) }
+    ensures status { IfOk result (λ reply. IsStatus reply.status) }
+{
+    Reply::one_line(alloc, 503, Text::from_str(alloc, "disk fault")?)
+}
+
+/// The reply to a request in whose finish the disk failed, so that it isn't known whether this transaction stands.
+#[tactic(auto, unfolding(schedule::specs::Causes::unknown_reply))]
+pub(crate) fn unknown_reply(alloc: Global, tid: u64) -> Result<Reply, Memory>
+    ensures reply { IfOk result (λ reply. reply ≡ unknown_reply tid) }
+    ensures status { IfOk result (λ reply. IsStatus reply.status) }
+{
+    let mut text = Text::from_str(alloc, "unknown outcome: ")?;
+    text.push_hex16(tid)?;
+    Reply::one_line(alloc, 500, text)
 }

@@ -34,12 +34,14 @@ fn give<D: Disk + Drop, E: Evaluator>(
     worker: u32,
     bytes: &Bytes,
 ) -> Result<bool, Memory>
-    ensures limit { core.new.store.limit ≡ core.old.store.limit }
+    requires steady { IsSteady core.old.store }
+    ensures store { core.new.store ≡ core.old.store }
     ensures refused { IfOk result (λ given. given ≡ false → (E.takes bytes.now ≡ None) ⊎ (IsIdle core.old worker → ⊥)) }
     ensures given { IfOk result (λ given. given ≡ true → (now limit end : ℕ) →
         Happens (terms_of E.takes E.meaning limit end) (clocked (moment_of E.meaning core.old.store core.old.slots) now) (Item2.Request worker bytes.now) [] (clocked (moment_of E.meaning core.new.store core.new.slots) now)) }
 {
     core.is_sound();
+    core.store().is_sound();
     if worker >= WORKERS as u32 {
         return Ok(false);
     }
@@ -62,7 +64,9 @@ fn run_item<D: Disk + Drop, E: Evaluator, K: Sink>(
     held: &mut Pending,
     out: &mut K,
 ) -> Result<(), RunRefusal>
+    requires steady { IsSteady core.old.store }
     ensures limit { core.new.store.limit ≡ core.old.store.limit }
+    ensures steady { IsSteady core.new.store }
     ensures ok { (end : ℕ) → OnOk result (HappensPrinted (terms_of E.takes E.meaning core.old.store.limit end) (clocked (moment_of E.meaning core.old.store core.old.slots) clock.old) item.now (clocked (moment_of E.meaning core.new.store core.new.slots) clock.new) (due (K.written out.old) held.old) (due (K.written out.new) held.new)) }
     ensures bad_line { (n end : ℕ) → IsErrOf result (RunRefusal.BadLine n) → (n ≡ number) × CannotRun (terms_of E.takes E.meaning core.old.store.limit end) (clocked (moment_of E.meaning core.old.store core.old.slots) clock.old) item.now × (due (K.written out.new) held.new ≡ due (K.written out.old) held.old) }
     ensures counts { Counts (K.counter out.old) (K.counter out.new) (IsErrOf result RunRefusal.Output) }
@@ -77,6 +81,7 @@ fn run_item<D: Disk + Drop, E: Evaluator, K: Sink>(
             if *worker >= WORKERS as u32 {
                 return Err(RunRefusal::BadLine(number));
             }
+            core.store().is_sound();
             let line = core.step(*worker, *clock);
             put_step(alloc, *worker, &line, held, out)?;
             Ok(())
@@ -128,12 +133,13 @@ fn run_items<D: Disk + Drop, E: Evaluator, K: Sink>(
     out: &mut K,
 ) -> Result<(), RunRefusal>
     requires rest { IsAtRest E.meaning core.old }
+    requires steady { IsSteady core.old.store }
+    ensures steady { IsSteady core.new.store }
     ensures ran { OnOk result ((now : ℕ) × Ran (terms_of E.takes E.meaning core.old.store.limit core.old.store.end) core.old.store.history items.now (clocked (moment_of E.meaning core.new.store core.new.slots) now) (due (K.written out.old) held.old) (due (K.written out.new) held.new)) }
     ensures bad_line { (n : ℕ) → IsErrOf result (RunRefusal.BadLine n) → BrokenOff (terms_of E.takes E.meaning core.old.store.limit core.old.store.end) core.old.store.history items.now n (due (K.written out.old) held.old) (due (K.written out.new) held.new) }
     ensures counts { Counts (K.counter out.old) (K.counter out.new) (IsErrOf result RunRefusal.Output) }
 {
     runs_are_serial::<E>();
-    core.is_sound();
     core.store().is_sound();
     put_line(alloc, &Line::Head, held, out)?;
     let opened = Line::Opened(core.store().last(), core.store().len());
@@ -170,11 +176,15 @@ fn run_and_close<D: Disk + Drop, E: Evaluator, K: Sink>(
     };
     match run_items(alloc, &mut core, items, held, out) {
         Ok(()) => {
-            let (store, taken) = core.close();
+            let Ok(closed) = core.close() else {
+                // The disk can't fail.
+                unreachable!()
+            };
+            let (store, taken) = closed;
             Ok(put_closing(alloc, store, &taken, held, out)?)
         }
         Err(refusal) => {
-            let (_store, _taken) = core.close();
+            let _closed = core.close();
             Err(refusal)
         }
     }

@@ -226,3 +226,9 @@ stands_on_disk {E} {R} {S} eval old new sl same told all =
       each = λ v s e. slot_over {E = E} {R = R} {S = S} eval old new v s (carries_on_disk old new same told) out (all.each v s e);
       voter = λ o e. all.voter o (sym out ∙ e);
     }
+
+-- ---- a store that isn't stale
+
+pub stands_fresh : (old new : StoreView) → Stands old new → old.stale ≡ false → new.stale ≡ false
+stands_fresh old new (inl same) fresh = ap (λ (s : StoreView). s.stale) same ∙ fresh
+stands_fresh old new (inr settles) fresh = settles_fresh old new settles

@@ -1,6 +1,7 @@
 ghost use Rattle.std.specs.Prelude.{◌≡◌, false};
 ghost use Rattle.zbase.specs.Faults.{Counts, Twice};
 ghost use Rattle.connection.specs.Telling.{TellsOn};
+ghost use Rattle.fs_store.specs.Stores.{IsTold};
 ghost use Rattle.txn_core.specs.Slots.{ActiveStands, Advances, ChangeStands, ComputedStands, PendingStands, SlotStands};
 ghost use Rattle.txn_core.specs.StepLines.{IsAnswered, IsCommitLine, IsFaultLine, IsVoteLine};
 ghost use Rattle.txn_core.specs.declared.slot.Slot.{Slot};
@@ -26,6 +27,7 @@ fn begin<D: Disk + Drop, E: Evaluator>(
     ensures answered { IsAnswered result.1 }
     ensures counts { Counts store.old.disk.counter store.new.disk.counter (IsFaultLine result.1) }
     ensures fresh { IsCommitLine result.1 → store.new.stale ≡ false }
+    ensures calm { IsTold store.old → (IsFaultLine result.1 → ⊥) → store.old.stale ≡ false → store.new.stale ≡ false }
     ensures twice { IsVoteLine result.1 → Twice store.old.disk.counter store.new.disk.counter }
 {
     store.is_sound();
@@ -53,6 +55,7 @@ fn turn<D: Disk + Drop, E: Evaluator>(
     ensures answered { IsAnswered result.1 }
     ensures counts { Counts store.old.disk.counter store.new.disk.counter (IsFaultLine result.1) }
     ensures fresh { IsCommitLine result.1 → store.new.stale ≡ false }
+    ensures calm { IsTold store.old → (IsFaultLine result.1 → ⊥) → store.old.stale ≡ false → store.new.stale ≡ false }
     ensures twice { IsVoteLine result.1 → Twice store.old.disk.counter store.new.disk.counter }
 {
     store.is_sound();
@@ -81,6 +84,7 @@ fn vote<D: Disk + Drop, E: Evaluator>(
     ensures answered { IsAnswered result.1 }
     ensures counts { Counts store.old.disk.counter store.new.disk.counter (IsFaultLine result.1) }
     ensures fresh { IsCommitLine result.1 → store.new.stale ≡ false }
+    ensures calm { IsTold store.old → (IsFaultLine result.1 → ⊥) → store.old.stale ≡ false → store.new.stale ≡ false }
     ensures twice { IsVoteLine result.1 → Twice store.old.disk.counter store.new.disk.counter }
 {
     store.is_sound();
@@ -116,6 +120,7 @@ fn finish<D: Disk + Drop, E: Evaluator>(
     ensures answered { IsAnswered result.1 }
     ensures counts { Counts store.old.disk.counter store.new.disk.counter (IsFaultLine result.1) }
     ensures fresh { IsCommitLine result.1 → store.new.stale ≡ false }
+    ensures calm { IsTold store.old → (IsFaultLine result.1 → ⊥) → store.old.stale ≡ false → store.new.stale ≡ false }
     ensures twice { IsVoteLine result.1 → Twice store.old.disk.counter store.new.disk.counter }
 {
     store.is_sound();
@@ -141,6 +146,7 @@ pub(crate) fn advance<D: Disk + Drop, E: Evaluator>(
     ensures answered { IsAnswered result.1 }
     ensures counts { Counts store.old.disk.counter store.new.disk.counter (IsFaultLine result.1) }
     ensures fresh { IsCommitLine result.1 → store.new.stale ≡ false }
+    ensures calm { IsTold store.old → (IsFaultLine result.1 → ⊥) → store.old.stale ≡ false → store.new.stale ≡ false }
     ensures twice { IsVoteLine result.1 → Twice store.old.disk.counter store.new.disk.counter }
 {
     match slot {

@@ -43,7 +43,7 @@ fn idle_slots<E: Evaluator>(alloc: Global) -> Result<Vec<Slot<E>>, Memory>
 /// Sixteen workers over one store, numbered from 0 to 15. Its disk may fail, and may tell nothing.
 pub struct Core<D: Disk + Drop, E: Evaluator> {
     alloc: Global,
-    pub(crate) store: Store<D>,
+    store: Store<D>,
     evaluator: E,
     slots: Vec<Slot<E>>,
 }
@@ -118,7 +118,7 @@ impl<D: Disk + Drop, E: Evaluator> Core<D, E> {
         ensures taken { IfErr result (λ _. IsIdle self.old worker → ⊥) }
         ensures given { OnOk result ((terms : Terms E.Request) (now : ℕ) (bytes : List ℕ) → terms.takes bytes ≡ Some request →
             Follows terms (MayBe E.meaning self.old) now (MayBe E.meaning self.new) now (Item2.Request worker bytes) []) }
-        ensures limit { self.new.store.limit ≡ self.old.store.limit }
+        ensures store { self.new.store ≡ self.old.store }
         ensures left { OnOk result (left self.new.slots worker ≤ 48020) }
         ensures others { (v : ℕ) → v ≢ worker → slice_get self.new.slots v ≡ slice_get self.old.slots v }
         ensures back { IfErr result (λ (_, back). (back ≡ request) × (self.new ≡ self.old)) }
@@ -138,10 +138,11 @@ impl<D: Disk + Drop, E: Evaluator> Core<D, E> {
     /// each moment at which it is behind the step is one that a step led to.
     ///
     /// Where the count of the disk's faults rose, the answer is `DiskFault`, or `Unknown` in a finish; neither comes
-    /// elsewhere. Each step but one that answers `Idle` or `Busy` lowers the worker's number `left`, and no other number
-    /// is changed. A worker is idle exactly where it has no request, and waits only for one whose vote is out. An answer
-    /// comes in the second step of its attempt beside those that fetch its facts, a commit in the fourth; the facts
-    /// are those for which the evaluation of its request asks, each once.
+    /// elsewhere, and without them a store that tells and isn't stale stays so. Each step but one that answers `Idle` or
+    /// `Busy` lowers the worker's number `left`, and no other number is changed. A worker is idle exactly where it has no
+    /// request, and waits only for one whose vote is out. An answer comes in the second step of its attempt beside those
+    /// that fetch its facts, a commit in the fourth; the facts are those for which the evaluation of its request asks,
+    /// each once.
     pub fn step(&mut self, worker: u32, now: Tid) -> StepLine
         requires { worker < WORKERS }
         ensures step { IsTold self.old.store → (terms : Terms E.Request) → terms.eval ≡ E.meaning → terms.limit ≡ self.old.store.limit →
@@ -149,6 +150,7 @@ impl<D: Disk + Drop, E: Evaluator> Core<D, E> {
         ensures limit { self.new.store.limit ≡ self.old.store.limit }
         ensures tells { TellsOn self.old.store.disk.told self.new.store.disk.told }
         ensures fresh { IsCommitLine result → self.new.store.stale ≡ false }
+        ensures calm { IsTold self.old.store → (IsFaultLine result → ⊥) → self.old.store.stale ≡ false → self.new.store.stale ≡ false }
         ensures answered { IsAnswered result }
         ensures counts { Counts self.old.store.disk.counter self.new.store.disk.counter (IsFaultLine result) }
         ensures twice { IsVoteLine result → Twice self.old.store.disk.counter self.new.store.disk.counter }
@@ -173,6 +175,7 @@ impl<D: Disk + Drop, E: Evaluator> Core<D, E> {
     pub fn close(self) -> Result<(Store<D>, [bool; WORKERS]), (AbortRefusal, Store<D>)>
         ensures store { IfOk result (λ (store, _). Closes self.store false store × TellsOn self.store.disk.told store.disk.told) }
         ensures taken { IfOk result (λ (_, taken). taken ≡ map is_taken self.slots) }
+        ensures idle { IfOk result (λ (store, _). store.out ≡ None) }
         ensures stale { IfErr result (λ (_, store). Closes self.store true store × TellsOn self.store.disk.told store.disk.told) }
         ensures counts { IfOk result (λ (store, _). Counts self.store.disk.counter store.disk.counter ⊥) }
         ensures fault { IfErr result (λ (_, store). Counts self.store.disk.counter store.disk.counter ⊤) }

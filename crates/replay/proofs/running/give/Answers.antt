@@ -11,8 +11,9 @@ returns-then-worker-clause-refused g c = λ _. inr (not_idle c.args.core.now c.a
 pub returns-clause-given : goal.returns-clause-given
 returns-clause-given g c =
     let takes : g.E.Evaluator.takes c.args.bytes.now ≡ Some c.in-Some.request = ap g.E.Evaluator.takes (sym c.as_slice.ensures) ∙ sym c.in_ok-request.ensures ∙ c.in-Some.is in
+    let none = (rw c.store.ensures at c.is_sound-2.ensures.undecided) c.requires.steady.fresh in
     elim c.match-give.branch [
-      | in-Ok w ↦ rw w.result-is (λ yes now limit end. happens (terms_of g.E.Evaluator.takes g.E.Evaluator.meaning limit end) g.E.Evaluator.meaning c.args.core.now c.give.new.self now now (Item2.Request c.args.worker c.args.bytes.now) _
+      | in-Ok w ↦ rw w.result-is (λ yes now limit end. happens (terms_of g.E.Evaluator.takes g.E.Evaluator.meaning limit end) g.E.Evaluator.meaning c.args.core.now c.give.new.self now now (Item2.Request c.args.worker c.args.bytes.now) _ none
           (w.in-Ok.ensures.given (terms_of g.E.Evaluator.takes g.E.Evaluator.meaning limit end) now c.args.bytes.now takes))
       | in-Err w ↦ rw w.result-is (λ yes. absurd cc)
     ]

@@ -5,12 +5,14 @@ use Rattle.schedule.specs.Courses.{Happens}
 use Rattle.schedule.specs.CourseLaws.{IsCalm}
 use Rattle.schedule.specs.Moments.{clocked}
 use Rattle.txn_core.specs.Slots.{moment_of}
-use Rattle.txn_core.specs.StepLines.{step_lines}
+use Rattle.txn_core.specs.StepLines.{IsFaultLine, step_lines}
 use Rattle.replay.specs.BrokenOff.{CannotRun}
 use Rattle.replay.specs.Printed.{terms_of}
 use Rattle.replay.proofs.CalmSteps.{step_is_calm}
+use Rattle.replay.proofs.Closing.{no_fault}
 use Rattle.replay.proofs.Giving.{happens, refused}
 use Rattle.replay.proofs.PrintSteps.{prints_none}
+use Rattle.replay.proofs.Steadiness.{steady_step}
 use Rattle.replay.proofs.running.run_item.Goals as goal
 
 pub returns-in-Ok-true-clause-ok : goal.returns-in-Ok-true-clause-ok
@@ -36,5 +38,13 @@ returns-in_ok-put_step-in-Step-clause-ok g c = λ end.
     let lines = step_lines answer c.in-Step.worker c.step-line.result in
     let before = clocked (moment_of g.E.Evaluator.meaning core.store core.slots) c.args.clock.now in
     let after = clocked (moment_of g.E.Evaluator.meaning c.step-line.new.self.store c.step-line.new.self.slots) c.args.clock.now in
-    let did = happens terms g.E.Evaluator.meaning core c.step-line.new.self c.args.clock.now c.args.clock.now (Item2.Step c.in-Step.worker) lines (c.step-line.ensures.step terms refl refl) in
-    (lines, subst (λ i. Happens terms before i lines after) (sym c.in-Step.is) did, subst (λ i. IsCalm i lines) (sym c.in-Step.is) (step_is_calm answer c.in-Step.worker c.step-line.result), c.in_ok-put_step-in-Step.ensures.ok)
+    let calm = no_fault core.store.disk.counter c.step-line.new.self.store.disk.counter (IsFaultLine c.step-line.result) c.requires.steady.faultless c.step-line.ensures.counts in
+    let none = (rw c.store.ensures at c.is_sound.ensures.undecided) c.requires.steady.fresh in
+    let did = happens terms g.E.Evaluator.meaning core c.step-line.new.self c.args.clock.now c.args.clock.now (Item2.Step c.in-Step.worker) lines none (c.step-line.ensures.step c.requires.steady.told terms refl refl) in
+    (lines, subst (λ i. Happens terms before i lines after) (sym c.in-Step.is) did, subst (λ i. IsCalm i lines) (sym c.in-Step.is) (step_is_calm answer c.in-Step.worker c.step-line.result calm), c.in_ok-put_step-in-Step.ensures.ok)
+
+pub returns-in_ok-put_step-in-Step-clause-steady : goal.returns-in_ok-put_step-in-Step-clause-steady
+returns-in_ok-put_step-in-Step-clause-steady g c = steady_step c.args.core.now.store c.step-line.new.self.store (IsFaultLine c.step-line.result) c.requires.steady c.step-line.ensures.tells c.step-line.ensures.counts c.step-line.ensures.calm
+
+pub returns-in_err-put_step-in-Step-clause-steady : goal.returns-in_err-put_step-in-Step-clause-steady
+returns-in_err-put_step-in-Step-clause-steady g c = steady_step c.args.core.now.store c.step-line.new.self.store (IsFaultLine c.step-line.result) c.requires.steady c.step-line.ensures.tells c.step-line.ensures.counts c.step-line.ensures.calm

@@ -20,3 +20,6 @@ returns-in-Err-clause-advances g c =
 
 pub returns-in-Ok-clause-answered : goal.returns-in-Ok-clause-answered
 returns-in-Ok-clause-answered g c = rw c.in-Ok.ensures.reply.0 (commit_reply g.E.Evaluator.meaning c.args.store.now c.args.pending g.met.E.Evaluator.changes c.requires.change)
+
+pub returns-in-Err-clause-calm : goal.returns-in-Err-clause-calm
+returns-in-Err-clause-calm g c = λ told calm fresh. absurd (calm tt)

@@ -1,11 +1,11 @@
-use Rattle.std.proofs.Common.{ap, refl}
+use Rattle.std.proofs.Common.{ap, refl, ◌∙◌}
 use Rattle.fs_store.specs.Stores.{StoreView}
 use Rattle.connection.specs.Telling.{tells_back, tells_forth}
 use Rattle.txn_core.specs.declared.slot.Slot.{Slot}
 use Rattle.txn_core.specs.declared.step_line.StepLine.{StepLine}
 use Rattle.txn_core.proofs.Arms.{answered, computed, fetched, troubled}
 use Rattle.txn_core.proofs.QuietArms.{active_left, fault_moves, memory_moves, stands_moves}
-use Rattle.txn_core.proofs.Steadiness.{Carries, grows_same, grows_settles, grows_stands}
+use Rattle.txn_core.proofs.Steadiness.{settles_fresh, stands_fresh, Carries, grows_same, grows_settles, grows_stands}
 use Rattle.txn_core.proofs.Voting.{read_reply}
 use Rattle.txn_core.proofs.advancing.turn.Goals as goal
 
@@ -53,3 +53,24 @@ pub returns-in-Ok-Answered-clause-answered : goal.returns-in-Ok-Answered-clause-
 returns-in-Ok-Answered-clause-answered g c =
     let t = rw c.in-Ok-Answered.field-0-is at c.in-Ok-Answered.ensures.turned in
     read_reply g.E.Evaluator.meaning c.args.active c.in-Ok-Answered.reply g.met.E.Evaluator.replies t.0
+
+pub returns-in-Ok-Fetched-clause-calm : goal.returns-in-Ok-Fetched-clause-calm
+returns-in-Ok-Fetched-clause-calm g c =
+    let settles = rw c.in-Ok-Fetched.field-0-is at c.in-Ok-Fetched.ensures.store in
+    λ told calm fresh. settles_fresh c.args.store.now c.turn.new.store (settles told)
+
+pub returns-in-Ok-Answered-clause-calm : goal.returns-in-Ok-Answered-clause-calm
+returns-in-Ok-Answered-clause-calm g c =
+    let same = rw c.in-Ok-Answered.field-0-is at c.in-Ok-Answered.ensures.store in
+    λ told calm fresh. ap (λ (s : StoreView). s.stale) same ∙ fresh
+
+pub returns-in-Ok-Ready-clause-calm : goal.returns-in-Ok-Ready-clause-calm
+returns-in-Ok-Ready-clause-calm g c =
+    let same = rw c.in-Ok-Ready.field-0-is at c.in-Ok-Ready.ensures.store in
+    λ told calm fresh. ap (λ (s : StoreView). s.stale) same ∙ fresh
+
+pub returns-in-Err-Disk-default-clause-calm : goal.returns-in-Err-Disk-default-clause-calm
+returns-in-Err-Disk-default-clause-calm g c = λ told calm fresh. absurd (calm tt)
+
+pub returns-in-Err-Memory-default-clause-calm : goal.returns-in-Err-Memory-default-clause-calm
+returns-in-Err-Memory-default-clause-calm g c = λ told calm fresh. stands_fresh c.args.store.now c.turn.new.store (c.in-Err-Memory-default.ensures.stands told) fresh

@@ -7,7 +7,7 @@ use Rattle.txn_core.specs.declared.slot.Slot.{Slot}
 use Rattle.txn_core.specs.declared.step_line.StepLine.{StepLine}
 use Rattle.txn_core.proofs.Arms.{busy, conflicting, given_up, spends, troubled, voted}
 use Rattle.txn_core.proofs.QuietArms.{memory_moves, stands_moves, vote_fault_moves}
-use Rattle.txn_core.proofs.Steadiness.{Carries, grows_loses, grows_settles, grows_stands}
+use Rattle.txn_core.proofs.Steadiness.{settles_fresh, stands_fresh, Carries, grows_loses, grows_settles, grows_stands}
 use Rattle.txn_core.proofs.Voting.{computed_busy, ends_lower, ready_draft}
 use Rattle.txn_core.proofs.advancing.vote.Goals as goal
 
@@ -58,3 +58,34 @@ returns-in-Err-Memory-clause-advances g c =
     troubled {E = g.row.E.Denot} {R = g.row.E-Request.Denot} {S = g.row.E-State.Denot} g.E.Evaluator.meaning c.args.worker c.args.now c.args.store.now c.vote.new.store (Slot.Computed c.args.active) StepLine.Memory carries c.in-Err-Memory.ensures.kept (λ k. k) (ends_lower (further_steps (length (let a : ActiveView _ = c.args.active in a).attempt.clashes))) (λ k. k) tt tt (λ told. tt)
     (λ told. stands_moves {E = g.row.E.Denot} {R = g.row.E-Request.Denot} {S = g.row.E-State.Denot} g.E.Evaluator.meaning c.args.worker c.args.now c.args.store.now c.vote.new.store (Slot.Computed c.args.active) StepLine.Memory (t.3.2 told)
     (λ st rests. memory_moves {E = g.row.E.Denot} {R = g.row.E-Request.Denot} {S = g.row.E-State.Denot} g.E.Evaluator.meaning c.args.worker c.args.now st c.vote.new.store (Slot.Computed c.args.active) rests (λ k. k) (computed_busy c.args.active)))
+
+pub returns-in-Ok-clause-calm : goal.returns-in-Ok-clause-calm
+returns-in-Ok-clause-calm g c = λ told calm fresh. settles_fresh c.args.store.now (idle c.vote.new.store) (c.in-Ok.ensures.voted.3.settles told)
+
+pub returns-in-Err-Busy-clause-calm : goal.returns-in-Err-Busy-clause-calm
+returns-in-Err-Busy-clause-calm g c =
+    let t = rw c.in-Err-Busy.field-0-is at c.in-Err-Busy.ensures.refused in
+    λ told calm fresh. settles_fresh c.args.store.now c.vote.new.store ((t.3.2 told).0)
+
+pub returns-in-Err-Conflict-clause-calm : goal.returns-in-Err-Conflict-clause-calm
+returns-in-Err-Conflict-clause-calm g c =
+    let t = rw c.in-Err-Conflict.field-0-is at c.in-Err-Conflict.ensures.refused in
+    λ told calm fresh. settles_fresh c.args.store.now c.vote.new.store ((t.3.3 told).0)
+
+pub returns-in-Err-GivenUp-clause-calm : goal.returns-in-Err-GivenUp-clause-calm
+returns-in-Err-GivenUp-clause-calm g c =
+    let t = rw c.in-Err-GivenUp.field-0-is at c.in-Err-GivenUp.ensures.refused in
+    λ told calm fresh. settles_fresh c.args.store.now c.vote.new.store ((t.3.3 told).0)
+
+pub returns-in-Err-Spent-clause-calm : goal.returns-in-Err-Spent-clause-calm
+returns-in-Err-Spent-clause-calm g c =
+    let t = rw c.in-Err-Spent.field-0-is at c.in-Err-Spent.ensures.refused in
+    λ told calm fresh. settles_fresh c.args.store.now c.vote.new.store ((t.3.1 told).0)
+
+pub returns-in-Err-Disk-clause-calm : goal.returns-in-Err-Disk-clause-calm
+returns-in-Err-Disk-clause-calm g c = λ told calm fresh. absurd (calm tt)
+
+pub returns-in-Err-Memory-clause-calm : goal.returns-in-Err-Memory-clause-calm
+returns-in-Err-Memory-clause-calm g c =
+    let t = rw c.in-Err-Memory.field-0-is at c.in-Err-Memory.ensures.refused in
+    λ told calm fresh. stands_fresh c.args.store.now c.vote.new.store (t.3.2 told) fresh

@@ -1,5 +1,6 @@
 use Rattle.std.proofs.Common.{◌≡◌, List, map, sym, ◌∙◌, refl, ap, Some, subst}
 use Rattle.std.proofs.lemmas.List.Elements.{All-same}
+use Rattle.zbase.specs.Faults.{counts_as}
 use Rattle.schedule.specs.Moments.{Attempt}
 use Rattle.fs_store.specs.Seeing.{IsSeen}
 use Rattle.fs_store.specs.Stores.{idle}
@@ -48,3 +49,6 @@ returns-in-Err-clause-refused g c =
       ready,
       subst (λ k. IsRefused c.args.store.now c.vote.new.self (record { attempt = attempt; reads = c.self.inside.reads.items; ready = k }) c.in-Some.draft c.refused.result) same given,
     )
+
+pub returns-in-Err-clause-counts : goal.returns-in-Err-clause-counts
+returns-in-Err-clause-counts g c = counts_as c.in-Err.ensures.fault c.refused.ensures.disk.1 c.refused.ensures.disk.0

@@ -16,7 +16,7 @@ returns-in_default g c =
       idle = tt;
       taken = rw (← c.self.view_is) (λ idle. c.in_default.not-Idle (some_same c.index.result.now (let idle_slot : Slot g.row.E.Denot g.row.E-Request.Denot g.row.E-State.Denot = Slot.Idle in idle_slot) (sym there ∙ idle)));
       given = tt;
-      limit = refl;
+      store = refl;
       left = tt;
       others = λ v other. refl;
       back = (refl, refl);

@@ -68,3 +68,6 @@ returns-clause-fresh g c = c.advance-next.ensures.fresh
 
 pub returns-clause-tells : goal.returns-clause-tells
 returns-clause-tells g c = rw (← c.self.view_is) c.advance-next.ensures.tells
+
+pub returns-clause-calm : goal.returns-clause-calm
+returns-clause-calm g c = rw (← c.self.view_is) c.advance-next.ensures.calm
