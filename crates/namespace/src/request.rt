@@ -1,33 +1,18 @@
-ghost use Rattle.std.specs.Prelude.{◌≡◌, ◌++◌, ◌∷◌, [], IfOk, OnOk, map, option_map};
+ghost use Rattle.std.specs.Prelude.{◌≡◌, ◌++◌, ◌∷◌, [], IfOk, OnOk, map};
 ghost use Rattle.http_in.specs.Headers as headers;
 ghost use Rattle.namespace.specs.Requests as spec;
 
 use crate::val::{Named, Names, Single, Singles, Val};
 use form_fields::{FieldValue, Fields, Scalar};
-use http_in::{Header, Request, Verb};
+use http_in::{Request, Verb};
 use permissions::Who;
 use std::alloc::Global;
 use zbase::{Items, Memory, Text};
 
-fn is_named(name: &str, header: &Header) -> bool
-    ensures { result ≡ headers.is_named name.now header.now }
-{
-    header.name.as_bytes().eq_ignore_ascii_case(name.as_bytes())
-}
-
-fn first_value<'a>(name: &str, all: &'a [Header]) -> Option<&'a str>
-    ensures { option_map (λ value. value.now) result ≡ headers.first_value name.now all.now }
-{
-    match all.iter().find(|header| is_named(name, *header)) {
-        Some(header) => Some(header.value.as_str()),
-        None => None,
-    }
-}
-
 fn host(request: &Request) -> &str
     ensures { result.now ≡ spec.or_localhost (headers.first_value spec.host_name request.now.headers) }
 {
-    match first_value("Host", request.headers.as_slice()) {
+    match request.headers.first_value("Host") {
         Some(host) => host,
         None => "localhost",
     }
