@@ -1,5 +1,4 @@
 ghost use Rattle.std.specs.Prelude.{◌≡◌, None, IfOk};
-ghost use Rattle.fs_store.specs.Stores.{IsSteady};
 
 use crate::stores::store_of;
 use evaluator::{CellRequest, Cells};
@@ -14,8 +13,7 @@ const COPY: CellRequest = CellRequest::Copy(Oid(1), Oid(1));
 
 /// A core over a store.
 fn core_of(alloc: Global, store: Store<MemoryDisk>) -> Result<Core<MemoryDisk, Cells>, Fail>
-    requires idle { store.out ≡ None }
-    requires steady { IsSteady store }
+    requires { store.out ≡ None }
 {
     match Core::new(alloc, store, Cells::new(alloc)) {
         Ok(core) => Ok(core),
@@ -31,17 +29,18 @@ fn closed(
     stamp: u64,
     count: usize,
 ) -> Result<(Store<MemoryDisk>, bool), Fail>
-    requires idle { store.out ≡ None }
-    requires steady { IsSteady store }
-    ensures idle { IfOk result (λ (store, _). store.out ≡ None) }
-    ensures steady { IfOk result (λ (store, _). IsSteady store) }
+    requires { store.out ≡ None }
+    ensures { IfOk result (λ (store, _). store.out ≡ None) }
 {
     let mut core = core_of(alloc, store)?;
     let is_given = core.give(5, COPY).is_ok();
     for _ in 0..count {
         let _line = core.step(5, Tid(stamp));
     }
-    let (store, taken) = core.close();
+    let Ok(ended) = core.close() else {
+        return Err(Fail::from("the disk failed"));
+    };
+    let (store, taken) = ended;
     if is_given {
         Ok((store, taken[5]))
     } else {
@@ -78,7 +77,9 @@ fn a_worker_with_a_request_takes_no_other(rt: HostRuntime) -> Result<(), Fail> {
         let _line = core.step(3, Tid(0));
     }
     assert_eq!(rt; core.give(3, CellRequest::Log), Ok(()));
-    let (store, _taken) = core.close();
+    let Ok((store, _taken)) = core.close() else {
+        return Err(Fail::from("the disk failed"));
+    };
     assert_eq!(rt; store.last(), Tid(1));
     Ok(())
 }
