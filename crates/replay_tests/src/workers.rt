@@ -1,4 +1,4 @@
-ghost use Rattle.std.specs.Prelude.{◌≡◌, None, IfOk};
+ghost use Rattle.std.specs.Prelude.{◌≡◌, None, IfOk, false};
 
 use crate::stores::store_of;
 use evaluator::{CellRequest, Cells};
@@ -30,7 +30,8 @@ fn closed(
     count: usize,
 ) -> Result<(Store<MemoryDisk>, bool), Fail>
     requires { store.out ≡ None }
-    ensures { IfOk result (λ (store, _). store.out ≡ None) }
+    ensures idle { IfOk result (λ (store, _). store.out ≡ None) }
+    ensures fresh { IfOk result (λ (store, _). store.stale ≡ false) }
 {
     let mut core = core_of(alloc, store)?;
     let is_given = core.give(5, COPY).is_ok();
@@ -40,7 +41,10 @@ fn closed(
     let Ok(ended) = core.close() else {
         return Err(Fail::from("the disk failed"));
     };
-    let (store, taken) = ended;
+    let (mut store, taken) = ended;
+    let Ok(()) = store.refresh() else {
+        return Err(Fail::from("not opened"));
+    };
     if is_given {
         Ok((store, taken[5]))
     } else {
@@ -77,8 +81,12 @@ fn a_worker_with_a_request_takes_no_other(rt: HostRuntime) -> Result<(), Fail> {
         let _line = core.step(3, Tid(0));
     }
     assert_eq!(rt; core.give(3, CellRequest::Log), Ok(()));
-    let Ok((store, _taken)) = core.close() else {
+    let Ok(ended) = core.close() else {
         return Err(Fail::from("the disk failed"));
+    };
+    let (mut store, _taken) = ended;
+    let Ok(()) = store.refresh() else {
+        return Err(Fail::from("not opened"));
     };
     assert_eq!(rt; store.last(), Tid(1));
     Ok(())
