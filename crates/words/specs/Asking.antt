@@ -3,6 +3,7 @@ use Rattle.std.specs.Prelude.{ℕ, ◌&&◌, ◌==◌, List, Option, Some, None,
 use Rattle.std.specs.Str.{bytes_eq, all_ascii_digits}
 use Rattle.std.specs.Str.Parse.{digits_value}
 use Rattle.clap.specs.Words.{Row, Text, subcommand_of, fault_of, first_of}
+use Rattle.fs_store.specs.Stores.{most_length}
 use Rattle.words.specs.CommandLine.{zope}
 
 -- ---- numbers
@@ -11,10 +12,6 @@ use Rattle.words.specs.CommandLine.{zope}
 abbrev pub number_of : ℕ → Text → Option ℕ
 number_of most text = if (nat_lt 0 (length text) && nat_le (length text) 20) && (all_ascii_digits text && nat_le (digits_value 10 text) most)
     then Some (digits_value 10 text) else None
-
--- the greatest length of a file
-abbrev pub most_length : ℕ
-most_length = 281474976710655
 
 -- ---- what is asked for
 
