@@ -5,3 +5,4 @@ pub mod Voting
 pub mod Arms
 pub mod Cores
 pub mod Endings
+pub mod Armed

@@ -43,7 +43,7 @@ fn idle_slots<E: Evaluator>(alloc: Global) -> Result<Vec<Slot<E>>, Memory>
 /// Sixteen workers over one store, numbered from 0 to 15. Its disk may fail, and may tell nothing.
 pub struct Core<D: Disk + Drop, E: Evaluator> {
     alloc: Global,
-    store: Store<D>,
+    pub(crate) store: Store<D>,
     evaluator: E,
     slots: Vec<Slot<E>>,
 }
