@@ -1,5 +1,5 @@
 -- What it has cost to follow back pointers.
-use Rattle.std.proofs.Common.{◌≡◌, ◌≢◌, ℕ, suc, ◌+◌, ◌*◌, ◌≤◌, List, ◌++◌, drop, Option, Some, None, IfSome, refl, sym, ap, subst, ◌∙◌, arith}
+use Rattle.std.proofs.Common.{◌≡◌, ◌≢◌, ℕ, suc, ◌+◌, ◌*◌, ◌<◌, ◌≤◌, false, List, ◌++◌, drop, Option, Some, None, IfSome, refl, sym, ap, subst, ◌∙◌, arith}
 use Rattle.zdisk.specs.Disk.{Told, content}
 use Rattle.fs_record.specs.declared.heads.DataHead.{DataHead}
 use Rattle.fs_record.specs.declared.body.Body.{Body}
@@ -9,7 +9,7 @@ use Rattle.fs_record.specs.Fits.{FitsData}
 use Rattle.fs_record.specs.Spelling.{Data, data_spelling, head_of}
 use Rattle.fs_record.specs.Standing.{IsPlace}
 use Rattle.fs_scan.specs.Backs.{CostsBacks, LeadsTo, PointsTo}
-use Rattle.fs_scan.specs.Present.{AllStand, back_in}
+use Rattle.fs_scan.specs.Present.{AllStand, back_in, means_value}
 use Rattle.fs_scan.proofs.BodiesRead.{HasBody, HasHead}
 use Rattle.fs_scan.proofs.Present.{leads}
 
@@ -27,10 +27,10 @@ CameTo disk place at calls now = IfSome disk (λ told. (records : List Earlier) 
 abbrev Costs : Option Told → ℕ → ℕ → ℕ → Type 0
 Costs disk place calls more = IfSome disk (λ told. (records : List Earlier) (oid : ℕ) → AllStand (content told) records → IsPlace records oid place → CostsBacks (content told) place calls more)
 
-abbrev Headed : Option Told → ℕ → DataHead → Type 0
+abbrev pub Headed : Option Told → ℕ → DataHead → Type 0
 Headed disk at head = IfSome disk (λ told. (d : Data) (more : List ℕ) → FitsData d → drop at (content told) ≡ data_spelling d ++ more → head ≡ head_of d)
 
-abbrev Leads : Option Told → ℕ → ℕ → Type 0
+abbrev pub Leads : Option Told → ℕ → ℕ → Type 0
 Leads disk place at = IfSome disk (λ told. (records : List Earlier) (oid : ℕ) → AllStand (content told) records → IsPlace records oid place → IsPlace records oid at × (value_at at records ≡ value_at place records))
 
 pub begins : (disk : Option Told) (place calls : ℕ) → CameTo disk place place calls calls
@@ -76,12 +76,18 @@ headed_on (Some told) given at read head same has is = λ d more fits e. same_he
 back_of : (back : ℕ) (body : Body) → Some (Back back) ≡ Some body → Some back ≡ back_in body
 back_of back body e = ap back_in (same_body (Back back) body e)
 
+-- where it leads
+pub back_leads : (told : Told) (given : Option Told) (records : List Earlier) (oid at back : ℕ) (head : DataHead) → given ≡ Some told → Headed (Some told) at head → HasBody given at head (Some (Back back)) → AllStand (content told) records → IsPlace records oid at
+    → (back < at) × (back ≡ 0 → means_value records at ≡ false) × (back ≢ 0 → IsPlace records oid back × (value_at back records ≡ value_at at records))
+back_leads told given records oid at back head same headed body all is =
+    let there = subst (λ (x : Option Told). HasBody x at head (Some (Back back))) same body in
+    leads (content told) (drop at (content told)) records oid at (Some back) refl (λ d more fits e. back_of back d.body (there d more fits e (headed d more fits e))) all is
+
 pub leads_on : (disk given : Option Told) (place at back : ℕ) (head : DataHead) → given ≡ disk → Leads disk place at → Headed disk at head → HasBody given at head (Some (Back back)) → back ≢ 0 → Leads disk place back
 leads_on None given place at back head same way headed body some = tt
 leads_on (Some told) given place at back head same way headed body some = λ records oid all is.
     let here = way records oid all is in
-    let there = subst (λ (x : Option Told). HasBody x at head (Some (Back back))) same body in
-    let l = leads (content told) (drop at (content told)) records oid at (Some back) refl (λ d more fits e. back_of back d.body (there d more fits e (headed d more fits e))) all here.0 in
+    let l = back_leads told given records oid at back head same headed body all here.0 in
     ((l.2 some).0, (l.2 some).1 ∙ here.1)
 
 -- ---- the end

@@ -3,6 +3,7 @@ mod Scanning
 pub mod Backwards
 pub mod CopiedTexts
 pub mod DataAt
+pub mod DataPlaces
 pub mod KeptPages
 pub mod KeptPlaces
 pub mod OneByOne

@@ -1,5 +1,5 @@
 -- A scan of a disk that tells, by the windows that it reads.
-use Rattle.std.proofs.Common.{◌≡◌, ℕ, ◌+◌, ◌-◌, List, length, drop, Option, Some, None, IfSome, ap, subst, ◌∙◌, arith}
+use Rattle.std.proofs.Common.{◌≡◌, ℕ, ◌+◌, ◌-◌, ◌≤◌, List, [], length, drop, Option, Some, None, IfSome, refl, ap, subst, ◌∙◌, arith, inl, inr}
 use Rattle.std.specs.Prelude.{◌==◌, if◌then◌else◌}
 use Rattle.std.proofs.lemmas.List.{length-append}
 use Rattle.zbase.specs.declared.ids.Row.{Row}
@@ -11,20 +11,37 @@ use Rattle.fs_scan.specs.declared.extent.Extent.{Extent}
 use Rattle.fs_scan.specs.declared.opening.Scanned.{Scanned}
 use Rattle.fs_scan.specs.declared.step.Step.TheVariants as steps
 use Rattle.fs_scan.specs.Newest.{AreNewest, greatest_of}
-use Rattle.fs_scan.specs.Scanned.{Tells}
+use Rattle.fs_scan.specs.Scanned.{CostsScan, Tells}
 use Rattle.fs_scan.specs.Taking.{StepSays}
 use Rattle.fs_scan.specs.Windows.{Shows}
-use Rattle.fs_scan.proofs.Scanning.{ScansTo, damaged, goes_on, told}
+use Rattle.fs_scan.proofs.Scanning.{ScansBy, ScansTo, damaged, goes_by, told}
 use Rattle.fs_scan.proofs.Windows.{shown}
 
+-- ---- what it costs
+
+pub came_to : (disk : Option Told) (at id floor count : ℕ) (places : List Row) (calls now : ℕ) → IfSome disk (λ told. ScansBy (content told) at id floor count places calls now) → IfSome disk (λ told. ScansTo (content told) at id floor count places)
+came_to None at id floor count places calls now c = tt
+came_to (Some told) at id floor count places calls now c = c.to
+
+-- nothing was passed
+pub costs_begin : (disk : Option Told) (calls more : ℕ) → more ≤ calls + 4 → IfSome disk (λ told. CostsScan (content told) calls more)
+costs_begin None calls more le = tt
+costs_begin (Some told) calls more le = record { blocks = []; begin = inl refl; within = omega arith }
+
+pub costs : (disk : Option Told) (at id floor count : ℕ) (places : List Row) (calls now more : ℕ) → IfSome disk (λ told. ScansBy (content told) at id floor count places calls now) → more ≤ now + 2 → IfSome disk (λ told. CostsScan (content told) calls more)
+costs None at id floor count places calls now more c le = tt
+costs (Some told) at id floor count places calls now more c le = record { blocks = c.to.blocks; begin = inr (c.to.right, (drop at (content told), c.to.joined)); within = omega (arith, c.within, le) }
+
+-- ---- its steps
+
 module _ (disk : Option Told) (at id floor count : ℕ) (window : List ℕ) (old new : List Row) (came : IfSome disk (λ told. ScansTo (content told) at id floor count old)) (shows : IfSome disk (λ told. Shows window (drop at (content told)))) where
-  pub scans_on : (e : Extent) (next id2 floor2 count2 : ℕ) → StepSays window at id old new (steps.Right e) → next ≡ at + (e.long + 8) → id2 ≡ (if e.head.status == 117 then id else e.head.tid) → floor2 ≡ (if e.head.status == 112 then e.head.tid else floor) → count2 ≡ (if e.head.status == 117 then count else count + 1)
-      → IfSome disk (λ told. ScansTo (content told) next id2 floor2 count2 new)
-  scans_on e next id2 floor2 count2 says is i f n = by_disk disk came shows
+  pub scans_on : (e : Extent) (next id2 floor2 count2 calls now more : ℕ) → IfSome disk (λ told. ScansBy (content told) at id floor count old calls now) → more ≤ now + 2 → StepSays window at id old new (steps.Right e) → next ≡ at + (e.long + 8) → id2 ≡ (if e.head.status == 117 then id else e.head.tid) → floor2 ≡ (if e.head.status == 112 then e.head.tid else floor) → count2 ≡ (if e.head.status == 117 then count else count + 1)
+      → IfSome disk (λ told. ScansBy (content told) next id2 floor2 count2 new calls more)
+  scans_on e next id2 floor2 count2 calls now more by le says is i f n = by_disk disk by shows
     where
-      by_disk : (d : Option Told) → IfSome d (λ told. ScansTo (content told) at id floor count old) → IfSome d (λ told. Shows window (drop at (content told))) → IfSome d (λ told. ScansTo (content told) next id2 floor2 count2 new)
+      by_disk : (d : Option Told) → IfSome d (λ told. ScansBy (content told) at id floor count old calls now) → IfSome d (λ told. Shows window (drop at (content told))) → IfSome d (λ told. ScansBy (content told) next id2 floor2 count2 new calls more)
       by_disk None c w = tt
-      by_disk (Some told) c w = rw is (goes_on (content told) at id floor count id2 floor2 count2 old new e c (shown window (drop at (content told)) at id old new (steps.Right e) w says).1 i f n)
+      by_disk (Some told) c w = rw is (goes_by (content told) at id floor count id2 floor2 count2 calls now more old new e c (shown window (drop at (content told)) at id old new (steps.Right e) w says).1 i f n le)
 
   pub scan_breaks : (k kind : Kind) (place : ℕ) → StepSays window at id old new (steps.Damaged k) → k ≡ kind → at ≡ place → IfSome disk (λ told. Damaged (content told) place kind)
   scan_breaks k kind place says is here = by_disk disk came shows

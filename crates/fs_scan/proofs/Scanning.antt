@@ -1,5 +1,5 @@
 -- A scan that has come to a place.
-use Rattle.std.proofs.Common.{◌≡◌, ℕ, ◌+◌, ◌≤◌, Bool, true, false, List, [], ◌∷◌, ◌++◌, length, drop, refl, sym, ap, subst, ◌∙◌, append_assoc, arith, inl, inr}
+use Rattle.std.proofs.Common.{◌≡◌, ℕ, ◌+◌, ◌*◌, ◌≤◌, Bool, true, false, List, [], ◌∷◌, ◌++◌, length, drop, refl, sym, ap, subst, ◌∙◌, append_assoc, arith, inl, inr}
 use Rattle.std.specs.Prelude.{◌==◌, IsErrOf, Err, if◌then◌else◌}
 use Rattle.std.proofs.lemmas.List.{length-append, drop-drop}
 use Rattle.zbase.specs.declared.ids.Row.{Row}
@@ -115,3 +115,16 @@ same_damage bytes k kind at place d e =
 pub goes_on : (bytes : List ℕ) (at id floor count id2 floor2 count2 : ℕ) (old new : List Row) (e : Extent) → ScansTo bytes at id floor count old → Takes (drop at bytes) at id old new e
     → id2 ≡ (if e.head.status == 117 then id else e.head.tid) → floor2 ≡ (if e.head.status == 112 then e.head.tid else floor) → count2 ≡ (if e.head.status == 117 then count else count + 1) → ScansTo bytes (at + (e.long + 8)) id2 floor2 count2 new
 goes_on bytes at id floor count id2 floor2 count2 old new e c k i f n = rw (i, f, n) (went bytes at id floor count old new e c k)
+
+-- ---- what it has cost
+
+-- the scan has come to the place by two calls for each transaction, and two before
+pub record ScansBy (bytes : List ℕ) (at id floor count : ℕ) (places : List Row) (calls now : ℕ) : Type 0 where
+  pub to : ScansTo bytes at id floor count places
+  pub within : now ≤ calls + 2 + 2 * length to.blocks
+
+pub goes_by : (bytes : List ℕ) (at id floor count id2 floor2 count2 calls now more : ℕ) (old new : List Row) (e : Extent) → ScansBy bytes at id floor count old calls now → Takes (drop at bytes) at id old new e
+    → id2 ≡ (if e.head.status == 117 then id else e.head.tid) → floor2 ≡ (if e.head.status == 112 then e.head.tid else floor) → count2 ≡ (if e.head.status == 117 then count else count + 1) → more ≤ now + 2 → ScansBy bytes (at + (e.long + 8)) id2 floor2 count2 new calls more
+unfolding went
+goes_by bytes at id floor count id2 floor2 count2 calls now more old new e c k i f n le =
+    rw (i, f, n) (record { to = went bytes at id floor count old new e c.to k; within = omega (arith, c.within, le) })

@@ -1,18 +1,19 @@
-ghost use Rattle.std.specs.Prelude.{◌≡◌, ◌+◌, ◌≤◌, ◌++◌, ℕ, List, IfOk, IfSome, IsErr, IsErrOf, Some, drop, length};
-ghost use Rattle.std.specs.Option.{ForSome};
+ghost use Rattle.std.specs.Prelude.{◌≡◌, ◌+◌, ◌<◌, ◌≤◌, ◌++◌, ℕ, List, IfOk, IfSome, IsErr, IsErrOf, Some, drop, length};
+ghost use Rattle.std.specs.Option.{ForSome, option_map};
 ghost use Rattle.zbase.specs.Faults.{Counts};
 ghost use Rattle.zdisk.specs.Disk.{content};
 ghost use Rattle.fs_record.specs.declared.damage.Damage.{Damage as Kind};
+ghost use Rattle.fs_record.specs.declared.body.Body.TheVariants.{Back};
 ghost use Rattle.fs_record.specs.File.{Earlier, value_at};
 ghost use Rattle.fs_record.specs.Fits.{FitsData};
 ghost use Rattle.fs_record.specs.Spelling.{Data, data_spelling, head_of};
 ghost use Rattle.fs_record.specs.Standing.{IsPlace};
-ghost use Rattle.fs_scan.specs.Backs.{CostsBacks};
+ghost use Rattle.fs_scan.specs.Backs.{CostsBacks, HasDataOf};
 ghost use Rattle.fs_scan.specs.Present.{AllStand};
 
 use crate::ScanRefusal;
 use crate::window::read_range;
-use fs_record::{BACK_LEN, Body, DATA_HEAD_LEN, DataHead, read_data_head};
+use fs_record::{BACK_LEN, BACK_RECORD_LEN, Body, DATA_HEAD_LEN, DataHead, read_data_head};
 use std::alloc::Global;
 use zbase::{Bytes, Failed, Value, u64_at};
 use zdisk::Disk;
@@ -114,6 +115,67 @@ pub fn follow_from<D: Disk>(
             None => return Ok(None),
         }
     }
+}
+
+// Where the data record with this head, which has no data, points back to: one device call at most. None only where no
+// such record stands at the place.
+fn back_behind<D: Disk>(
+    disk: &mut D,
+    len: u64,
+    at: u64,
+    head: &DataHead,
+) -> Result<Option<u64>, Failed>
+    requires len { ForSome (D.told disk.old) (λ told. len ≡ length (content told)) }
+    requires no_data { head.now.length ≡ 0 }
+    ensures back { IfOk result (λ back. IfSome (D.told disk.old) (λ told. (d : Data) (more : List ℕ) → FitsData d → drop at (content told) ≡ data_spelling d ++ more → head.now ≡ head_of d → option_map Back back ≡ Some d.body)) }
+    ensures same { D.told disk.new ≡ D.told disk.old }
+    ensures spare { (D.spare_calls disk.new ≡ D.spare_calls disk.old) × (D.spare_bytes disk.new ≡ D.spare_bytes disk.old) }
+    ensures reads { (D.counter disk.new).calls ≤ (D.counter disk.old).calls + 1 }
+    ensures counts { Counts (D.counter disk.old) (D.counter disk.new) (IsErr result) }
+{
+    let left = len.saturating_sub(at);
+    if left < BACK_RECORD_LEN as u64 {
+        return Ok(None);
+    }
+    let mut behind = [0u8; BACK_LEN];
+    disk.read_at(at + DATA_HEAD_LEN as u64, &mut behind)?;
+    Ok(Some(u64_at(&behind, 0)))
+}
+
+/// Where the data stands that the record with this head at a place means, in a disk's file of this length: there, or at
+/// the record to which its back pointers lead; 0 where they lead to none. Two device calls for each back pointer, and no
+/// memory.
+pub fn data_place<D: Disk>(
+    disk: &mut D,
+    len: u64,
+    place: u64,
+    head: &DataHead,
+) -> Result<u64, Failed>
+    requires len { ForSome (D.told disk.old) (λ told. len ≡ length (content told)) }
+    requires head { IfSome (D.told disk.old) (λ told. (d : Data) (more : List ℕ) → FitsData d → drop place (content told) ≡ data_spelling d ++ more → head.now ≡ head_of d) }
+    ensures data_stands { IfOk result (λ at. IfSome (D.told disk.old) (λ told. (records : List Earlier) (oid : ℕ) → AllStand (content told) records → IsPlace records oid place → 0 < place → HasDataOf (content told) records oid place at)) }
+    ensures same { D.told disk.new ≡ D.told disk.old }
+    ensures spare { (D.spare_calls disk.new ≡ D.spare_calls disk.old) × (D.spare_bytes disk.new ≡ D.spare_bytes disk.old) }
+    ensures reads { IfSome (D.told disk.old) (λ told. (records : List Earlier) (oid : ℕ) → AllStand (content told) records → IsPlace records oid place → CostsBacks (content told) place (D.counter disk.old).calls (D.counter disk.new).calls) }
+    ensures counts { Counts (D.counter disk.old) (D.counter disk.new) (IsErr result) }
+{
+    let mut at = place;
+    let mut head = *head;
+    'back: while head.length == 0 {
+        let Some(back) = back_behind(disk, len, at, &head)? else {
+            return Ok(0);
+        };
+        // an earlier place, since the file was judged: a disk that tells nothing may say what it likes
+        if back == 0 || back >= at {
+            return Ok(0);
+        }
+        let Some(earlier) = read_head(disk, len, back)? else {
+            return Ok(0);
+        };
+        head = earlier;
+        at = back;
+    }
+    Ok(at)
 }
 
 /// The value that the data record at a place means, as `follow_from`: two device calls for it, and two for each back

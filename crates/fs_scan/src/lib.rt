@@ -24,7 +24,7 @@ mod wholes;
 mod window;
 
 pub use checking::{Checked, check, check_bytes};
-pub use following::{follow_from, read_head};
+pub use following::{data_place, follow_from, read_head};
 pub use opening::{ScanRefusal, Scanned, scan, scan_bytes};
 pub use walk::Walk;
 pub use wholes::{OidValue, OidValues, Whole, Wholes};

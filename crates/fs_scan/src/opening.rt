@@ -3,7 +3,7 @@ ghost use Rattle.zbase.specs.Faults.{Counts};
 ghost use Rattle.zdisk.specs.Disk.{content};
 ghost use Rattle.fs_record.specs.declared.damage.Damage.{Damage as Kind};
 ghost use Rattle.fs_record.specs.Opening.{Damaged};
-ghost use Rattle.fs_scan.specs.Scanned.{Tells};
+ghost use Rattle.fs_scan.specs.Scanned.{CostsScan, Tells};
 ghost use Rattle.fs_scan.specs.declared.opening.ScanRefusal.TheVariants as refusals;
 
 use crate::extent::{Extent, last_behind};
@@ -177,7 +177,7 @@ pub fn read_whole<D: Disk>(alloc: Global, disk: &mut D) -> Result<Vec<u8>, ScanR
 }
 
 /// What the file of a disk has: its end, its torn rest, each object's last data record; or what is wrong with it
-/// and where. It reads the file once, a transaction at a time, and changes nothing.
+/// and where. It reads the file once, a transaction at a time, each by two device calls at most, and changes nothing.
 ///
 /// FileStorage format notes: a file is read forward from its start, and a write that was broken off ends it.
 pub fn scan<D: Disk>(alloc: Global, disk: &mut D) -> Result<Scanned, ScanRefusal>
@@ -185,6 +185,7 @@ pub fn scan<D: Disk>(alloc: Global, disk: &mut D) -> Result<Scanned, ScanRefusal
     ensures damaged { (kind : Kind) (place : ℕ) → IsErrOf result (ScanRefusal.Damaged kind place) → IfSome (D.told disk.old) (λ told. Damaged (content told) place kind) }
     ensures same { D.told disk.new ≡ D.told disk.old }
     ensures spare { (D.spare_calls disk.new ≡ D.spare_calls disk.old) × (D.spare_bytes disk.new ≡ D.spare_bytes disk.old) }
+    ensures reads { IfSome (D.told disk.old) (λ told. CostsScan (content told) (D.counter disk.old).calls (D.counter disk.new).calls) }
     ensures counts { Counts (D.counter disk.old) (D.counter disk.new) (IsErrOf result ScanRefusal.Disk) }
 {
     let len = disk.len()?;

@@ -51,7 +51,7 @@ fn window_size(head: &[u8], left: u64) -> Option<u64>
 }
 
 /// What shows what stands at a place in a disk's file of this length: the transaction that stands there, or all that
-/// is left, or the head of a torn rest.
+/// is left, or the head of a torn rest. Two device calls at most.
 pub fn read_window<D: Disk>(
     alloc: Global,
     disk: &mut D,
@@ -64,6 +64,7 @@ pub fn read_window<D: Disk>(
     ensures undamaged { (kind : Kind) (place : ℕ) → IsErrOf result (ScanRefusal.Damaged kind place) → ⊥ }
     ensures same { D.told disk.new ≡ D.told disk.old }
     ensures spare { (D.spare_calls disk.new ≡ D.spare_calls disk.old) × (D.spare_bytes disk.new ≡ D.spare_bytes disk.old) }
+    ensures reads { (D.counter disk.new).calls ≤ (D.counter disk.old).calls + 2 }
     ensures counts { Counts (D.counter disk.old) (D.counter disk.new) (IsErrOf result ScanRefusal.Disk) }
 {
     let left = len.saturating_sub(at);

@@ -1,39 +1,20 @@
 -- What is written of a draft is what it settles to.
-use Rattle.std.proofs.Common.{◌≡◌, ℕ, zero, suc, ◌+◌, ◌<◌, ◌==◌, Bool, true, false, cond, List, [], ◌∷◌, length, map, get_or, refl, sym, ap, ◌∙◌, arith, ne_eqb}
-use Rattle.std.specs.Prelude.{◌||◌, nat_lt, All}
+use Rattle.std.proofs.Common.{◌≡◌, ℕ, zero, suc, ◌+◌, ◌<◌, Bool, true, false, cond, List, [], ◌∷◌, length, map, get_or, refl, ap, ◌∙◌, arith}
+use Rattle.std.specs.Prelude.{nat_lt, All}
 use Rattle.std.proofs.lemmas.List.Elements.{All-head, All-tail}
 use Rattle.std.proofs.lemmas.List.Sums.{sum_by-cons}
 use Rattle.zbase.specs.History.{Transaction, Value}
-use Rattle.zbase.specs.Values.{upto, value, value_of as value_in}
-use Rattle.zdisk.specs.Disk.{Told}
+use Rattle.zdisk.specs.Disk.{Told, content}
 use Rattle.evaluator.specs.declared.draft.Draft.{Draft}
 use Rattle.evaluator.specs.Settle.{by_oid, placed as placed_record}
-use Rattle.fs_record.specs.declared.body.Body.TheVariants.{Back}
 use Rattle.fs_record.specs.declared.body.Item.{Item}
-use Rattle.fs_record.specs.File.{Earlier, is_right_body, rows, value_of}
+use Rattle.fs_record.specs.File.{Earlier}
 use Rattle.fs_record.specs.Sizes.{record_size, records_size}
 use Rattle.fs_record.specs.Written.{HasBody}
 use Rattle.fs_store.specs.Drafts.{sizes_of}
-use Rattle.fs_store.specs.Finding.{FoundAt, FoundNone}
-use Rattle.fs_store.specs.Fronts.{history_at, records_at}
+use Rattle.fs_store.specs.Fronts.{records_at}
+use Rattle.fs_store.specs.Pointing.{IsDirect}
 use Rattle.fs_store.specs.Settled.{AreOf, IsRight, IsSettled, SettlesAs, in_order, placed, says}
-use Rattle.fs_store.specs.declared.finding.Record.{Record}
-
--- ---- what is put back
-
-pub back_none : (told : Told) (end oid t : ℕ) → FoundNone told end oid t → value_of (records_at told end) (Back 0) ≡ value (upto (history_at told end) t) oid
-back_none told end oid t f = sym (ap value_in f.none)
-
-pub back_found : (told : Told) (end oid t : ℕ) (found : Record) → FoundAt told end oid t found.place found.head → value_of (records_at told end) (Back found.place) ≡ value (upto (history_at told end) t) oid
-back_found told end oid t found f =
-    rw (ne_eqb found.place 0 (λ e. omega (arith, e, f.above))) (sym (ap value_in f.newest_is))
-
-or_right : (a b : Bool) → b ≡ true → (a || b) ≡ true
-or_right true b e = refl
-or_right false b e = e
-
-pub right_found : (told : Told) (end oid t : ℕ) (found : Record) → FoundAt told end oid t found.place found.head → is_right_body (rows (records_at told end)) oid (Back found.place) ≡ true
-right_found told end oid t found f = or_right (found.place == 0) _ f.is_place
 
 -- ---- by rising ids
 
@@ -86,10 +67,12 @@ size_in_order (i ∷ is) = size_placed i (in_order is) ∙ omega (arith, sum_by-
 abbrev transaction_with : Draft → ℕ → List (ℕ × Value) → Transaction
 transaction_with d tid rs = record { tid = tid; user = d.user; description = d.description; extension = []; records = rs }
 
-pub settles : (told : Told) (end : ℕ) (d : Draft) (items : List Item) → AreOf told end d.entries items → SettlesAs told end d (record { texts = record { user = d.user; description = d.description; extension = [] }; items = in_order items })
-settles told end d items are = record {
+pub settles : (told : Told) (end : ℕ) (d : Draft) (items : List Item) → AreOf told end d.entries items → All (λ item. IsDirect (content told) item.body) items
+    → SettlesAs told end d (record { texts = record { user = d.user; description = d.description; extension = [] }; items = in_order items })
+settles told end d items are direct = record {
   said = λ tid. ap (transaction_with d tid) (said_in_order (records_at told end) items ∙ ap by_oid are.0);
   right = all_in_order (IsRight (records_at told end)) items are.1;
+  direct = all_in_order (λ item. IsDirect (content told) item.body) items direct;
 }
 
 pub is_settled : (d : Draft) (items : List Item) → All HasBody items → records_size items ≡ sizes_of d.entries → IsSettled d (record { texts = record { user = d.user; description = d.description; extension = [] }; items = in_order items })

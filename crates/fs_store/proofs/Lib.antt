@@ -7,7 +7,9 @@ pub mod PartSteps
 pub mod Files
 pub mod Images
 pub mod InOrder
+pub mod OpeningCosts
 pub mod OpeningMoments
+pub mod PutBack
 pub mod Readings
 pub mod Stale
 pub mod Sorting

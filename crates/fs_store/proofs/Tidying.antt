@@ -64,7 +64,7 @@ pub synced_alone : (old given synced new : Option Told) (end torn : ℕ) → giv
 synced_alone old given synced new end torn same call still none = record { first = synced; synced = subst (λ (d : Option Told). Follows d synced Synced) same call; then = inl (none, still) }
 
 -- what is said of a file's content, said of the file before it was synced
-content_before : (P : List ℕ → Type 0) (old new : Option Told) → Follows old new Synced → IfSome new (λ told. P (content told)) → IfSome old (λ told. P (content told))
+pub content_before : (P : List ℕ → Type 0) (old new : Option Told) → Follows old new Synced → IfSome new (λ told. P (content told)) → IfSome old (λ told. P (content told))
 content_before P None None call p = tt
 content_before P None (Some t) call p = absurd call
 content_before P (Some o) None call p = absurd call

@@ -4,6 +4,7 @@ use Rattle.fs_record.specs.File.{Front, IsFile}
 use Rattle.fs_record.specs.Opening.{Cut, Damaged, status_in}
 use Rattle.zdisk.specs.Calls.{AnyImage, Follows, Mixed, changed, put}
 use Rattle.zdisk.specs.Disk.{Held, Told, content}
+use Rattle.fs_scan.specs.Scanned.{CostsScan}
 use Rattle.fs_store.specs.declared.opening.OpenRefusal.{OpenRefusal}
 use Rattle.fs_store.specs.Stores.{StoreView, most_length}
 
@@ -57,6 +58,13 @@ pub record Tidies (old new : Option Told) (end torn : ℕ) : Type 0 where
   pub first : Option Told
   pub synced : Follows old first Synced
   pub then : ((torn ≡ 0) × (new ≡ first)) ⊎ ((0 < torn) × CutsOff first new end)
+
+-- ---- what it costs
+
+-- What it may cost to open the bytes: a scan, and seven calls. The length is looked at, and the file synced; the status of a
+-- torn rest is read and set, and the file cut, and each of both synced.
+abbrev pub CostsOpening : List ℕ → ℕ → ℕ → Type 0
+CostsOpening bytes calls more = CostsScan bytes (calls + 7) more
 
 -- ---- a store that is open
 

@@ -2,21 +2,12 @@
 --
 -- FileStorage format notes: a data record has data, or it points back to an earlier record of the object; 0 means no value.
 -- A back pointer may lead to another; what a store writes leads to data at once, so that undo after undo makes no chain.
-use Rattle.std.specs.Prelude.{◌≡◌, ◌⊎◌, ◌++◌, ℕ, List, drop, take}
+use Rattle.std.specs.Prelude.{◌≡◌, ◌⊎◌, ℕ, List, drop, take}
 use Rattle.std.specs.List.{AllByRecursion}
 use Rattle.fs_record.specs.declared.body.Body.{Body}
 use Rattle.fs_record.specs.declared.body.Body.TheVariants.{Back, Full}
-use Rattle.fs_record.specs.Fits.{FitsData}
-use Rattle.fs_record.specs.Spelling.{Block, Data, Records, block_spelling, data_spelling}
-
--- a data record that has data stands at the place
-pub record HasData (bytes : List ℕ) (place : ℕ) : Type 0 where
-  pub written : Data
-  pub behind : List ℕ
-  pub fits : FitsData written
-  pub spelled : drop place bytes ≡ data_spelling written ++ behind
-  pub value : List ℕ
-  pub body : written.body ≡ Full value
+use Rattle.fs_record.specs.Spelling.{Block, Data, Records, block_spelling}
+use Rattle.fs_scan.specs.Backs.{HasData}
 
 -- data, or a back pointer to data, or to none
 abbrev pub IsDirect : List ℕ → Body → Type 0

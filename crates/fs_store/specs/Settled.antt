@@ -1,7 +1,7 @@
 -- A draft as the data records that are written of it.
 use Rattle.std.specs.Prelude.{◌≡◌, ◌+◌, ℕ, true, All, List, [], ◌∷◌, map, nat_lt, if◌then◌else◌}
 use Rattle.zbase.specs.History.{Value}
-use Rattle.zdisk.specs.Disk.{Told}
+use Rattle.zdisk.specs.Disk.{Told, content}
 use Rattle.evaluator.specs.declared.draft.Draft.{Draft}
 use Rattle.evaluator.specs.declared.draft.Entry.{Entry}
 use Rattle.evaluator.specs.Settle.{record_of, settle, size}
@@ -11,6 +11,7 @@ use Rattle.fs_record.specs.Sizes.{records_size, texts_size}
 use Rattle.fs_record.specs.Written.{HasBody, said_by}
 use Rattle.fs_store.specs.declared.settling.Settled.{Settled}
 use Rattle.fs_store.specs.Fronts.{history_at, records_at}
+use Rattle.fs_store.specs.Pointing.{IsDirect}
 
 -- what an item says, by the records before it
 abbrev pub says : List Earlier → Item → ℕ × Value
@@ -39,6 +40,7 @@ AreOf told end entries items = (map (says (records_at told end)) items ≡ map (
 pub record SettlesAs (told : Told) (end : ℕ) (d : Draft) (s : Settled) : Type 0 where
   pub said : (tid : ℕ) → said_by (records_at told end) tid s.texts s.items ≡ settle (history_at told end) d tid
   pub right : All (IsRight (records_at told end)) s.items
+  pub direct : All (λ item. IsDirect (content told) item.body) s.items
 
 -- what can be written of it, whatever the disk tells
 pub record IsSettled (d : Draft) (s : Settled) : Type 0 where

@@ -13,11 +13,12 @@ ghost use Rattle.fs_record.specs.Written.{HasBody, IsWritable, transaction};
 ghost use Rattle.fs_scan.specs.Newest.{place_in};
 ghost use Rattle.zbase.specs.History.{added};
 ghost use Rattle.evaluator.specs.Settle.{settle, size};
-ghost use Rattle.fs_store.specs.Drafts.{HasNoRestore};
+ghost use Rattle.fs_store.specs.Drafts.{LooksForNothing};
 ghost use Rattle.fs_store.specs.Fronts.{history_at, history_where, records_where};
 ghost use Rattle.fs_store.specs.Kept.{IsKept, IsVoted, Knowable, out_of};
 ghost use Rattle.fs_store.specs.Moments.{OpensTo};
 ghost use Rattle.fs_store.specs.Placed.{first_at, item_rows, next_with};
+ghost use Rattle.fs_store.specs.Pointing.{PointsToData};
 ghost use Rattle.fs_store.specs.Seeing.{SeenOn};
 ghost use Rattle.fs_store.specs.Staleness.{IsUnsettled};
 ghost use Rattle.fs_store.specs.Stores.{IsDraft, most_length};
@@ -127,6 +128,7 @@ pub(crate) fn vote_on<D: Disk>(
     requires seen { All (SeenOn (D.told disk.old) known.old.end) reads.now }
     ensures kept { IfOk result (λ w. IsKept (D.told disk.new) known.new limit (Some w) (D.spare_calls disk.new) (D.spare_bytes disk.new)) }
     ensures holder { IfOk result (λ w. w.holder ≡ holder) }
+    ensures direct { OnOk result (IfSome (D.told disk.new) (λ told. PointsToData (content told) known.new.end)) }
     ensures voted { IfOk result (λ w. IfSome (D.told disk.old) (λ told. IsVoted (D.told disk.new) (history_at told known.old.end) known.new limit holder draft.now reads.now now w)) }
     ensures refused { IfErr result (λ refusal. IfSome (D.told disk.old) (λ told. (refusal ≡ VoteRefusal.Memory) ⊎ ((refusal ≡ VoteRefusal.Disk) ⊎ (validation_at (history_at told known.old.end) known.old.end limit draft.now (clash_among (history_at told known.old.end) reads.now) ≡ Some refusal)))) }
     ensures own { IfErr result (λ refusal. (w : ℕ) → refusal ≡ VoteRefusal.Busy w → ⊥) }
@@ -136,7 +138,7 @@ pub(crate) fn vote_on<D: Disk>(
     ensures history { history_where (D.told disk.new) known.old.end ≡ history_where (D.told disk.old) known.old.end }
     ensures seen { (s : Seen) → SeenOn (D.told disk.old) known.old.end s → SeenOn (D.told disk.new) known.old.end s }
     ensures any_moment { LeavesFrom (D.told disk.old) (D.told disk.new) (λ file image. OpensTo image (history_where (D.told disk.old) known.old.end) known.old.end) }
-    ensures calls { OnOk result (HasNoRestore draft.now → (D.counter disk.new).calls ≡ counted (counted (D.counter disk.old).calls)) }
+    ensures calls { OnOk result (LooksForNothing draft.now → (D.counter disk.new).calls ≡ counted (counted (D.counter disk.old).calls)) }
     ensures twice { OnOk result (Twice (D.counter disk.old) (D.counter disk.new)) }
     ensures counts { Counts (D.counter disk.old) (D.counter disk.new) (IsErrOf result VoteRefusal.Disk) }
 {
@@ -170,6 +172,7 @@ fn wait_on<D: Disk>(
     requires later { known.old.last < tid }
     ensures kept { IfOk result (λ w. IsKept (D.told disk.new) known.new limit (Some w) (D.spare_calls disk.new) (D.spare_bytes disk.new)) }
     ensures holder { IfOk result (λ w. w.holder ≡ holder) }
+    ensures direct { OnOk result (IfSome (D.told disk.new) (λ told. PointsToData (content told) known.new.end)) }
     ensures waits { IfOk result (λ w. IfSome (D.told disk.old) (λ told. out_of (D.told disk.new) known.new.end w ≡ record { holder = holder; transaction = settle (history_at told known.old.end) draft.now tid; size = size draft.now })) }
     ensures stays { IsErrOf result LoadRefusal.Memory → IsKept (D.told disk.new) known.new limit None (D.spare_calls disk.new) (D.spare_bytes disk.new) × (D.told disk.new ≡ D.told disk.old) }
     ensures unsettled { OnErr result (IfSome (D.told disk.new) (IsUnsettled known.new.end None)) }
@@ -177,7 +180,7 @@ fn wait_on<D: Disk>(
     ensures history { history_where (D.told disk.new) known.old.end ≡ history_where (D.told disk.old) known.old.end }
     ensures seen { (s : Seen) → SeenOn (D.told disk.old) known.old.end s → SeenOn (D.told disk.new) known.old.end s }
     ensures any_moment { LeavesFrom (D.told disk.old) (D.told disk.new) (λ file image. OpensTo image (history_where (D.told disk.old) known.old.end) known.old.end) }
-    ensures calls { OnOk result (HasNoRestore draft.now → (D.counter disk.new).calls ≡ counted (counted (D.counter disk.old).calls)) }
+    ensures calls { OnOk result (LooksForNothing draft.now → (D.counter disk.new).calls ≡ counted (counted (D.counter disk.old).calls)) }
     ensures twice { OnOk result (Twice (D.counter disk.old) (D.counter disk.new)) }
     ensures counts { Counts (D.counter disk.old) (D.counter disk.new) (IsErrOf result LoadRefusal.Disk) }
 {

@@ -7,8 +7,9 @@ ghost use Rattle.fs_record.specs.declared.damage.Damage.{Damage as Kind};
 ghost use Rattle.fs_record.specs.Opening.{Damaged};
 ghost use Rattle.fs_record.specs.File.{last_place};
 ghost use Rattle.fs_scan.specs.Newest.{place_in};
+ghost use Rattle.fs_scan.specs.Scanned.{CostsScan};
 ghost use Rattle.fs_index.specs.Places.{place_of};
-ghost use Rattle.fs_store.specs.Opened.{BringsNot, CutOffFailed, CutsOff, IsRefusedFor, LeavesDisk, MayNotStay, Readies, StaysTorn, Tidies, waiting_from};
+ghost use Rattle.fs_store.specs.Opened.{BringsNot, CostsOpening, CutOffFailed, CutsOff, IsRefusedFor, LeavesDisk, MayNotStay, Readies, StaysTorn, Tidies, waiting_from};
 ghost use Rattle.fs_store.specs.FileReads.{Reads, above, of_scan};
 ghost use Rattle.fs_store.specs.Fronts.{history_where, records_where};
 ghost use Rattle.fs_store.specs.Kept.{IsKept};
@@ -108,6 +109,7 @@ fn read_file<D: Disk>(alloc: Global, disk: &mut D) -> Result<FileRead, ScanRefus
     ensures damaged { (kind : Kind) (place : ℕ) → IsErrOf result (ScanRefusal.Damaged kind place) → IfSome (D.told disk.old) (λ told. Damaged (content told) place kind) }
     ensures same { D.told disk.new ≡ D.told disk.old }
     ensures spare { (D.spare_calls disk.new ≡ D.spare_calls disk.old) × (D.spare_bytes disk.new ≡ D.spare_bytes disk.old) }
+    ensures costs { IfSome (D.told disk.old) (λ told. CostsScan (content told) (D.counter disk.old).calls (D.counter disk.new).calls) }
     ensures counts { Counts (D.counter disk.old) (D.counter disk.new) (IsErrOf result ScanRefusal.Disk) }
 {
     let Scanned {
@@ -140,6 +142,7 @@ fn stays_torn<D: Disk>(disk: &mut D, end: u64, torn: u64) -> Result<bool, Failed
     ensures long { IfOk result (λ stays. (stays ≡ false) → TXN_HEAD_LEN ≤ torn) }
     ensures same { D.told disk.new ≡ D.told disk.old }
     ensures spare { (D.spare_calls disk.new ≡ D.spare_calls disk.old) × (D.spare_bytes disk.new ≡ D.spare_bytes disk.old) }
+    ensures costs { (D.counter disk.new).calls ≤ (D.counter disk.old).calls + 1 }
     ensures counts { Counts (D.counter disk.old) (D.counter disk.new) (IsErr result) }
 {
     if torn < TXN_HEAD_LEN as u64 {
@@ -158,6 +161,7 @@ fn ready<D: Disk>(disk: &mut D, end: u64, torn: u64) -> Result<(), Failed>
     ensures ready { OnOk result (Readies (D.told disk.old) (D.told disk.new) end) }
     ensures failed { OnErr result ((D.told disk.new ≡ D.told disk.old) ⊎ (MayNotStay (D.told disk.old) end × BringsNot (waiting_from end) (D.told disk.old) (D.told disk.new))) }
     ensures room { 2 ≤ D.spare_calls disk.new }
+    ensures costs { (D.counter disk.new).calls ≤ (D.counter disk.old).calls + 3 }
     ensures counts { Counts (D.counter disk.old) (D.counter disk.new) (IsErr result) }
 {
     if stays_torn(disk, end, torn)? {
@@ -173,6 +177,7 @@ fn cut_off<D: Disk>(disk: &mut D, end: u64, torn: u64) -> Result<(), Failed>
     requires room { (4 ≤ D.spare_calls disk.old) × (1 ≤ D.spare_bytes disk.old) }
     ensures cut { OnOk result (CutsOff (D.told disk.old) (D.told disk.new) end) }
     ensures failed { OnErr result (CutOffFailed (D.told disk.old) (D.told disk.new) end) }
+    ensures costs { (D.counter disk.new).calls ≤ (D.counter disk.old).calls + 5 }
     ensures counts { Counts (D.counter disk.old) (D.counter disk.new) (IsErr result) }
 {
     ready(disk, end, torn)?;
@@ -188,6 +193,7 @@ pub(crate) fn open_file<D: Disk>(alloc: Global, disk: &mut D) -> Result<FileRead
     ensures tidies { IfOk result (λ read. Tidies (D.told disk.old) (D.told disk.new) read.known.end read.torn) }
     ensures refused { IfErr result (IsRefusedFor (D.told disk.old)) }
     ensures left { IfErr result (LeavesDisk (D.told disk.old) (D.told disk.new)) }
+    ensures costs { IfSome (D.told disk.old) (λ told. CostsOpening (content told) (D.counter disk.old).calls (D.counter disk.new).calls) }
     ensures counts { Counts (D.counter disk.old) (D.counter disk.new) (IsErrOf result OpenRefusal.Disk) }
 {
     let len = disk.len()?;
@@ -225,6 +231,7 @@ pub(crate) fn open_again<D: Disk>(
     ensures records { OnErr result (records_where (D.told disk.new) known.old.end ≡ records_where (D.told disk.old) known.old.end) }
     ensures seen { (seen : Seen) → SeenOn (D.told disk.old) known.old.end seen → SeenOn (D.told disk.new) known.new.end seen }
     ensures tells { IsSome (D.told disk.old) ↔ IsSome (D.told disk.new) }
+    ensures costs { IfSome (D.told disk.old) (λ told. CostsOpening (content told) (D.counter disk.old).calls (D.counter disk.new).calls) }
     ensures any_moment { LeavesFrom (D.told disk.old) (D.told disk.new) (λ file image. EitherOf (D.told disk.old) known.old.end undecided.now image) }
     ensures counts { Counts (D.counter disk.old) (D.counter disk.new) (IsErrOf result OpenRefusal.Disk) }
 {

@@ -9,9 +9,11 @@ ghost use Rattle.fs_record.specs.declared.body.Body.{Body};
 ghost use Rattle.fs_record.specs.File.{is_right_body, rows, value_of};
 ghost use Rattle.fs_record.specs.Sizes.{record_size, records_size};
 ghost use Rattle.fs_record.specs.Written.{HasBody, IsBody};
-ghost use Rattle.fs_store.specs.Drafts.{FitsEntries, FitsEntry, FitsHole, FitsName, HasNoRestore, IsWrite, sizes_of};
+ghost use Rattle.fs_store.specs.Drafts.{FitsEntries, FitsEntry, FitsHole, FitsName, LooksForNothing, NeedsNoLook, sizes_of};
 ghost use Rattle.fs_store.specs.Fronts.{history_at, records_at};
+ghost use Rattle.zdisk.specs.Disk.{content};
 ghost use Rattle.fs_store.specs.Knowing.{IsKnown};
+ghost use Rattle.fs_store.specs.Pointing.{IsDirect};
 ghost use Rattle.fs_store.specs.Settled.{AreOf, IsRight, IsSettled, SettlesAs, in_order, says};
 
 use crate::LoadRefusal;
@@ -20,6 +22,7 @@ use crate::known::Known;
 use byteorder::{BigEndian, ByteOrder};
 use evaluator::{Draft, Entry, Hole, Name};
 use fs_record::{Body, Item, NUMBER_LEN, TxnTexts};
+use fs_scan::data_place;
 use std::alloc::Global;
 use zbase::{Bytes, Failed, Items, Memory, Oid, Tid};
 use zdisk::Disk;
@@ -64,22 +67,28 @@ fn oid_of(name: Name, first: u128) -> u64
     }
 }
 
-// Where the record stands whose value is put back, 0 where the object had none.
+// Where the record stands that has the data that is put back, 0 where the object had none. To put none back nothing is
+// looked for.
 fn place_of<D: Disk>(disk: &mut D, known: &Known, oid: Oid, to: Tid) -> Result<u64, Failed>
     requires { IsKnown (D.told disk.old) known.now known.now.end }
     ensures value { IfOk result (λ place. IfSome (D.told disk.old) (λ told. value_of (records_at told known.now.end) (Body.Back place) ≡ value (upto (history_at told known.now.end) to) oid)) }
     ensures right { IfOk result (λ place. IfSome (D.told disk.old) (λ told. is_right_body (rows (records_at told known.now.end)) oid (Body.Back place) ≡ true)) }
+    ensures direct { IfOk result (λ place. IfSome (D.told disk.old) (λ told. IsDirect (content told) (Body.Back place))) }
+    ensures calls { to ≡ 0 → (D.counter disk.new).calls ≡ (D.counter disk.old).calls }
     ensures same { D.told disk.new ≡ D.told disk.old }
     ensures spare { (D.spare_calls disk.new ≡ D.spare_calls disk.old) × (D.spare_bytes disk.new ≡ D.spare_bytes disk.old) }
     ensures counts { Counts (D.counter disk.old) (D.counter disk.new) (IsErr result) }
 {
+    if to.0 == 0 {
+        return Ok(0);
+    }
     match find(disk, known, known.end, oid, to)? {
         None => Ok(0),
-        Some(found) => Ok(found.place),
+        Some(found) => data_place(disk, known.end, found.place, &found.head),
     }
 }
 
-// The data record of an entry. What is put back isn't written again: a back pointer leads to it.
+// The data record of an entry. What is put back isn't written again: a back pointer leads to the record that has it.
 fn item_of<D: Disk>(
     alloc: Global,
     disk: &mut D,
@@ -90,9 +99,10 @@ fn item_of<D: Disk>(
     requires fits { FitsEntry known.now.next entry.now }
     ensures said { IfOk result (λ item. IfSome (D.told disk.old) (λ told. says (records_at told known.now.end) item ≡ record_of (history_at told known.now.end) entry.now)) }
     ensures right { IfOk result (λ item. IfSome (D.told disk.old) (λ told. IsRight (records_at told known.now.end) item)) }
+    ensures direct { IfOk result (λ item. IfSome (D.told disk.old) (λ told. IsDirect (content told) item.body)) }
     ensures body { IfOk result HasBody }
     ensures size { IfOk result (λ item. record_size item ≡ size_of_entry entry.now) }
-    ensures calls { IsWrite entry.now → (D.counter disk.new).calls ≡ (D.counter disk.old).calls }
+    ensures calls { NeedsNoLook entry.now → (D.counter disk.new).calls ≡ (D.counter disk.old).calls }
     ensures same { D.told disk.new ≡ D.told disk.old }
     ensures spare { (D.spare_calls disk.new ≡ D.spare_calls disk.old) × (D.spare_bytes disk.new ≡ D.spare_bytes disk.old) }
     ensures counts { Counts (D.counter disk.old) (D.counter disk.new) (IsErrOf result LoadRefusal.Disk) }
@@ -128,9 +138,10 @@ fn items_of<D: Disk>(
     requires known { IsKnown (D.told disk.old) known.now known.now.end }
     requires fits { FitsEntries known.now.next entries.now }
     ensures are { IfOk result (λ items. IfSome (D.told disk.old) (λ told. AreOf told known.now.end entries.now items.items)) }
+    ensures direct { IfOk result (λ items. IfSome (D.told disk.old) (λ told. All (λ item. IsDirect (content told) item.body) items.items)) }
     ensures bodies { IfOk result (λ items. All HasBody items.items) }
     ensures size { IfOk result (λ items. records_size items.items ≡ sizes_of entries.now) }
-    ensures calls { AllByRecursion IsWrite entries.now → (D.counter disk.new).calls ≡ (D.counter disk.old).calls }
+    ensures calls { AllByRecursion NeedsNoLook entries.now → (D.counter disk.new).calls ≡ (D.counter disk.old).calls }
     ensures same { D.told disk.new ≡ D.told disk.old }
     ensures spare { (D.spare_calls disk.new ≡ D.spare_calls disk.old) × (D.spare_bytes disk.new ≡ D.spare_bytes disk.old) }
     ensures counts { Counts (D.counter disk.old) (D.counter disk.new) (IsErrOf result LoadRefusal.Disk) }
@@ -174,7 +185,7 @@ pub(crate) fn settle<D: Disk>(
     requires fits { FitsEntries known.now.next draft.now.entries }
     ensures settles { IfOk result (λ settled. IfSome (D.told disk.old) (λ told. SettlesAs told known.now.end draft.now settled)) }
     ensures settled { IfOk result (λ settled. IsSettled draft.now settled) }
-    ensures calls { HasNoRestore draft.now → (D.counter disk.new).calls ≡ (D.counter disk.old).calls }
+    ensures calls { LooksForNothing draft.now → (D.counter disk.new).calls ≡ (D.counter disk.old).calls }
     ensures same { D.told disk.new ≡ D.told disk.old }
     ensures spare { (D.spare_calls disk.new ≡ D.spare_calls disk.old) × (D.spare_bytes disk.new ≡ D.spare_bytes disk.old) }
     ensures counts { Counts (D.counter disk.old) (D.counter disk.new) (IsErrOf result LoadRefusal.Disk) }

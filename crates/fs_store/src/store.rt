@@ -7,10 +7,11 @@ ghost use Rattle.zdisk.specs.Crashes.{IsSynced};
 ghost use Rattle.zdisk.specs.Disk.{content, counted};
 ghost use Rattle.zdisk.specs.Images.{IsImage};
 ghost use Rattle.evaluator.specs.Facts.{log_row, parts_of};
-ghost use Rattle.fs_store.specs.Drafts.{HasNoRestore};
+ghost use Rattle.fs_store.specs.Drafts.{LooksForNothing};
 ghost use Rattle.fs_store.specs.Finding.{CostsLoad};
 ghost use Rattle.fs_store.specs.Moments.{IsWhole, KeepsGiven, KeepsOpening, OpensAsBefore, OpensAsKnown, OpensToEither};
-ghost use Rattle.fs_store.specs.Opened.{IsRefusedFor, LeavesDisk, Opens};
+ghost use Rattle.fs_store.specs.Opened.{CostsOpening, IsRefusedFor, LeavesDisk, Opens};
+ghost use Rattle.fs_store.specs.Pointing.{PointsToData};
 ghost use Rattle.fs_store.specs.Seeing.{IsSeen};
 ghost use Rattle.fs_store.specs.Stores.{IsDraft, IsTold, IsVoteOf, Loses, Out, Settles, Stands, Stays, finished, idle, most_length, on_disk, staled, unsettled, voting};
 ghost use Rattle.fs_store.specs.Verdicts.{tid_at, verdict, voted_out};
@@ -64,7 +65,7 @@ impl<D: Disk + Drop> Model for Store<D> {
 
 impl<D: Disk + Drop> Store<D> {
     /// The store of the history to which the disk's file opens, which may have `limit` bytes. The file is synced; a
-    /// torn rest is cut off, and the file synced again. With `Err` the disk comes back. Where each image of the given
+    /// torn rest is cut off, and the file synced again. The file is scanned once. With `Err` the disk comes back. Where each image of the given
     /// disk opens to one history, a stop at any moment leaves a file that opens to it.
     ///
     /// FileStorage format notes: a file is read forward from its start, and what a write left that was broken off is
@@ -77,6 +78,8 @@ impl<D: Disk + Drop> Store<D> {
         ensures left { IfErr result (λ (refusal, back). LeavesDisk (D.told disk) (D.told back) refusal) }
         ensures any_moment { IfOk result (λ store. KeepsGiven (D.told disk) store.disk.told) }
         ensures any_moment_refused { IfErr result (λ (_, back). KeepsGiven (D.told disk) (D.told back)) }
+        ensures reads { IfOk result (λ store. IfSome (D.told disk) (λ told. CostsOpening (content told) (D.counter disk).calls store.disk.counter.calls)) }
+        ensures reads_refused { IfErr result (λ (_, back). IfSome (D.told disk) (λ told. CostsOpening (content told) (D.counter disk).calls (D.counter back).calls)) }
         ensures counts { IfErr result (λ (refusal, back). Counts (D.counter disk) (D.counter back) (refusal ≡ OpenRefusal.Disk)) }
     {
         let mut disk = disk;
@@ -122,7 +125,8 @@ impl<D: Disk + Drop> Store<D> {
     }
 
     /// Opens a stale store's disk again; a store that isn't stale stays as it was. With `Ok` the store isn't stale: its
-    /// history is the one that was known, or that and the undecided transaction. With `Err` it is stale as before.
+    /// history is the one that was known, or that and the undecided transaction. With `Err` it is stale as before. The file is
+    /// scanned once, as by `open`: by two device calls for each transaction at most, and a few more.
     pub fn refresh(&mut self) -> Result<(), LoadRefusal>
         ensures nothing { self.old.stale ≡ false → self.new ≡ self.old }
         ensures no_refusal { self.old.stale ≡ false → IsOk result }
@@ -134,6 +138,7 @@ impl<D: Disk + Drop> Store<D> {
         ensures tells { IsTold self.old → IsTold self.new }
         ensures seen { (seen : Seen) → IsSeen self.old seen → IsSeen self.new seen }
         ensures any_moment { KeepsOpening self.old self.new }
+        ensures reads { IfSome self.old.disk.told (λ told. CostsOpening (content told) self.old.disk.counter.calls self.new.disk.counter.calls) }
         ensures counts { Counts self.old.disk.counter self.new.disk.counter (IsErrOf result LoadRefusal.Disk) }
     {
         if !self.stale {
@@ -178,8 +183,9 @@ impl<D: Disk + Drop> Store<D> {
         }
     }
 
-    /// What the object was up to the transaction `at`; a stale store is opened again first. Else it costs at most two device calls for its last record, two for each later
-    /// one that is passed, and two for each back pointer that is followed.
+    /// What the object was up to the transaction `at`. It costs at most two device calls for its last record, two for each
+    /// later one that is passed, and two for each back pointer that is followed. A stale store is opened again first, which
+    /// costs what an opening costs.
     pub fn load(&mut self, oid: Oid, at: Tid) -> Result<Loaded, LoadRefusal>
         ensures value { IfOk result (λ loaded. IsTold self.new → (loaded.value ≡ value (upto self.new.history at) oid) × (loaded.serial ≡ serial (upto self.new.history at) oid)) }
         ensures read { IfOk result (λ loaded. IsSeen self.new (record { oid = oid; serial = loaded.serial; place = loaded.place })) }
@@ -193,6 +199,7 @@ impl<D: Disk + Drop> Store<D> {
         ensures seen { (seen : Seen) → IsSeen self.old seen → IsSeen self.new seen }
         ensures any_moment { KeepsOpening self.old self.new }
         ensures reads { self.old.stale ≡ false → IfSome self.old.disk.told (λ told. CostsLoad told self.old.end oid at self.old.disk.counter.calls self.new.disk.counter.calls) }
+        ensures reads_again { IfSome self.old.disk.told (λ told. (calls : ℕ) × CostsOpening (content told) self.old.disk.counter.calls calls × IfSome self.new.disk.told (λ now. CostsLoad now self.new.end oid at calls self.new.disk.counter.calls)) }
         ensures counts { Counts self.old.disk.counter self.new.disk.counter (IsErrOf result LoadRefusal.Disk) }
     {
         self.refresh()?;
@@ -259,6 +266,7 @@ impl<D: Disk + Drop> Store<D> {
         ensures tid { IfOk result (λ voted. IsTold self.old → voted ≡ tid_at self.new.history now) }
         ensures out { IfOk result (λ voted. IsTold self.old → self.new.out ≡ Some (voted_out (idle self.new) holder draft voted)) }
         ensures held { IfOk result (λ voted. IsVoteOf self.new voted × (self.new.stale ≡ false)) }
+        ensures direct { IfOk result (λ _. IfSome self.new.disk.told (λ told. PointsToData (content told) self.new.end)) }
         ensures holder { IfOk result (λ _. (o : Out) → self.new.out ≡ Some o → o.holder ≡ holder) }
         ensures refused { IfErr result (λ (refusal, _). IsTold self.old → (refusal ≡ VoteRefusal.Memory) ⊎ ((refusal ≡ VoteRefusal.Disk) ⊎ (Settles self.old self.new × (verdict self.new reads.now draft ≡ Some refusal)))) }
         // A vote that is refused since another is out takes no memory and no device call.
@@ -275,7 +283,7 @@ impl<D: Disk + Drop> Store<D> {
         ensures tells { IsTold self.old → IsTold self.new }
         ensures seen { (seen : Seen) → IsSeen self.old seen → IsSeen self.new seen }
         ensures any_moment { KeepsOpening self.old self.new }
-        ensures calls { IfOk result (λ _. self.old.stale ≡ false → HasNoRestore draft → self.new.disk.counter.calls ≡ counted (counted self.old.disk.counter.calls)) }
+        ensures calls { IfOk result (λ _. self.old.stale ≡ false → LooksForNothing draft → self.new.disk.counter.calls ≡ counted (counted self.old.disk.counter.calls)) }
         ensures twice { IfOk result (λ _. Twice self.old.disk.counter self.new.disk.counter) }
         ensures counts { IfOk result (λ _. Counts self.old.disk.counter self.new.disk.counter ⊥) }
         ensures fault { IfErr result (λ (refusal, _). Counts self.old.disk.counter self.new.disk.counter (refusal ≡ VoteRefusal.Disk)) }

@@ -1,4 +1,4 @@
-use Rattle.std.proofs.Common.{◌≡◌, ◌+◌, ◌++◌, ℕ, List, IfSome, drop}
+use Rattle.std.proofs.Common.{◌≡◌, ◌++◌, ℕ, List, IfSome, drop}
 use Rattle.zbase.specs.Faults.{Counts}
 use Rattle.zdisk.specs.Disk.{content}
 use Rattle.fs_record.specs.File.{Earlier, value_at}

@@ -6,7 +6,7 @@ use Rattle.zdisk.specs.Disk.{Told, content}
 use Rattle.fs_scan.specs.declared.opening.ScanRefusal.{ScanRefusal}
 use Rattle.fs_scan.specs.Walked.{Course}
 use Rattle.fs_scan.specs.Windows.{Shows}
-use Rattle.fs_scan.proofs.ScanSteps.{scan_breaks, scan_ends, scans_on}
+use Rattle.fs_scan.proofs.ScanSteps.{came_to, costs, costs_begin, scan_breaks, scan_ends, scans_on}
 use Rattle.fs_scan.proofs.opening.scan.Goals as goal
 
 one_refusal : {T : Type 0} (x y : ScanRefusal) → IsErrOf {T = T} (Err x) y → x ≡ y
@@ -23,7 +23,7 @@ returns-in-Damaged-clause-damaged g c = λ kind place is.
     let says = rw c.deref.ensures.value at (rw c.in-Damaged.is at c.in_ok-step.ensures.ok) in
     let k : c.in-Damaged.kind ≡ kind = cc in
     let p : c.each.tally.at ≡ place = cc in
-    scan_breaks (g.D.Disk.told c.args.disk.now) c.each.tally.at c.each.tally.last c.each.tally.floor c.each.tally.count c.in_ok-window.window.items c.each.walk.records c.step.new.self.records i.came shows c.in-Damaged.kind kind place (rw i.last at says.0) k p
+    scan_breaks (g.D.Disk.told c.args.disk.now) c.each.tally.at c.each.tally.last c.each.tally.floor c.each.tally.count c.in_ok-window.window.items c.each.walk.records c.step.new.self.records (came_to _ _ _ _ _ _ _ _ i.came) shows c.in-Damaged.kind kind place (rw i.last at says.0) k p
 
 pub each-preserved : goal.each-preserved
 each-preserved g c =
@@ -34,7 +34,7 @@ each-preserved g c =
     let shows = subst (λ (d : Option Told). IfSome d (λ told. Shows c.in_ok-window.window.items (drop c.each.tally.at (content told)))) i.same w.shows in
     let says = rw i.last at (rw c.deref.ensures.value at (rw c.in-Right.is at c.in_ok-step.ensures.ok)) in
     record {
-      came = scans_on (g.D.Disk.told c.args.disk.now) c.each.tally.at c.each.tally.last c.each.tally.floor c.each.tally.count c.in_ok-window.window.items c.each.walk.records c.step.new.self.records i.came shows e _ _ _ _ says.0 b.at b.last b.floor b.count;
+      came = scans_on (g.D.Disk.told c.args.disk.now) c.each.tally.at c.each.tally.last c.each.tally.floor c.each.tally.count c.in_ok-window.window.items c.each.walk.records c.step.new.self.records (came_to _ _ _ _ _ _ _ _ i.came) shows e _ _ _ _ _ _ _ i.came w.reads says.0 b.at b.last b.floor b.count;
       length = i.length;
       here = ap (λ (course : Course). course.place) says.1 ∙ ap Some (sym b.at);
       last = ap (λ (course : Course). course.last) says.1 ∙ sym b.last;
@@ -54,4 +54,25 @@ returns-in-End-clause-told g c =
     let i = c.each.invariant in
     let shows = subst (λ (d : Option Told). IfSome d (λ told. Shows c.in_ok-window.window.items (drop c.each.tally.at (content told)))) i.same c.in_ok-window.ensures.shows in
     let says = rw c.deref.ensures.value at (rw c.in-End.is at c.in_ok-step.ensures.ok) in
-    scan_ends (g.D.Disk.told c.args.disk.now) c.each.tally.at c.each.tally.last c.each.tally.floor c.each.tally.count c.in_ok-window.window.items c.each.walk.records c.step.new.self.records i.came shows c.in_ok-len.len c.saturating_sub.result c.greatest.result c.in_ok-rows-in-End.rows c.told.result says.0 i.length (omega (arith, c.saturating_sub.ensures)) c.greatest.ensures c.in_ok-rows-in-End.ensures c.told.ensures
+    scan_ends (g.D.Disk.told c.args.disk.now) c.each.tally.at c.each.tally.last c.each.tally.floor c.each.tally.count c.in_ok-window.window.items c.each.walk.records c.step.new.self.records (came_to _ _ _ _ _ _ _ _ i.came) shows c.in_ok-len.len c.saturating_sub.result c.greatest.result c.in_ok-rows-in-End.rows c.told.result says.0 i.length (omega (arith, c.saturating_sub.ensures)) c.greatest.ensures c.in_ok-rows-in-End.ensures c.told.ensures
+
+pub returns-in_err-len-clause-reads : goal.returns-in_err-len-clause-reads
+returns-in_err-len-clause-reads g c = costs_begin (g.D.Disk.told c.args.disk.now) _ _ (omega (arith, c.in_err-len.ensures.call))
+
+pub returns-in_err-enter-clause-reads : goal.returns-in_err-enter-clause-reads
+returns-in_err-enter-clause-reads g c = costs_begin (g.D.Disk.told c.args.disk.now) _ _ (omega (arith, c.in_ok-len.ensures.call, c.in_err-enter.ensures.reads))
+
+pub returns-in_err-window-clause-reads : goal.returns-in_err-window-clause-reads
+returns-in_err-window-clause-reads g c = costs (g.D.Disk.told c.args.disk.now) _ _ _ _ _ _ _ _ c.each.invariant.came c.in_err-window.ensures.reads
+
+pub returns-in_err-step-clause-reads : goal.returns-in_err-step-clause-reads
+returns-in_err-step-clause-reads g c = costs (g.D.Disk.told c.args.disk.now) _ _ _ _ _ _ _ _ c.each.invariant.came c.in_ok-window.ensures.reads
+
+pub returns-in_err-rows-in-End-clause-reads : goal.returns-in_err-rows-in-End-clause-reads
+returns-in_err-rows-in-End-clause-reads g c = costs (g.D.Disk.told c.args.disk.now) _ _ _ _ _ _ _ _ c.each.invariant.came c.in_ok-window.ensures.reads
+
+pub returns-in-End-clause-reads : goal.returns-in-End-clause-reads
+returns-in-End-clause-reads g c = costs (g.D.Disk.told c.args.disk.now) _ _ _ _ _ _ _ _ c.each.invariant.came c.in_ok-window.ensures.reads
+
+pub returns-in-Damaged-clause-reads : goal.returns-in-Damaged-clause-reads
+returns-in-Damaged-clause-reads g c = costs (g.D.Disk.told c.args.disk.now) _ _ _ _ _ _ _ _ c.each.invariant.came c.in_ok-window.ensures.reads

@@ -4,7 +4,9 @@ use Rattle.std.specs.List.{AllByRecursion}
 use Rattle.zbase.specs.Faults.{Counts}
 use Rattle.fs_record.specs.Sizes.{records_size}
 use Rattle.fs_record.specs.Written.{HasBody}
-use Rattle.fs_store.specs.Drafts.{FitsEntry, IsWrite, sizes_of}
+use Rattle.fs_store.specs.Drafts.{FitsEntry, NeedsNoLook, sizes_of}
+use Rattle.zdisk.specs.Disk.{content}
+use Rattle.fs_store.specs.Pointing.{IsDirect}
 use Rattle.fs_store.specs.Settled.{AreOf}
 use Rattle.fs_store.proofs.settling.items_of.Given as goal
 
@@ -12,10 +14,11 @@ use Rattle.fs_store.proofs.settling.items_of.Given as goal
 abbrev pub invariant-loop-entry : goal.invariant-loop-entry
 invariant-loop-entry g l = record {
   are : IfSome (g.D.Disk.told l.fn.disk) (λ told. AreOf told l.known.end (take l.entry-index l.entries) l.items.items);
+  direct : IfSome (g.D.Disk.told l.fn.disk) (λ told. All (λ item. IsDirect (content told) item.body) l.items.items);
   bodies : All HasBody l.items.items;
   size : records_size l.items.items ≡ sizes_of (take l.entry-index l.entries);
   fits : AllByRecursion (FitsEntry l.known.next) (drop l.entry-index l.entries);
-  calls : AllByRecursion IsWrite (take l.entry-index l.entries) → (g.D.Disk.counter l.disk).calls ≡ (g.D.Disk.counter l.fn.disk).calls;
+  calls : AllByRecursion NeedsNoLook (take l.entry-index l.entries) → (g.D.Disk.counter l.disk).calls ≡ (g.D.Disk.counter l.fn.disk).calls;
   same : g.D.Disk.told l.disk ≡ g.D.Disk.told l.fn.disk;
   spare : (g.D.Disk.spare_calls l.disk ≡ g.D.Disk.spare_calls l.fn.disk) × (g.D.Disk.spare_bytes l.disk ≡ g.D.Disk.spare_bytes l.fn.disk);
   counts : Counts (g.D.Disk.counter l.fn.disk) (g.D.Disk.counter l.disk) ⊥;

@@ -7,7 +7,7 @@ use Rattle.fs_store.specs.declared.settling.Settled.{Settled}
 use Rattle.fs_store.specs.Drafts.{sizes_of}
 use Rattle.fs_store.specs.Settled.{AreOf, IsSettled, SettlesAs}
 use Rattle.fs_store.proofs.InOrder.{is_settled, settles}
-use Rattle.fs_store.proofs.Tellings.{on_told}
+use Rattle.fs_store.proofs.Tellings.{on_both}
 use Rattle.fs_store.proofs.settling.settle.Goals as goal
 
 abbrev with : TxnTexts → List Item → Settled
@@ -20,7 +20,7 @@ returns-clause-settles g c =
     let same = ap₂ with c.in_ok-texts.ensures (c.from_vec.ensures ∙ c.in_ok-items-2.ensures) in
     let are = subst (λ (es : List Entry). IfSome o (λ told. AreOf told c.args.known.now.end es c.in_ok-items.items.items)) c.as_slice.ensures c.in_ok-items.ensures.are in
     subst (λ (s : Settled). IfSome o (λ told. SettlesAs told c.args.known.now.end d s)) (sym same)
-    (on_told o _ _ (λ told a. settles told c.args.known.now.end d c.in_ok-items.items.items a) are)
+    (on_both o _ _ _ (λ told a direct. settles told c.args.known.now.end d c.in_ok-items.items.items a direct) are c.in_ok-items.ensures.direct)
 
 pub returns-clause-settled : goal.returns-clause-settled
 returns-clause-settled g c =

@@ -1,0 +1,39 @@
+use Rattle.std.proofs.Common.{ℕ, Option, subst, ◌∙◌, arith}
+use Rattle.std.specs.Option.{option_map}
+use Rattle.zbase.specs.Faults.{counts_as, counts_then}
+use Rattle.fs_record.specs.declared.body.Body.TheVariants.{Back}
+use Rattle.fs_scan.proofs.Backwards.{costs, further, headed_on, leads_on}
+use Rattle.fs_scan.proofs.BodiesRead.{HasBody}
+use Rattle.fs_scan.proofs.following.data_place.Goals as goal
+
+pub returns-in_err-earlier-clause-reads : goal.returns-in_err-earlier-clause-reads
+returns-in_err-earlier-clause-reads g c =
+    let o = g.D.Disk.told c.args.disk.now in
+    let i = c.back.invariant in
+    let b = c.in_ok-back.ensures in
+    let e = c.in_err-earlier.ensures in
+    let body = subst (λ (x : Option ℕ). HasBody (g.D.Disk.told c.back.disk) c.back.at c.back.head (option_map Back x)) c.in-Some.is b.back in
+    let calls = (g.D.Disk.counter c.args.disk.now).calls in
+    let now = (g.D.Disk.counter c.back.disk).calls in
+    let more = (g.D.Disk.counter c.read_head.new.disk).calls in
+    costs o c.args.place c.in-Some.back calls more more (further o _ c.args.place c.back.at c.in-Some.back calls now more c.back.head i.same i.came i.leads i.head body c.if-back-eq0.false (omega (arith, b.reads, e.reads))) (omega arith)
+
+pub back-preserved : goal.back-preserved
+back-preserved g c =
+    let o = g.D.Disk.told c.args.disk.now in
+    let i = c.back.invariant in
+    let b = c.in_ok-back.ensures in
+    let e = c.in_ok-earlier.ensures in
+    let body = subst (λ (x : Option ℕ). HasBody (g.D.Disk.told c.back.disk) c.back.at c.back.head (option_map Back x)) c.in-Some.is b.back in
+    let calls = (g.D.Disk.counter c.args.disk.now).calls in
+    let now = (g.D.Disk.counter c.back.disk).calls in
+    let more = (g.D.Disk.counter c.read_head.new.disk).calls in
+    record {
+      head = headed_on o _ c.in-Some.back c.in_ok-earlier.field-0 c.in-Some-2.earlier (b.same ∙ i.same) e.head c.in-Some-2.is;
+      leads = leads_on o _ c.args.place c.back.at c.in-Some.back c.back.head i.same i.leads i.head body c.if-back-eq0.false;
+      above = λ some. omega (arith, c.if-back-eq0.false);
+      came = further o _ c.args.place c.back.at c.in-Some.back calls now more c.back.head i.same i.came i.leads i.head body c.if-back-eq0.false (omega (arith, b.reads, e.reads));
+      same = e.same ∙ b.same ∙ i.same;
+      spare = (e.spare.0 ∙ b.spare.0 ∙ i.spare.0, e.spare.1 ∙ b.spare.1 ∙ i.spare.1);
+      counts = counts_then i.counts (λ none. none) (counts_then (counts_as b.counts (λ x. cc) (λ none. absurd none)) (λ none. none) (counts_as e.counts (λ x. cc) (λ none. absurd none)));
+    }
