@@ -34,23 +34,22 @@ class Hit(Exception):
 
 
 class Disk:
-    """A file, what of it was synced last, and one armed entry."""
+    """A file, what of it was synced last, and what is armed: by the number of a call whether it stops the disk, and a seed."""
 
-    def __init__(self, content, stops=False, call=0, seed=0):
-        self.content, self.synced = content, content
-        self.stops, self.left, self.seed = stops, call, seed
+    def __init__(self, content, armed):
+        self.content, self.synced, self.armed = content, content, armed
         self.calls, self.stopped = 0, False
 
     def _call(self, kind, new):
         self.calls += 1
-        self.left -= 1
         if self.stopped:
             raise Hit
-        if self.left == 0:
-            if self.stops:
-                self.content, self.stopped = chosen(self.seed, self.synced, new), True
+        if self.calls in self.armed:
+            stops, seed = self.armed[self.calls]
+            if stops:
+                self.content, self.stopped = chosen(seed, self.synced, new), True
             elif kind != "read":
-                self.content = chosen(self.seed, self.synced if kind == "sync" else self.content, new)
+                self.content = chosen(seed, self.synced if kind == "sync" else self.content, new)
             raise Hit
         self.content = new
         if kind == "sync":
@@ -214,11 +213,11 @@ def put_case(title, stops, seed, content, script, ending):
     print(f"{'stopping' if stops else 'failing'} each {seed}")
     put_disk("file", content)
     put_lines("script", script)
-    whole = Disk(content)
+    whole = Disk(content, {})
     answers = run(whole, ending)
     groups, before = 0, None
     for call in range(1, whole.calls + 1):
-        disk = Disk(content, stops, call, seed)
+        disk = Disk(content, {call: (stops, seed)})
         came = (run(disk, ending), disk.content)
         if came != before:
             put_group(*came, 0)
@@ -245,4 +244,5 @@ def main():
                 put_case(f"each device call of {what} {word} in turn", stops, seed, content, script, ending)
 
 
-main()
+if __name__ == "__main__":
+    main()

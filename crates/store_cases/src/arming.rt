@@ -42,13 +42,17 @@ pub fn each_of(case: &Case) -> Result<Option<(bool, u64)>, CasesRefusal> {
     Ok(None)
 }
 
-/// What is planned by `failing` and `stopping`, in the order of the case's lines, where an opening makes so many calls.
+/// What is planned by `failing` and `stopping` of one call, in the order of the case's lines, where an opening makes so many
+/// calls.
 pub fn planned_by(alloc: Global, case: &Case, opening: u64) -> Result<Vec<Planned>, CasesRefusal> {
     let mut planned = Vec::new(alloc);
     for part in &case.parts {
         let Some(stops) = stops_by(part.key()) else {
             continue;
         };
+        if part.word(1) == Some("each") {
+            continue;
+        }
         let before = if part.word(1) == Some("behind") {
             opening
         } else {
@@ -61,6 +65,20 @@ pub fn planned_by(alloc: Global, case: &Case, opening: u64) -> Result<Vec<Planne
         })?;
     }
     Ok(planned)
+}
+
+/// What is planned, and one call more behind it.
+pub fn with_one(
+    alloc: Global,
+    planned: &[Planned],
+    one: Planned,
+) -> Result<Vec<Planned>, CasesRefusal> {
+    let mut all = Vec::new(alloc);
+    for entry in planned {
+        all.push(*entry)?;
+    }
+    all.push(one)?;
+    Ok(all)
 }
 
 /// Arms what is planned on a disk that has had no call. The numbers of the calls have to rise.

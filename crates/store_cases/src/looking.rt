@@ -1,4 +1,4 @@
-//! Calls that change nothing.
+//! Calls that read.
 ghost use Rattle.std.specs.Prelude.{◌≡◌, false};
 ghost use Rattle.fs_store.specs.Stores.{IsTold};
 
@@ -10,9 +10,7 @@ use zdisk::MemoryDisk;
 
 // `load OID AT`.
 fn load(store: &mut Store<MemoryDisk>, step: &Part, out: &mut Bytes) -> Result<(), CasesRefusal>
-    requires fresh { store.old.stale ≡ false }
     requires told { IsTold store.old }
-    ensures fresh { store.new.stale ≡ false }
     ensures told { IsTold store.new }
     ensures out { store.new.out ≡ store.old.out }
 {
@@ -24,9 +22,7 @@ fn load(store: &mut Store<MemoryDisk>, step: &Part, out: &mut Bytes) -> Result<(
 
 // `parts TID AT`.
 fn parts(store: &mut Store<MemoryDisk>, step: &Part, out: &mut Bytes) -> Result<(), CasesRefusal>
-    requires fresh { store.old.stale ≡ false }
     requires told { IsTold store.old }
-    ensures fresh { store.new.stale ≡ false }
     ensures told { IsTold store.new }
     ensures out { store.new.out ≡ store.old.out }
 {
@@ -39,9 +35,7 @@ fn parts(store: &mut Store<MemoryDisk>, step: &Part, out: &mut Bytes) -> Result<
 
 // `log AT`.
 fn log(store: &mut Store<MemoryDisk>, step: &Part, out: &mut Bytes) -> Result<(), CasesRefusal>
-    requires fresh { store.old.stale ≡ false }
     requires told { IsTold store.old }
-    ensures fresh { store.new.stale ≡ false }
     ensures told { IsTold store.new }
     ensures out { store.new.out ≡ store.old.out }
 {
@@ -62,15 +56,21 @@ pub(crate) fn put_numbers(
     Ok(put_line(out, words, &[store.last().0, store.len()])?)
 }
 
-/// A call that changes nothing.
+// `last`, and the end of a vote that isn't out, which are asked of a stale store alone.
+fn put_stale(step: &Part, out: &mut Bytes) -> Result<(), CasesRefusal> {
+    match step.key() {
+        "last" | "finish" | "abort" => Ok(put_line(out, "stale", &[])?),
+        _ => Err(CasesRefusal::BadPart(step.line)),
+    }
+}
+
+/// A call that changes nothing but that a stale store is opened again.
 pub(crate) fn look(
     store: &mut Store<MemoryDisk>,
     step: &Part,
     out: &mut Bytes,
 ) -> Result<(), CasesRefusal>
-    requires fresh { store.old.stale ≡ false }
     requires told { IsTold store.old }
-    ensures fresh { store.new.stale ≡ false }
     ensures told { IsTold store.new }
     ensures out { store.new.out ≡ store.old.out }
 {
@@ -78,7 +78,8 @@ pub(crate) fn look(
         "load" => load(store, step, out),
         "parts" => parts(store, step, out),
         "log" => log(store, step, out),
-        "last" => put_numbers(store, "last", out),
+        "last" if !store.is_stale() => put_numbers(store, "last", out),
+        _ if store.is_stale() => put_stale(step, out),
         _ => Err(CasesRefusal::BadPart(step.line)),
     }
 }

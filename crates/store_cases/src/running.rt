@@ -1,5 +1,5 @@
 use crate::answers::put_open_refusal;
-use crate::arming::{Planned, arm, each_of, gone_on, planned_by};
+use crate::arming::{Planned, arm, each_of, gone_on, planned_by, with_one};
 use crate::looking::put_numbers;
 use crate::script::read_script;
 use crate::session::run_script;
@@ -16,7 +16,7 @@ use zdisk::{Disk, MemoryDisk};
 /// - `limit N`: how many bytes the file may have, 1,000,000 where it isn't said;
 /// - `failing disk N SEED`: the disk's call of number N fails, and leaves what the seed names, 0 where it isn't said; `failing
 ///   behind N SEED`: the N-th call behind those that the opening of `base` makes; `failing each SEED`: the script is run once
-///   for each of its calls, which fails then, and once more without a fault;
+///   for each of its calls behind those that fail or stop anyway, which fails then, and once more without;
 /// - `stopping` with the same words: the disk stops at that call, and goes on when the script has ended;
 /// - `fronts` with bytes: the script is run over the file with each front of these behind it, from none of them to all but
 ///   the last;
@@ -36,7 +36,8 @@ use zdisk::{Disk, MemoryDisk};
 /// | `close` | `closed`: the store hands its disk back |
 ///
 /// A call that reads may answer `unread disk` or `unread memory`. A value stands between quotation marks, `none` for none.
-/// A line without an open store answers `not open`, and one over a stale store `stale`. Behind a vote that stands open comes
+/// A line without an open store answers `not open`. Over a stale store `load`, `parts`, `log` and `vote` are called, which
+/// open it again, and `last`, `finish` and `abort` answer `stale`. Behind a vote that stands open comes
 /// its `finish` or `abort`, with other calls between, also votes, which are made without reads and are refused as busy; behind
 /// one that is refused comes none. A script that breaks this, or has another line, isn't run.
 ///
@@ -204,23 +205,30 @@ impl Groups {
     }
 }
 
-// Runs the script once for each of its calls, which stops the disk then or fails, and once more without a fault.
+// Runs the script once for each of its calls behind those that are planned, which stops the disk then or fails, and once
+// more without.
 fn run_each_call(
     alloc: Global,
     given: &Given,
+    planned: &[Planned],
     stops: bool,
     seed: u64,
 ) -> Result<Vec<Part>, CasesRefusal> {
     let mut groups = Groups::new(alloc);
-    let whole = run_once(alloc, given, &[], &[])?;
-    for earlier in 0..whole.calls {
+    let whole = run_once(alloc, given, &[], planned)?;
+    let first = match planned.last() {
+        Some(entry) => entry.number,
+        None => 0,
+    };
+    for earlier in first..whole.calls {
         let number = earlier + 1;
-        let planned = Planned {
+        let entry = Planned {
             stops,
             number,
             seed,
         };
-        let came = run_once(alloc, given, &[], &[planned])?;
+        let entries = with_one(alloc, planned, entry)?;
+        let came = run_once(alloc, given, &[], entries.as_slice())?;
         groups.put_new(given, came, number)?;
     }
     groups.put_new(given, whole, given.opening)?;
@@ -251,11 +259,11 @@ impl Runner for Scripts {
         if let Some(part) = case.part("fronts") {
             return run_each_front(alloc, &given, part.bytes.as_slice());
         }
+        let planned = planned_by(alloc, case, given.opening)?;
         if let Some((stops, seed)) = each_of(case)? {
-            return run_each_call(alloc, &given, stops, seed);
+            return run_each_call(alloc, &given, planned.as_slice(), stops, seed);
         }
         let mut groups = Groups::new(alloc);
-        let planned = planned_by(alloc, case, given.opening)?;
         let came = run_once(alloc, &given, &[], planned.as_slice())?;
         groups.put(&given, &came, given.opening)?;
         let Groups {

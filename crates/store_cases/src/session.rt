@@ -13,7 +13,7 @@ use std::alloc::Global;
 use zbase::Bytes;
 use zdisk::MemoryDisk;
 
-// The calls over a store that is open, up to `close` or the script's end. Where it is stale nothing is called any more.
+// The calls over a store that is open, up to `close` or the script's end.
 fn run_open(
     store: Store<MemoryDisk>,
     steps: &[Part],
@@ -25,7 +25,6 @@ fn run_open(
     requires idle { store.out ≡ None }
 {
     let mut store = store;
-    let mut is_fresh = true;
     put_numbers(&store, "opened", out)?;
     for _ in 0..steps.len() {
         let Some(step) = next_step(steps, taken) else {
@@ -34,10 +33,8 @@ fn run_open(
         if step.key() == "close" {
             put_line(out, "closed", &[])?;
             break;
-        } else if !is_fresh {
-            put_line(out, "stale", &[])?;
         } else if step.key() == "vote" {
-            is_fresh = vote(&mut store, step, steps, taken, out)?;
+            vote(&mut store, step, steps, taken, out)?;
         } else {
             look(&mut store, step, out)?;
         }

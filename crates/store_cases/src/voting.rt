@@ -20,11 +20,11 @@ enum Ending {
     Abort,
 }
 
-// The clock's stamp, the word of number 2: a number, or `+N` for N more than the last transaction's id.
-fn stamp_of(store: &Store<MemoryDisk>, step: &Part) -> Result<u64, CasesRefusal>
-    requires fresh { store.now.stale ≡ false }
-{
+// The clock's stamp, the word of number 2: a number, or `+N` for N more than the last transaction's id, which a stale store
+// can't tell.
+fn stamp_of(store: &Store<MemoryDisk>, step: &Part) -> Result<u64, CasesRefusal> {
     match step.word(2).unwrap_or("").strip_prefix("+") {
+        Some(_) if store.is_stale() => Err(CasesRefusal::BadPart(step.line)),
         Some(more) => match more.parse::<u64>() {
             Ok(more) => Ok(store.last().0.saturating_add(more)),
             Err(_) => Err(CasesRefusal::BadPart(step.line)),
@@ -48,10 +48,8 @@ fn add_read(
     oid: u64,
     at: u64,
 ) -> Result<(), LoadRefusal>
-    requires fresh { store.old.stale ≡ false }
     requires told { IsTold store.old }
     requires reads { All (IsSeen store.old) reads.old.items }
-    ensures fresh { store.new.stale ≡ false }
     ensures told { IsTold store.new }
     ensures out { store.new.out ≡ store.old.out }
     ensures reads { OnOk result (All (IsSeen store.new) reads.new.items) }
@@ -72,9 +70,7 @@ fn reads_of(
     step: &Part,
     out: &mut Bytes,
 ) -> Result<Option<Vec<Seen>>, CasesRefusal>
-    requires fresh { store.old.stale ≡ false }
     requires told { IsTold store.old }
-    ensures fresh { store.new.stale ≡ false }
     ensures told { IsTold store.new }
     ensures out { store.new.out ≡ store.old.out }
     ensures reads { IfOk result (λ reads. IfSome reads (λ reads. All (IsSeen store.new) reads.items)) }
@@ -99,10 +95,8 @@ fn vote_again(
     step: &Part,
     out: &mut Bytes,
 ) -> Result<(), CasesRefusal>
-    requires fresh { store.old.stale ≡ false }
     requires told { IsTold store.old }
     requires out { (o : Out) × (store.old.out ≡ Some o) }
-    ensures fresh { store.new.stale ≡ false }
     ensures told { IsTold store.new }
     ensures out { store.new.out ≡ store.old.out }
 {
@@ -121,10 +115,8 @@ fn meanwhile(
     taken: &mut usize,
     out: &mut Bytes,
 ) -> Result<Ending, CasesRefusal>
-    requires fresh { store.old.stale ≡ false }
     requires told { IsTold store.old }
     requires out { (o : Out) × (store.old.out ≡ Some o) }
-    ensures fresh { store.new.stale ≡ false }
     ensures told { IsTold store.new }
     ensures out { store.new.out ≡ store.old.out }
 {
@@ -142,40 +134,26 @@ fn meanwhile(
     Err(CasesRefusal::Missing)
 }
 
-// Ends a vote that is out; whether the store is fresh then.
+// Ends a vote that is out.
 fn end(
     store: &mut Store<MemoryDisk>,
     voted: Voted,
     ending: Result<Ending, CasesRefusal>,
     out: &mut Bytes,
-) -> Result<bool, CasesRefusal>
-    requires fresh { store.old.stale ≡ false }
+) -> Result<(), CasesRefusal>
     requires told { IsTold store.old }
     requires vote { IsVoteOf store.old voted }
     ensures idle { store.new.out ≡ None }
     ensures told { IsTold store.new }
-    ensures fresh { IfOk result (λ is_fresh. is_fresh ≡ true → store.new.stale ≡ false) }
 {
     match ending {
         Ok(Ending::Finish) => match store.finish(voted) {
-            Ok(tid) => {
-                put_line(out, "finished", &[tid.0])?;
-                Ok(true)
-            }
-            Err(refusal) => {
-                put_finish_refusal(out, refusal)?;
-                Ok(false)
-            }
+            Ok(tid) => Ok(put_line(out, "finished", &[tid.0])?),
+            Err(refusal) => Ok(put_finish_refusal(out, refusal)?),
         },
         Ok(Ending::Abort) => match store.abort(voted) {
-            Ok(()) => {
-                put_line(out, "aborted", &[])?;
-                Ok(true)
-            }
-            Err(_) => {
-                put_line(out, "not aborted", &[])?;
-                Ok(false)
-            }
+            Ok(()) => Ok(put_line(out, "aborted", &[])?),
+            Err(_) => Ok(put_line(out, "not aborted", &[])?),
         },
         Err(refusal) => {
             match store.abort(voted) {
@@ -186,27 +164,25 @@ fn end(
     }
 }
 
-/// A vote, and what is done until it ends; whether the store is fresh then.
+/// A vote, and what is done until it ends.
 pub(crate) fn vote(
     store: &mut Store<MemoryDisk>,
     step: &Part,
     steps: &[Part],
     taken: &mut usize,
     out: &mut Bytes,
-) -> Result<bool, CasesRefusal>
-    requires fresh { store.old.stale ≡ false }
+) -> Result<(), CasesRefusal>
     requires told { IsTold store.old }
     requires idle { store.old.out ≡ None }
     ensures idle { store.new.out ≡ None }
     ensures told { IsTold store.new }
-    ensures fresh { IfOk result (λ is_fresh. is_fresh ≡ true → store.new.stale ≡ false) }
 {
     let alloc = out.alloc();
     let holder = holder_of(step)?;
     let now = stamp_of(store, step)?;
     let draft = draft_of(alloc, step, now)?;
     let Some(reads) = reads_of(alloc, store, step, out)? else {
-        return Ok(true);
+        return Ok(());
     };
     match store.vote(holder, draft, reads.as_slice(), Tid(now)) {
         Ok(voted) => {
@@ -217,13 +193,6 @@ pub(crate) fn vote(
             };
             end(store, voted, ending, out)
         }
-        Err((VoteRefusal::Disk, _)) => {
-            put_vote_refusal(out, VoteRefusal::Disk)?;
-            Ok(false)
-        }
-        Err((refusal, _)) => {
-            put_vote_refusal(out, refusal)?;
-            Ok(true)
-        }
+        Err((refusal, _)) => Ok(put_vote_refusal(out, refusal)?),
     }
 }

@@ -1,10 +1,9 @@
-use Rattle.std.proofs.Common.{◌≡◌, false, true, None}
+use Rattle.std.proofs.Common.{◌≡◌, None}
 use Rattle.fs_store.specs.Stores.{IsTold}
 use Rattle.store_cases.proofs.session.run_open.Given as goal
 
 abbrev pub invariant-loop : goal.invariant-loop
 invariant-loop l = record {
-  fresh : l.is_fresh ≡ true → l.store.stale ≡ false;
   told : IsTold l.store;
   idle : l.store.out ≡ None;
 }

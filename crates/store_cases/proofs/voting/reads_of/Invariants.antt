@@ -1,4 +1,4 @@
-use Rattle.std.proofs.Common.{◌≡◌, false}
+use Rattle.std.proofs.Common.{◌≡◌}
 use Rattle.std.specs.Prelude.{All}
 use Rattle.fs_store.specs.Seeing.{IsSeen}
 use Rattle.fs_store.specs.Stores.{IsTold}
@@ -6,7 +6,6 @@ use Rattle.store_cases.proofs.voting.reads_of.Given as goal
 
 abbrev pub invariant-loop-at : goal.invariant-loop-at
 invariant-loop-at l = record {
-  fresh : l.store.stale ≡ false;
   told : IsTold l.store;
   out : l.store.out ≡ l.fn.store.out;
   seen : All (IsSeen l.store) l.reads.items;
