@@ -15,3 +15,4 @@ pub mod BadLineLaws
 pub mod Decided
 pub mod Stamps
 pub mod ReadOrBad
+pub mod WorkedQueues

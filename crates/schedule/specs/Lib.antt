@@ -13,3 +13,10 @@ pub mod Explained
 pub mod Follows
 pub mod Worked
 pub mod CourseLaws
+pub mod Entries
+pub mod Queues
+pub mod ArmedRuns
+pub mod StoppedSteps
+pub mod Openings
+pub mod EntryLaws
+pub mod StepLaws
