@@ -5,9 +5,9 @@ use std::path::PathBuf;
 use std::rt::Env;
 use std::test::Fail;
 use std::{fs, process};
-use zbase::{Bytes, Failed, Memory};
+use zbase::{Bytes, Failed, FaultPlan, Memory, Text};
 use zdisk::{Disk, FileDisk, MemoryDisk};
-use zio::{Folder, Shelf, ShelfRefusal};
+use zio::{Clock, Folder, MemoryFile, MemoryShelf, Shelf, ShelfRefusal, SystemClock};
 
 /// Why a file wasn't as it should be.
 #[derive(Debug, Drop, PartialEq, Eq)]
@@ -144,4 +144,106 @@ fn a_folder_opens_a_file_of_the_system(rt: HostRuntime) -> Result<(), Fail> {
     fs::remove_file(&rt, path.as_path())?;
     assert_eq!(rt; length_of(&mut folder, name), Err(ShelfRefusal::Missing));
     Ok(())
+}
+
+/// Calls about files one after another, each with what it answers, and the length of the file that it gives. There is a
+/// file `a` of four bytes at first. A file that is made gets two bytes, and one that replaces another replaces `a`.
+const CALLS: [(&str, &str, Result<u64, ShelfRefusal>); 11] = [
+    ("create", "a", Err(ShelfRefusal::Exists)),
+    ("open", "b", Err(ShelfRefusal::Missing)),
+    ("replace", "b", Err(ShelfRefusal::Missing)),
+    ("open", "a", Ok(4)),
+    ("create", "b", Ok(2)),
+    ("create", "b", Err(ShelfRefusal::Exists)),
+    ("replace", "b", Ok(0)),
+    ("open", "b", Err(ShelfRefusal::Missing)),
+    ("create", "a", Err(ShelfRefusal::Exists)),
+    ("create", "b", Ok(2)),
+    ("replace", "b", Ok(0)),
+];
+
+/// What that call about a file comes to, where `main` is the file that is replaced.
+fn called<S: Shelf>(
+    shelf: &mut S,
+    call: &str,
+    name: &str,
+    main: &str,
+) -> Result<u64, ShelfRefusal> {
+    if call == "replace" {
+        shelf.replace(name, main)?;
+        return Ok(0);
+    }
+    if call == "open" {
+        return length_of(shelf, name);
+    }
+    let mut disk = shelf.create(name)?;
+    match make_change(&mut disk, Change::Write(0, b"12")) {
+        Ok(()) => Ok(disk.len()?),
+        Err(Unchanged::Memory) => Err(ShelfRefusal::Memory),
+        Err(_) => Err(ShelfRefusal::Failed),
+    }
+}
+
+/// How many of the calls answer what they should, where this stands before each name.
+fn calls_answered<S: Shelf>(alloc: Global, shelf: &mut S, before: &str) -> Result<usize, Fail> {
+    let main = format!(in alloc; "{before}a")?;
+    let mut answered = 0usize;
+    for (call, name, wanted) in CALLS {
+        let name = format!(in alloc; "{before}{name}")?;
+        let came = called(shelf, call, name.as_str(), main.as_str());
+        answered = answered.saturating_add(usize::from(came == wanted));
+    }
+    Ok(answered)
+}
+
+#[test]
+fn a_folder_makes_files_of_the_system_and_replaces_one(rt: HostRuntime) -> Result<(), Fail> {
+    let path = own_path(&rt, "zio-calls", process::id(rt.process()))?;
+    let before = path.as_path().to_str().expect(&rt, "a path that is text");
+    let main = format!(in rt.alloc(); "{before}a")?;
+    fs::write(&rt, main.as_str(), b"1234".as_slice())?;
+    let mut folder = Folder::new(&rt);
+    assert_eq!(rt; calls_answered(rt.alloc(), &mut folder, before)?, 11);
+    assert_eq!(rt; length_of(&mut folder, main.as_str()), Ok(2));
+    fs::remove_file(&rt, main.as_str())?;
+    Ok(())
+}
+
+#[test]
+fn a_shelf_in_memory_makes_and_replaces_files(rt: HostRuntime) -> Result<(), Fail> {
+    let alloc = rt.alloc();
+    let mut files = Vec::new(alloc);
+    files.push(MemoryFile {
+        name: Text::from_str(alloc, "a")?,
+        bytes: Bytes::from_slice(alloc, b"1234")?,
+        failing: None,
+    })?;
+    let mut shelf = MemoryShelf::new(alloc, files, FaultPlan::none(alloc));
+    assert_eq!(rt; calls_answered(alloc, &mut shelf, "")?, 11);
+    Ok(())
+}
+
+#[test]
+fn no_file_is_made_where_there_is_no_folder(rt: HostRuntime) -> Result<(), Fail> {
+    let mut folder = Folder::new(&rt);
+    for name in ["", "no such folder/a"] {
+        assert_eq!(rt;
+            called(&mut folder, "create", name, ""),
+            Err(ShelfRefusal::Failed)
+        );
+    }
+    Ok(())
+}
+
+#[test]
+fn the_system_tells_the_time(rt: HostRuntime) {
+    let mut clock = SystemClock::new(&rt);
+    let told = clock.now();
+    // later than 2020
+    assert!(rt;
+        told.map_or(
+            false,
+            |(seconds, nanos)| seconds > 1_577_836_800 && nanos < 1_000_000_000
+        )
+    );
 }

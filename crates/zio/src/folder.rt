@@ -2,15 +2,16 @@ ghost use Rattle.std.specs.Prelude.{◌≡◌, None};
 ghost use Rattle.std.specs.declared.option.Option.{Option};
 
 use crate::{Shelf, ShelfRefusal};
-use std::fs;
-use std::io::ErrorKind;
+use std::fs::{self, OpenFile, OpenOptions};
+use std::io::{self, ErrorKind};
 use std::rt::Files;
 use zbase::FaultCount;
 use zdisk::FileDisk;
 
 /// The files of the system, by their paths. It tells only how often it has failed.
 ///
-/// `Missing` is the answer where the system says that there is no such file; any other error is a fault.
+/// `Missing` is the answer where the system says that there is no such file, and `Exists` where it says that there is one
+/// already; any other error is a fault. Behind a call that gave a file its name, the folder that has the name is synced too.
 #[derive(Drop)]
 pub struct Folder<R> {
     rt: R,
@@ -45,4 +46,53 @@ impl<R: Files> Shelf for Folder<R> {
             Err(_) => Err(self.faults.fault().into()),
         }
     }
+
+    fn create(&mut self, name: &str) -> Result<FileDisk<R::File>, ShelfRefusal> {
+        match create_synced(&self.rt, name) {
+            Ok(file) => Ok(FileDisk::new(file)),
+            Err(error) if error.kind() == ErrorKind::AlreadyExists => Err(ShelfRefusal::Exists),
+            Err(_) => Err(self.faults.fault().into()),
+        }
+    }
+
+    fn replace(&mut self, new: &str, main: &str) -> Result<(), ShelfRefusal> {
+        match rename_synced(&self.rt, new, main) {
+            Ok(()) => Ok(()),
+            Err(error) if error.kind() == ErrorKind::NotFound => Err(ShelfRefusal::Missing),
+            Err(_) => Err(self.faults.fault().into()),
+        }
+    }
+}
+
+// The path of the folder in which a file stands.
+fn folder_of(path: &str) -> &str {
+    match path.rsplit_once('/') {
+        Some(("", _)) => "/",
+        Some((folder, _)) => folder,
+        None => ".",
+    }
+}
+
+// Brings the names in the folder of a file to the device.
+fn sync_folder<R: Files>(rt: &R, path: &str) -> io::Result<()> {
+    fs::open(rt, folder_of(path))?.sync_all()
+}
+
+// A new file, under its name on the device.
+fn create_synced<R: Files>(rt: &R, path: &str) -> io::Result<R::File> {
+    let file = OpenOptions::new()
+        .read(true)
+        .write(true)
+        .create_new(true)
+        .open(rt, path)?;
+    file.sync_all()?;
+    sync_folder(rt, path)?;
+    Ok(file)
+}
+
+// Gives a file another name, on the device too.
+fn rename_synced<R: Files>(rt: &R, from: &str, to: &str) -> io::Result<()> {
+    fs::rename(rt, from, to)?;
+    sync_folder(rt, to)?;
+    sync_folder(rt, from)
 }

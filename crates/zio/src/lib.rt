@@ -1,7 +1,7 @@
 //! What the program is handed from outside: streams, a clock, a hub of connections and a shelf of files.
 //!
 //! Each trait has an implementation in memory, which tells what it holds and has a list of calls that are to
-//! fail. Sources, sinks and shelves also have a thin adapter over the real thing, which tells only its count of
+//! fail. All but the hub also have a thin adapter over the real thing, which tells only its count of
 //! faults.
 #![tactic(auto)]
 
@@ -21,6 +21,7 @@ mod refusal;
 mod shelf;
 mod sink;
 mod source;
+mod system_clock;
 mod unread;
 mod writer_sink;
 
@@ -38,4 +39,5 @@ pub use refusal::{OutsideRefusal, ShelfRefusal};
 pub use shelf::Shelf;
 pub use sink::Sink;
 pub use source::Source;
+pub use system_clock::SystemClock;
 pub use writer_sink::WriterSink;

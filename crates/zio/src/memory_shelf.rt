@@ -1,10 +1,10 @@
-ghost use Rattle.std.specs.Prelude.{◌≡◌, IfOk, IfSome, Some, option_map};
+ghost use Rattle.std.specs.Prelude.{◌≡◌, [], IfOk, IfSome, None, Some, filter, option_map};
 ghost use Rattle.std.specs.Option.{option_copied};
 ghost use Rattle.std.specs.declared.option.Option.{Option};
 ghost use Rattle.zbase.specs.Faults.{IsFaultless};
 ghost use Rattle.zdisk.specs.Disk.{synced};
-ghost use Rattle.zio.specs.Shelves.{file_at};
-ghost use Rattle.zio.specs.MemoryShelves.{HaveSoundDisks, NeverFails, entries};
+ghost use Rattle.zio.specs.Shelves.{file_at, is_other};
+ghost use Rattle.zio.specs.MemoryShelves.{HaveSoundDisks, NeverFails, entries, entry};
 
 use crate::{Shelf, ShelfRefusal};
 use std::alloc::Global;
@@ -25,11 +25,12 @@ pub struct MemoryFile {
 
 /// Files in memory, which it tells.
 ///
-/// A disk that it opens has a copy of the file's bytes. Each opening of a file that is there counts as one call
-/// of the plan.
+/// A disk that it hands out has a copy of the file's bytes, and what is written on it isn't the shelf's. Each call about a
+/// file that is there, or that isn't there yet and is to be made, counts as one of the plan.
 #[derive(Drop)]
 pub struct MemoryShelf {
     files: Vec<MemoryFile>,
+    failing_new: Option<u64>,
     plan: FaultPlan,
     alloc: Global,
 }
@@ -41,7 +42,31 @@ impl MemoryShelf {
         ensures counter { ⟦<MemoryShelf as Shelf>⟧.counter result ≡ plan }
         ensures sound_disks { HaveSoundDisks files.items → ⟦<MemoryShelf as Shelf>⟧.sound_disks result }
     {
-        MemoryShelf { files, plan, alloc }
+        MemoryShelf {
+            files,
+            failing_new: None,
+            plan,
+            alloc,
+        }
+    }
+
+    /// The same shelf, on which each new file has a disk whose call with this number is to fail.
+    pub fn with_failing_new(self, number: u64) -> MemoryShelf
+        ensures files { ⟦<MemoryShelf as Shelf>⟧.files result ≡ ⟦<MemoryShelf as Shelf>⟧.files self }
+        ensures counter { ⟦<MemoryShelf as Shelf>⟧.counter result ≡ ⟦<MemoryShelf as Shelf>⟧.counter self }
+    {
+        let MemoryShelf {
+            files,
+            failing_new: _,
+            plan,
+            alloc,
+        } = self;
+        MemoryShelf {
+            files,
+            failing_new: Some(number),
+            plan,
+            alloc,
+        }
     }
 }
 
@@ -52,7 +77,7 @@ impl Shelf for MemoryShelf {
 
     ghost counter = { λ shelf. shelf.plan };
 
-    ghost sound_disks = { λ shelf. HaveSoundDisks shelf.files.items };
+    ghost sound_disks = { λ shelf. HaveSoundDisks shelf.files.items × (shelf.failing_new ≡ None) };
 
     fn open(&mut self, name: &str) -> Result<MemoryDisk, ShelfRefusal> {
         let Some(file) = find_file(&self.files, name) else {
@@ -61,6 +86,86 @@ impl Shelf for MemoryShelf {
         self.plan.call()?;
         Ok(disk_over(self.alloc, file)?)
     }
+
+    fn create(&mut self, name: &str) -> Result<MemoryDisk, ShelfRefusal> {
+        if find_file(&self.files, name).is_some() {
+            return Err(ShelfRefusal::Exists);
+        }
+        self.plan.call()?;
+        let file = new_file(self.alloc, name, self.failing_new)?;
+        let disk = disk_over(self.alloc, &file)?;
+        match self.files.push(file) {
+            Ok(()) => Ok(disk),
+            Err(_) => Err(ShelfRefusal::Memory),
+        }
+    }
+
+    fn replace(&mut self, new: &str, main: &str) -> Result<(), ShelfRefusal> {
+        let Some(file) = find_file(&self.files, new) else {
+            return Err(ShelfRefusal::Missing);
+        };
+        let moved = copy_as(self.alloc, file, main)?;
+        let mut files = copies_of_others(self.alloc, &self.files, new, main)?;
+        self.plan.call()?;
+        match files.push(moved) {
+            Ok(()) => {
+                self.files = files;
+                Ok(())
+            }
+            Err(_) => Err(ShelfRefusal::Memory),
+        }
+    }
+}
+
+// An empty file of that name.
+fn new_file(alloc: Global, name: &str, failing: Option<u64>) -> Result<MemoryFile, Memory>
+    ensures entry { IfOk result (λ file. entry file ≡ (name.now, [])) }
+    ensures failing { IfOk result (λ file. file.failing ≡ failing) }
+{
+    Ok(MemoryFile {
+        name: Text::from_str(alloc, name)?,
+        bytes: Bytes::new(alloc),
+        failing,
+    })
+}
+
+// A copy of a file under another name.
+fn copy_as(alloc: Global, file: &MemoryFile, name: &str) -> Result<MemoryFile, Memory>
+    ensures entry { IfOk result (λ copy. entry copy ≡ (name.now, file.now.bytes)) }
+    ensures failing { IfOk result (λ copy. copy.failing ≡ file.now.failing) }
+{
+    Ok(MemoryFile {
+        name: Text::from_str(alloc, name)?,
+        bytes: file.bytes.copy()?,
+        failing: file.failing,
+    })
+}
+
+// Whether a file has neither of these names.
+fn is_other(file: &MemoryFile, one: &str, two: &str) -> bool
+    ensures { result ≡ is_other one.now two.now (entry file.now) }
+{
+    let name = file.name.as_str();
+    name != one && name != two
+}
+
+// Copies of the files that have neither of these names.
+fn copies_of_others(
+    alloc: Global,
+    files: &[MemoryFile],
+    one: &str,
+    two: &str,
+) -> Result<Vec<MemoryFile>, Memory>
+    ensures entries { IfOk result (λ others. entries others.items ≡ filter (is_other one.now two.now) (entries files.now)) }
+    ensures sound { HaveSoundDisks files.now → IfOk result (λ others. HaveSoundDisks others.items) }
+{
+    let mut others = Vec::new(alloc);
+    for file in files {
+        if is_other(file, one, two) {
+            others.push(copy_as(alloc, file, file.name.as_str())?)?;
+        }
+    }
+    Ok(others)
 }
 
 /// The first file of that name.

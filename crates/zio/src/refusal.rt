@@ -36,6 +36,8 @@ impl From<Memory> for OutsideRefusal {
 pub enum ShelfRefusal {
     /// The shelf has no file of that name.
     Missing,
+    /// The shelf has a file of that name already.
+    Exists,
     /// The shelf's count of faults rose in this call.
     Failed,
     /// Want of memory; the shelf is as it was.

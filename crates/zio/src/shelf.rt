@@ -1,8 +1,8 @@
-ghost use Rattle.std.specs.Prelude.{◌≡◌, ◌⊎◌, List, ℕ, None, Some, IfOk, IfSome, IsErrOf, option_map};
+ghost use Rattle.std.specs.Prelude.{◌≡◌, ◌⊎◌, ◌++◌, ◌∷◌, [], List, ℕ, None, Some, IfOk, IfSome, IsErrOf, OnErr, OnOk, option_map};
 ghost use Rattle.std.specs.declared.option.Option.{Option};
 ghost use Rattle.zbase.specs.Faults.{Counter, Counts, IsFaultless};
 ghost use Rattle.zdisk.specs.Disk.{synced};
-ghost use Rattle.zio.specs.Shelves.{Entry, file_at};
+ghost use Rattle.zio.specs.Shelves.{Entry, Replaces, file_at};
 
 use crate::ShelfRefusal;
 use zdisk::Disk;
@@ -30,6 +30,37 @@ pub trait Shelf {
         ensures absent { IfSome (files self.old) (λ all. file_at all name.now ≡ None → IsErrOf result ShelfRefusal.Missing ⊎ IsErrOf result ShelfRefusal.Memory) }
         ensures sound { sound_disks self.old → IfOk result (λ disk. IsFaultless (Self.D.counter disk)) }
         ensures stays_sound { sound_disks self.old → sound_disks self.new }
+        ensures opens { IsErrOf result ShelfRefusal.Exists → ⊥ }
         ensures same { files self.new ≡ files self.old }
+        ensures counts { Counts (counter self.old) (counter self.new) (IsErrOf result ShelfRefusal.Failed) };
+
+    /// A disk over a new file of that name, which is empty. The name stands behind a stop at any later moment. The shelf
+    /// tells the file as it is handed out.
+    ///
+    /// `Exists` comes exactly where the shelf, if it tells, has a file of that name, want of memory aside.
+    fn create(&mut self, name: &str) -> Result<Self::D, ShelfRefusal>
+        ensures empty { IfOk result (λ disk. IfSome (files self.old) (λ _. Self.D.told disk ≡ Some (synced []))) }
+        ensures new { OnOk result (IfSome (files self.old) (λ all. file_at all name.now ≡ None)) }
+        ensures made { OnOk result (files self.new ≡ option_map (λ all. all ++ (name.now, []) ∷ []) (files self.old)) }
+        ensures exists { IsErrOf result ShelfRefusal.Exists → IfSome (files self.old) (λ all. file_at all name.now ≡ None → ⊥) }
+        ensures present { IfSome (files self.old) (λ all. (file_at all name.now ≡ None → ⊥) → IsErrOf result ShelfRefusal.Exists ⊎ IsErrOf result ShelfRefusal.Memory) }
+        ensures creates { IsErrOf result ShelfRefusal.Missing → ⊥ }
+        ensures kept { OnErr result (files self.new ≡ files self.old) }
+        ensures sound { sound_disks self.old → IfOk result (λ disk. IsFaultless (Self.D.counter disk)) }
+        ensures stays_sound { sound_disks self.old → sound_disks self.new }
+        ensures counts { Counts (counter self.old) (counter self.new) (IsErrOf result ShelfRefusal.Failed) };
+
+    /// Puts the one file whole in the place of the other, whether or not there is such a one; from then on there is none
+    /// under its own name. A stop leaves the place as it was, or with the new file, and a stop at any later moment leaves
+    /// it so.
+    ///
+    /// `Missing` comes exactly where the shelf, if it tells, has no such new file, want of memory aside.
+    fn replace(&mut self, new: &str, main: &str) -> Result<(), ShelfRefusal>
+        ensures replaced { OnOk result (Replaces (files self.old) new.now main.now (files self.new)) }
+        ensures missing { IsErrOf result ShelfRefusal.Missing → IfSome (files self.old) (λ all. file_at all new.now ≡ None) }
+        ensures absent { IfSome (files self.old) (λ all. file_at all new.now ≡ None → IsErrOf result ShelfRefusal.Missing ⊎ IsErrOf result ShelfRefusal.Memory) }
+        ensures replaces { IsErrOf result ShelfRefusal.Exists → ⊥ }
+        ensures kept { OnErr result (files self.new ≡ files self.old) }
+        ensures stays_sound { sound_disks self.old → sound_disks self.new }
         ensures counts { Counts (counter self.old) (counter self.new) (IsErrOf result ShelfRefusal.Failed) };
 }
