@@ -10,7 +10,7 @@ from programs import best_of
 
 def main():
     best = best_of("http_reading", ["zbase", "http_in", "httparse"], keeps_memory=True)
-    for ours, other in (("read", "parsed"), ("bytes", "whole"), ("bytes", "pushed")):
+    for ours, other in (("read", "parsed"), ("bytes", "whole"), ("bytes", "pushed"), ("chunks", "whole")):
         (size,) = {size for kind, size in best if kind == ours}
         one, two = best[ours, size], best[other, size]
         print(f"{ours}, {size} bytes: {one * 1e3:.2f} ms, {other} {two * 1e3:.2f} ms, ratio {one / two:.2f}")

@@ -1,6 +1,7 @@
 -- Words of the crate's own functions: what a search, a look and a reader know of the bytes so far. No clause of a public
 -- function needs them.
-use Rattle.std.specs.Prelude.{◌≡◌, ℕ, ◌<◌, ◌≤◌, ◌-◌, List, ◌++◌, length, take, drop, Some, None, Result, Ok, Err}
+use Rattle.std.specs.Prelude.{◌≡◌, ◌≢◌, ℕ, ◌<◌, ◌≤◌, ◌-◌, List, ◌++◌, length, take, drop, Some, None, Result, Ok, Err}
+use Rattle.std.specs.List.{All}
 use Rattle.httparse.specs.declared.spans.HeaderSpan.{HeaderSpan}
 use Rattle.httparse.specs.declared.spans.RequestSpans.{RequestSpans}
 use Rattle.httparse.specs.Grammar.{RequestHead}
@@ -68,8 +69,12 @@ HasParts bytes spans found = (h : RequestHead) × (head_of bytes ≡ Some h) × 
 abbrev pub IsShort : ℕ → List ℕ → Type 0
 IsShort wanted rest = (more : List ℕ) → length (rest ++ more) < wanted → asked (rest ++ more) ≡ None
 
+-- No message while the bytes are at most so many, whatever comes that has no LF.
+abbrev pub IsQuiet : ℕ → List ℕ → Type 0
+IsQuiet most rest = (more : List ℕ) → All (λ b. b ≢ 10) more → length (rest ++ more) ≤ most → asked (rest ++ more) ≡ None
+
 -- what a look at the bytes came to: the message that they begin with, or none, with how many bytes no end of a head
--- begins among, or how many bytes there will be
+-- begins among, which comes by an LF, or how many bytes there will be
 pub data Look : Type 0 where
   Found : Message → ℕ → Look
   Head : ℕ → Look
@@ -77,11 +82,11 @@ pub data Look : Type 0 where
 
 abbrev pub IsLook : List ℕ → Look → Type 0
 IsLook bytes (Look.Found m n) = asked bytes ≡ Some (m, n)
-IsLook bytes (Look.Head passed) = (asked bytes ≡ None) × (passed ≤ length bytes) × (passed ≤ most_head) × IsPassed (take passed bytes)
-IsLook bytes (Look.Body wanted) = (asked bytes ≡ None) × IsShort wanted bytes
+IsLook bytes (Look.Head passed) = (asked bytes ≡ None) × (passed ≤ length bytes) × (passed ≤ most_head) × IsPassed (take passed bytes) × IsQuiet 16383 bytes
+IsLook bytes (Look.Body wanted) = (asked bytes ≡ None) × (length bytes < wanted) × IsShort wanted bytes
 
--- how a reader keeps a stream
-pub record Keeps (bytes : List ℕ) (from to clean wanted : ℕ) : Type 0 where
+-- how a reader keeps a stream, in memory that has room for so many bytes
+pub record Keeps (bytes : List ℕ) (from to clean wanted quiet room : ℕ) : Type 0 where
   pub ordered : from ≤ to
   pub within : to ≤ length bytes
   pub small : to - from ≤ most_message
@@ -89,6 +94,10 @@ pub record Keeps (bytes : List ℕ) (from to clean wanted : ℕ) : Type 0 where
   pub most : clean ≤ most_head
   pub passed : IsPassed (take clean (drop to bytes))
   pub short : IsShort wanted (drop to bytes)
+  pub still : IsQuiet (quiet - to) (drop to bytes)
+  pub front : 0 < quiet → from ≡ 0
+  pub fits : quiet ≤ room
+  pub left : 0 < quiet → length bytes ≤ quiet
 
 -- ---- the answers of the code, as these words have them
 

@@ -1,6 +1,6 @@
-ghost use Rattle.std.specs.Prelude.{◌≡◌, ◌≢◌, ◌<◌, ◌≤◌, ◌+◌, IsTrue, slice_index, Some, None, Ok, length, take, drop, IfOk};
+ghost use Rattle.std.specs.Prelude.{◌≡◌, ◌≤◌, ◌+◌, Some, Ok, length, take, IfOk};
 ghost use Rattle.http_in.specs.Ends.{head_end};
-ghost use Rattle.http_in.specs.Inside.{IsLook, IsPassed, looked_by};
+ghost use Rattle.http_in.specs.Inside.{IsLook, IsPassed, IsShort, looked_by};
 ghost use Rattle.http_in.specs.Messages as messages;
 
 use crate::ends::{Sought, search};
@@ -63,23 +63,26 @@ fn window_of(bytes: &[u8]) -> &[u8]
     }
 }
 
-/// Whether one byte has come behind those that are passed, which is no LF, in a head that may go on.
-fn has_one_more(bytes: &[u8], clean: usize) -> bool
-    requires { clean ≤ length bytes.now }
-    ensures { IsTrue result → (length bytes.now ≡ clean + 1) × (length bytes.now < 16384) × (slice_index bytes.now clean ≢ 10) }
-{
-    bytes.len() == clean + 1 && bytes.len() < MOST_HEAD && bytes[clean] != b'\n'
-}
-
-/// Looks for the message that the bytes begin with, behind those that are passed.
-pub(crate) fn look(alloc: Global, bytes: &[u8], clean: usize) -> Result<Looked, Memory>
+/// Looks for the message that the bytes begin with, behind those that are passed; none is there before so many bytes as
+/// are wanted.
+///
+/// That this is called seldom is so where bytes come alone, and matters there.
+#[cold]
+#[inline(never)]
+pub(crate) fn look(
+    alloc: Global,
+    bytes: &[u8],
+    clean: usize,
+    wanted: usize,
+) -> Result<Looked, Memory>
     requires within { clean ≤ length bytes.now }
     requires most { clean ≤ 16384 }
     requires passed { IsPassed (take clean bytes.now) }
+    requires short { IsShort wanted bytes.now }
     ensures { IfOk result (λ look. IsLook bytes.now (looked_by look)) }
 {
-    if has_one_more(bytes, clean) {
-        return Ok(Looked::Head(clean + 1));
+    if bytes.len() < wanted {
+        return Ok(Looked::Body(wanted));
     }
     let window = window_of(bytes);
     let rest = window.split_at(clean).1;

@@ -1,12 +1,14 @@
-ghost use Rattle.std.specs.Prelude.{◌≡◌, ◌<◌, ◌≤◌, ◌++◌, ◌+◌, ◌-◌, [], Some, None, length, take, drop, IfOk, OnOk, OnErr, IfSome, IfNone};
+ghost use Rattle.std.specs.Prelude.{◌≡◌, ◌≢◌, ◌<◌, ◌≤◌, ◌++◌, ◌+◌, ◌-◌, [], Some, None, length, take, drop, IfOk, OnOk, OnErr, IfSome, IfNone, vec_capacity};
 ghost use Rattle.http_in.specs.Messages.{asked, most_message};
 ghost use Rattle.http_in.specs.Inside.{Keeps};
 ghost use Rattle.http_in.specs.Streams.{Stream};
 
 use crate::Message;
+use crate::limits::MOST_HEAD;
 use crate::look::{Looked, look};
 use std::alloc::Global;
 use std::marker::Model;
+use std::mem::replace;
 use zbase::Memory;
 
 /// Takes so many bytes away from the front.
@@ -19,17 +21,68 @@ fn drop_front(bytes: &mut Vec<u8>, count: usize)
     bytes.truncate(left);
 }
 
+/// For how many bytes there is room at least where one comes alone: others follow it.
+const ROOM_FOR_BYTES: usize = 1024;
+
 /// Adds a piece at the end. One byte alone is pushed, which takes less time than a copy.
 fn append(bytes: &mut Vec<u8>, piece: &[u8]) -> Result<(), Memory>
     ensures ok { OnOk result (bytes.new.items ≡ bytes.old.items ++ piece.now) }
     ensures err { OnErr result (bytes.new.items ≡ bytes.old.items) }
 {
     if piece.len() == 1 {
+        if bytes.len() == bytes.capacity() {
+            bytes.reserve(ROOM_FOR_BYTES)?;
+        }
         bytes.push(piece[0])?;
     } else {
         bytes.extend_from_slice(piece)?;
     }
     Ok(())
+}
+
+/// The bytes without so many at the front, and with a piece at the end, unless memory runs out.
+///
+/// They are moved here and back, so that a caller that keeps a reader to itself can hold it in registers. That this is
+/// called seldom is so where bytes come alone, and matters there.
+#[cold]
+#[inline(never)]
+fn moved_on(bytes: Vec<u8>, count: usize, piece: &[u8]) -> (Vec<u8>, Result<(), Memory>)
+    requires { count ≤ length bytes.items }
+    ensures ok { OnOk result.1 (result.0.items ≡ drop count bytes.items ++ piece.now) }
+    ensures err { OnErr result.1 (result.0.items ≡ drop count bytes.items) }
+{
+    let mut bytes = bytes;
+    if count > 0 {
+        drop_front(&mut bytes, count);
+    }
+    let answer = append(&mut bytes, piece);
+    (bytes, answer)
+}
+
+/// The same number, or none where this byte is an LF.
+#[inline(always)]
+fn quiet_by(byte: u8, quiet: usize) -> usize
+    ensures same { 0 < result → result ≡ quiet }
+    ensures other { 0 < result → byte ≢ 10 }
+{
+    if byte == b'\n' { 0 } else { quiet }
+}
+
+/// How many bytes there may be in all, if no message comes before so many stand behind the last one. There is room for
+/// them, and nothing to let go of before them; none where there are more already.
+#[inline(always)]
+fn quiet_to(start: usize, at: usize, count: usize, bytes: &Vec<u8>) -> usize
+    ensures most { result ≤ at + count }
+    ensures fits { result ≤ vec_capacity bytes.now }
+    ensures front { 0 < result → start ≡ 0 }
+    ensures left { 0 < result → length bytes.now.items ≤ result }
+{
+    let most = at.saturating_add(count).min(bytes.capacity());
+    if start > 0 || most < bytes.len() {
+        0
+    } else {
+        most
+    }
 }
 
 /// A reader of the messages of one stream, which comes in any pieces. It keeps its allocator.
@@ -43,6 +96,8 @@ pub struct Reader {
     clean: usize,
     // How many bytes a message there has at least.
     wanted: usize,
+    // Up to how many bytes in all no message comes, unless by an LF; there is room for them. 0 where that isn't known.
+    quiet: usize,
 }
 
 impl Model for Reader {
@@ -50,7 +105,7 @@ impl Model for Reader {
 
     ghost view = { λ r. record { taken = take (r.at - r.start) (drop r.start r.bytes.items); rest = drop r.at r.bytes.items; held = length r.bytes.items } };
 
-    ghost invariant = { λ r. Keeps r.bytes.items r.start r.at r.clean r.wanted };
+    ghost invariant = { λ r. Keeps r.bytes.items r.start r.at r.clean r.wanted r.quiet (vec_capacity r.bytes) };
 }
 
 impl Reader {
@@ -64,41 +119,32 @@ impl Reader {
             at: 0,
             clean: 0,
             wanted: 0,
+            quiet: 0,
         }
     }
 
-    /// Lets go of what stands before the last answered message.
-    fn release(&mut self)
-        ensures { self.new ≡ record { taken = self.old.taken; rest = self.old.rest; held = length self.old.taken + length self.old.rest } }
-    {
-        if self.start > 0 {
-            let start = self.start;
-            drop_front(&mut self.bytes, start);
-            self.start = 0;
-            self.at -= start;
-        }
-    }
-
-    /// Takes the next piece of the stream. For want of memory the stream stays as it was. Nothing is kept but the last
-    /// answered message and what has come behind it.
-    ///
-    /// The time that this takes is that of the piece, where `next` was asked for messages until there was none; else the
-    /// rest is moved too.
-    pub fn feed(&mut self, piece: &[u8]) -> Result<(), Memory>
+    /// Takes a piece and lets go of what stands before the last answered message.
+    #[inline(always)]
+    fn feed_on(&mut self, piece: &[u8]) -> Result<(), Memory>
         ensures taken { self.new.taken ≡ self.old.taken }
         ensures ok { OnOk result (self.new.rest ≡ self.old.rest ++ piece.now) }
         ensures err { OnErr result (self.new.rest ≡ self.old.rest) }
         ensures held { self.new.held ≡ length self.new.taken + length self.new.rest }
-        ensures most { asked self.old.rest ≡ None → self.new.held < length self.new.taken + most_message + length piece.now }
+        ensures most { self.new.held ≤ length self.old.taken + length self.old.rest + length piece.now }
     {
-        self.release();
-        append(&mut self.bytes, piece)?;
-        Ok(())
+        let alloc = *self.bytes.allocator();
+        let bytes = replace(&mut self.bytes, Vec::new(alloc));
+        let (bytes, answer) = moved_on(bytes, self.start, piece);
+        self.bytes = bytes;
+        self.at -= self.start;
+        self.start = 0;
+        self.quiet = 0;
+        answer
     }
 
-    /// The message that the stream goes on with, whole or refused; none where it has not come yet. For want of
-    /// memory the reader stays as it was.
-    pub fn next(&mut self) -> Result<Option<Message>, Memory>
+    /// Looks for the next message.
+    #[inline(always)]
+    fn next_on(&mut self) -> Result<Option<Message>, Memory>
         ensures some { IfOk result (λ m. IfSome m (λ x. asked self.old.rest ≡ Some (x, length self.new.taken))) }
         ensures cut { IfOk result (λ m. IfSome m (λ x. self.old.rest ≡ self.new.taken ++ self.new.rest)) }
         ensures none { IfOk result (λ m. IfNone m (asked self.old.rest ≡ None)) }
@@ -108,26 +154,65 @@ impl Reader {
     {
         let alloc = *self.bytes.allocator();
         let rest = self.bytes.as_slice().split_at(self.at).1;
-        if rest.len() < self.wanted {
-            return Ok(None);
-        }
-        match look(alloc, rest, self.clean)? {
+        match look(alloc, rest, self.clean, self.wanted)? {
             Looked::Found(message, length) => {
                 self.start = self.at;
                 self.at += length;
                 self.clean = 0;
                 self.wanted = 0;
+                self.quiet = 0;
                 Ok(Some(message))
             }
             Looked::Head(clean) => {
+                self.quiet = quiet_to(self.start, self.at, MOST_HEAD - 1, &self.bytes);
                 self.clean = clean;
                 Ok(None)
             }
             Looked::Body(wanted) => {
+                self.quiet = quiet_to(self.start, self.at, wanted - 1, &self.bytes);
                 self.wanted = wanted;
                 Ok(None)
             }
         }
+    }
+
+    /// Takes the next piece of the stream. For want of memory the stream stays as it was. Nothing is kept but the last
+    /// answered message and what has come behind it.
+    ///
+    /// The time that this takes is that of the piece, where `next` was asked for messages until there was none; else the
+    /// rest is moved too. A byte alone is pushed, where a message can come by an LF at most.
+    #[inline]
+    pub fn feed(&mut self, piece: &[u8]) -> Result<(), Memory>
+        ensures taken { self.new.taken ≡ self.old.taken }
+        ensures ok { OnOk result (self.new.rest ≡ self.old.rest ++ piece.now) }
+        ensures err { OnErr result (self.new.rest ≡ self.old.rest) }
+        ensures held { self.new.held ≡ length self.new.taken + length self.new.rest }
+        ensures most { asked self.old.rest ≡ None → self.new.held < length self.new.taken + most_message + length piece.now }
+    {
+        if piece.len() == 1 && self.bytes.len() < self.quiet {
+            let byte = piece[0];
+            self.bytes.push_reserved(byte);
+            self.quiet = quiet_by(byte, self.quiet);
+            return Ok(());
+        }
+        self.feed_on(piece)
+    }
+
+    /// The message that the stream goes on with, whole or refused; none where it has not come yet. For want of
+    /// memory the reader stays as it was.
+    #[inline]
+    pub fn next(&mut self) -> Result<Option<Message>, Memory>
+        ensures some { IfOk result (λ m. IfSome m (λ x. asked self.old.rest ≡ Some (x, length self.new.taken))) }
+        ensures cut { IfOk result (λ m. IfSome m (λ x. self.old.rest ≡ self.new.taken ++ self.new.rest)) }
+        ensures none { IfOk result (λ m. IfNone m (asked self.old.rest ≡ None)) }
+        ensures kept { IfOk result (λ m. IfNone m (self.new ≡ self.old)) }
+        ensures err { OnErr result (self.new ≡ self.old) }
+        ensures held { self.new.held ≡ self.old.held }
+    {
+        if self.quiet > 0 {
+            return Ok(None);
+        }
+        self.next_on()
     }
 
     /// The bytes of the last answered message, none before the first.

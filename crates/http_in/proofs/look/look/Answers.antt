@@ -4,7 +4,7 @@ use Rattle.http_in.specs.Ends.{head_end}
 use Rattle.http_in.specs.Inside.{IsPassed}
 use Rattle.http_in.specs.EndLaws.{end_stands, passed_on}
 use Rattle.http_in.specs.MessageLaws.{end_behind, none_behind, none_yet, too_large}
-use Rattle.http_in.proofs.Readers.{one_passed}
+use Rattle.http_in.proofs.Quiet.{quiet_head}
 use Rattle.http_in.proofs.look.look.Goals as goal
 
 pub overflow_add-clean : goal.overflow_add-clean
@@ -27,6 +27,7 @@ returns-then-bytes-lt-MOST_HEAD c =
       omega (arith, size, sum, c.requires.within),
       omega (arith, size, sum, c.requires.within, c.if-bytes-lt-MOST_HEAD.true),
       passed_on c.args.bytes.now c.args.clean c.in-Goes.more c.requires.passed (subst (λ b. IsPassed (take c.in-Goes.more b)) back c.in-Goes.ensures.2),
+      quiet_head c.args.bytes.now (ap head_end (sym all) ∙ none_behind c.args.bytes.now c.args.clean c.requires.most c.requires.within c.requires.passed found),
     )
 
 pub returns-else-bytes-lt-MOST_HEAD : goal.returns-else-bytes-lt-MOST_HEAD
@@ -36,6 +37,3 @@ returns-else-bytes-lt-MOST_HEAD c =
 
 pub split_at-requires : goal.split_at-requires
 split_at-requires c = rw c.window_of-window.ensures (omega (arith, length-take 16384 c.args.bytes.now, c.requires.within, c.requires.most))
-
-pub returns-then-has_one_more : goal.returns-then-has_one_more
-returns-then-has_one_more c = one_passed c.args.bytes.now c.args.clean c.requires.passed (c.has_one_more.ensures c.if-has_one_more.true)

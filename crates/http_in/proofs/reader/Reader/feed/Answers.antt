@@ -1,17 +1,20 @@
-use Rattle.std.proofs.Common.{◌∙◌, ap, length, length-append, arith}
-use Rattle.http_in.proofs.Readers.{most_held}
+use Rattle.std.proofs.Common.{◌≡◌, ◌∙◌, length, drop, ap, sym, vec_capacity, arith}
+use Rattle.http_in.specs.Messages.{asked}
+use Rattle.http_in.specs.SizeLaws.{long_enough}
+use Rattle.http_in.specs.Streams.{Stream}
+use Rattle.http_in.proofs.Readers.{keeps_byte, most_byte}
 use Rattle.http_in.proofs.reader.Reader.feed.Goals as goal
 
-pub returns-in_err-append-clause-most :
-    goal.returns-in_err-append-clause-most
-returns-in_err-append-clause-most c =
-    most_held c.self.inside.bytes.items c.append.new.bytes.items c.self.inside.start c.self.inside.at (length c.args.piece.now) c.args.self.now
-    (c.self.view_is ∙ c.release.ensures) c.self.invariant.ordered c.self.invariant.within
-    (omega (arith, ap length c.in_err-append.ensures.err)) (omega (arith, ap length c.in_err-append.ensures.err))
+pub invariant_of-self : goal.invariant_of-self
+invariant_of-self c =
+    rw (c.push_reserved.ensures.items, c.push_reserved.ensures.capacity)
+    (keeps_byte c.self.inside.bytes.items c.self.inside.start c.self.inside.at c.self.inside.clean c.self.inside.wanted c.self.inside.quiet _ (vec_capacity c.self.inside.bytes) _ c.self.invariant (omega (arith, c.if-len-self.true)) c.quiet_by-self-inside.ensures.same c.quiet_by-self-inside.ensures.other)
+
+pub returns-then-len-self-clause-most : goal.returns-then-len-self-clause-most
+returns-then-len-self-clause-most c =
+    let seen : c.args.self.now.rest ≡ drop c.self.inside.at c.self.inside.bytes.items = ap (λ (s : Stream). s.rest) (sym c.self.view_is) in
+    λ none. rw c.push_reserved.ensures.items
+    (most_byte c.self.inside.bytes.items c.self.inside.start c.self.inside.at _ (length c.args.piece.now) (c.self.invariant.front (omega (arith, c.if-len-self.true))) c.self.invariant.within (omega (arith, c.if-piece-eq1.true)) (ap asked (sym seen) ∙ none))
 
 pub returns-clause-most : goal.returns-clause-most
-returns-clause-most c =
-    let size = ap length c.in_ok-append.ensures.ok ∙ length-append c.self.inside.bytes.items c.args.piece.now in
-    most_held c.self.inside.bytes.items c.append.new.bytes.items c.self.inside.start c.self.inside.at (length c.args.piece.now) c.args.self.now
-    (c.self.view_is ∙ c.release.ensures) c.self.invariant.ordered c.self.invariant.within
-    (omega (arith, size)) (omega (arith, size))
+returns-clause-most c = λ none. omega (arith, c.feed_on.ensures.most, long_enough c.args.self.now.rest none, ap length c.feed_on.ensures.taken)
