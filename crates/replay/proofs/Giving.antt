@@ -1,30 +1,15 @@
--- What a core shows of an item, from its one moment to its next.
-use Rattle.std.proofs.Common.{◌≡◌, ◌≤◌, ◌⊎◌, ℕ, zero, suc, List, [], ◌∷◌, Option, Some, None, refl, sym, subst, ◌∙◌, map, slice_get, length, ap, inl, inr, arith}
+-- A request that isn't given can't be run.
+use Rattle.std.proofs.Common.{◌≡◌, ◌≤◌, ◌⊎◌, ℕ, zero, suc, List, [], ◌∷◌, Option, Some, None, refl, map, slice_get, length, ap, inl, inr, arith}
 use Rattle.std.proofs.lemmas.Option.{slice_get_within}
 use Rattle.evaluator.specs.declared.draft.Draft.{Draft}
 use Rattle.evaluator.specs.declared.reply.Reply.{Reply}
 use Rattle.evaluator.specs.Exec.{Eval}
 use Rattle.schedule.specs.declared.item.Item2.{Item2}
-use Rattle.schedule.specs.declared.line.Line.{Line}
-use Rattle.schedule.specs.Courses.{Happens}
-use Rattle.schedule.specs.Follows.{Follows}
-use Rattle.schedule.specs.Moments.{Attempt, Terms, Moment, Free, clocked}
-use Rattle.fs_store.specs.Stores.{StoreView}
+use Rattle.schedule.specs.Moments.{Attempt, Terms, Free, clocked}
 use Rattle.replay.specs.BrokenOff.{CannotRun}
-use Rattle.txn_core.specs.Cores.{CoreView, IsIdle, MayBe}
+use Rattle.txn_core.specs.Cores.{CoreView, IsIdle}
 use Rattle.txn_core.specs.declared.slot.Slot.{Slot}
 use Rattle.txn_core.specs.Slots.{computed_of, doing_of, moment_of}
-
--- where nothing is undecided, a core is at one moment
-one_moment : {E R S : Type 0} (eval : Eval R) (core : CoreView E R S) (m : Moment R) → core.store.undecided ≡ None → MayBe eval core m → m ≡ moment_of eval core.store core.slots
-one_moment eval core m none (may, inl same, is) = is ∙ ap (λ (s : StoreView). moment_of eval s core.slots) same
-one_moment eval core m none (may, inr more, is) = absurd (let bad : None ≡ Some more.0 = sym none ∙ more.1 in cc)
-
-pub happens : {E R S : Type 0} (terms : Terms R) (eval : Eval R) (old new : CoreView E R S) (since now : ℕ) (item : Item2) (lines : List Line) → old.store.undecided ≡ None
-    → Follows terms (MayBe eval old) since (MayBe eval new) now item lines → Happens terms (clocked (moment_of eval old.store old.slots) since) item lines (clocked (moment_of eval new.store new.slots) now)
-happens {E} {R} {S} terms eval old new since now item lines none follows =
-    let past = follows (moment_of eval new.store new.slots) (new.store, inl refl, refl) in
-    subst (λ (m : Moment R). Happens terms (clocked m since) item lines (clocked (moment_of eval new.store new.slots) now)) (one_moment eval old past.0 none past.1) past.2
 
 -- there is no seventeenth worker
 pub not_idle : {E R S : Type 0} (core : CoreView E R S) (w : ℕ) → length core.slots ≡ 16 → 16 ≤ w → IsIdle core w → ⊥

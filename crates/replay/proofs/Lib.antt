@@ -1,6 +1,5 @@
 pub mod PrintSteps
 pub mod Flushing
-pub mod CalmSteps
 pub mod WholeReport
 pub mod BreakingOff
 pub mod LineRefusals
@@ -9,4 +8,14 @@ pub mod LostMarks
 pub mod Giving
 pub mod DumpSteps
 pub mod Closing
-pub mod Steadiness
+pub mod Handing
+pub mod StepQueues
+pub mod RestartSteps
+pub mod Keeping
+pub mod RestartMarks
+pub mod Images
+pub mod Reopening
+pub mod ItemSteps
+pub mod Endings
+pub mod MadeAnew
+pub mod OpenedRuns

@@ -9,14 +9,14 @@ use Rattle.schedule.specs.Items.{workers}
 use Rattle.schedule.specs.Moments.{Free, Moment, Terms, doing}
 use Rattle.replay.specs.Printed.{Prints, opening}
 
--- The item can't be run there: its request is no message, or isn't for a free worker; it is a step of no worker; or
--- it isn't an item that is run so far.
+-- The item can't be run there: its request is no message, or isn't for a free worker; it is a step of no worker; it arms
+-- a call that there isn't; or it is no item of a schedule.
 abbrev pub CannotRun : {R : Type 0} → Terms R → Moment R → Item2 → Type 0
 CannotRun terms m (Item2.Request w bytes) = (terms.takes bytes ≡ None) ⊎ (doing m w ≡ Some Free → ⊥)
 CannotRun terms m (Item2.Step w) = w < workers → ⊥
 CannotRun terms m (Item2.Clock t) = ⊥
-CannotRun terms m (Item2.Stop n seed) = Unit {0}
-CannotRun terms m (Item2.Fail n seed) = Unit {0}
+CannotRun terms m (Item2.Stop n seed) = 0 < n → ⊥
+CannotRun terms m (Item2.Fail n seed) = 0 < n → ⊥
 CannotRun terms m Item2.End = Unit {0}
 
 -- The line with this number can't be run. The sink grew by a report that the schedule's items before it may have,

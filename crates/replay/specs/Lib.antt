@@ -5,3 +5,7 @@ pub mod BrokenOff
 pub mod Refusals
 pub mod Dumped
 pub mod Held
+pub mod Handed
+pub mod Restarts
+pub mod Kept
+pub mod Replayed

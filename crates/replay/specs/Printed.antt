@@ -7,11 +7,9 @@ use Rattle.evaluator.specs.Exec.{Eval}
 use Rattle.http_out.specs.Replies.{answer}
 use Rattle.schedule.specs.declared.item.Item2.{Item2}
 use Rattle.schedule.specs.declared.line.Line.{Line}
-use Rattle.schedule.specs.Courses.{Happens}
-use Rattle.schedule.specs.CourseLaws.{IsCalm, RanCalm}
 use Rattle.schedule.specs.Explained.{Explained, history_lines}
 use Rattle.schedule.specs.Lines.{report_text}
-use Rattle.schedule.specs.Moments.{Terms, Moment, lost_lines, start}
+use Rattle.schedule.specs.Moments.{Terms, Moment, lost_lines}
 
 -- the sink grew by these lines
 abbrev pub Prints : Option (List ℕ) → Option (List ℕ) → List Line → Type 0
@@ -20,10 +18,6 @@ Prints old new lines = new ≡ append_known old (report_text lines)
 -- what the reports of an evaluator rest on, over a file that ends there and may have so many bytes
 abbrev pub terms_of : {R : Type 0} → (List ℕ → Option R) → Eval R → ℕ → ℕ → Terms R
 terms_of takes eval limit end = record { takes = takes; eval = eval; answer = answer; limit = limit; opened = end }
-
--- the sink grew by lines that the item prints from the one moment to the other
-abbrev pub HappensPrinted : {R : Type 0} → Terms R → Moment R → Item2 → Moment R → Option (List ℕ) → Option (List ℕ) → Type 0
-HappensPrinted terms before item after old new = (lines : List Line) × Happens terms before item lines after × IsCalm item lines × Prints old new lines
 
 -- the sink grew by a report that the schedule may have, and that ends in this history
 pub record PrintsReport {R : Type 0} (terms : Terms R) (h0 : History) (items : List Item2) (last : History) (old new : Option (List ℕ)) : Type 0 where
@@ -35,10 +29,6 @@ pub record PrintsReport {R : Type 0} (terms : Terms R) (h0 : History) (items : L
 -- what opens a report
 abbrev pub opening : History → List Line
 opening h = Line.Head ∷ Line.Opened (last h) (length h.transactions) ∷ []
-
--- all items were run from the start to that moment, and printed behind what opens the report
-abbrev pub Ran : {R : Type 0} → Terms R → History → List Item2 → Moment R → Option (List ℕ) → Option (List ℕ) → Type 0
-Ran terms h items end old new = (lines : List Line) × RanCalm terms (start terms h) items lines end × Prints old new (opening h ++ lines)
 
 -- what closes a report
 abbrev pub closing : {R : Type 0} → Moment R → List Line

@@ -1,13 +1,15 @@
 ghost use Rattle.std.specs.Prelude.{◌≡◌};
 ghost use Rattle.replay.specs.Refusals.{of_outside};
 
+use fs_record::Damage;
 use zio::OutsideRefusal;
 
-/// Why a run was broken off.
+/// Why a run was broken off, or didn't begin.
 #[derive(Clone, Copy, Debug, PartialEq, Eq)]
 pub enum RunRefusal {
-    /// The line with this number can't be run: its request is no message, or its worker has one already; or it is
-    /// of a kind that isn't run so far.
+    /// The file has this damage, in the transaction at that place. Nothing was run.
+    Damaged(Damage, u64),
+    /// The line with this number can't be run: its request is no message, or its worker has one already.
     BadLine(u64),
     /// The sink failed.
     Output,

@@ -12,15 +12,15 @@ fn other_items_break_the_run_off(rt: HostRuntime) -> Result<(), Fail> {
         Item2::Step(16),
         Item2::Step(u32::MAX),
         Item2::Request(16, Bytes::from_slice(alloc, b"log")?),
-        Item2::Stop(1, 0),
-        Item2::Fail(1, 0),
+        Item2::Stop(0, 1),
+        Item2::Fail(0, 1),
         Item2::End,
     ] {
         let mut items = Schedule::new(alloc);
         items.push(Item2::Step(15))?;
         items.push(item)?;
         items.push(Item2::Step(0))?;
-        let (refusal, text) = ran(alloc, items.as_slice(), Cells::new(alloc))?;
+        let (refusal, text) = ran(alloc, &items, Cells::new(alloc))?;
         assert_eq!(rt; refusal, Some(RunRefusal::BadLine(3)));
         assert_eq!(rt;
             text.as_str(),

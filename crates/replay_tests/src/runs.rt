@@ -1,25 +1,21 @@
-use crate::stores::store_of;
 use evaluator::Evaluator;
 use replay::{RunRefusal, replay};
-use schedule::Item2;
+use schedule::Schedule;
 use std::alloc::Global;
 use std::test::Fail;
-use zbase::FaultPlan;
+use zbase::{Bytes, FaultPlan};
 use zio::MemorySink;
 
-/// Runs items by an evaluator, over a store without transactions: why the run was broken off, if it was, and all that it
+/// Runs a schedule by an evaluator, over a file without transactions: why the run was broken off, if it was, and all that it
 /// printed.
 pub(crate) fn ran<E: Evaluator>(
     alloc: Global,
-    items: &[Item2],
+    schedule: &Schedule,
     evaluator: E,
 ) -> Result<(Option<RunRefusal>, String), Fail> {
-    let store = store_of(alloc)?;
+    let file = Bytes::from_slice(alloc, b"FS21")?;
     let mut sink = MemorySink::new(alloc, FaultPlan::new(Vec::new(alloc)));
-    let refusal = match replay(alloc, store, items, evaluator, &mut sink) {
-        Ok(_disk) => None,
-        Err(refusal) => Some(refusal),
-    };
+    let refusal = replay(alloc, file, 1_000, schedule, evaluator, &mut sink).err();
     let Ok(text) = str::from_utf8(sink.bytes()) else {
         return Err(Fail::from("no text"));
     };

@@ -74,7 +74,7 @@ fn want_of_memory_ends_its_request_alone(rt: HostRuntime) -> Result<(), Fail> {
             cells: Cells::new(alloc),
             left,
         };
-        let (refusal, text) = ran(alloc, items.as_slice(), starving)?;
+        let (refusal, text) = ran(alloc, &items, starving)?;
         assert_eq!(rt; refusal, None);
         assert_eq!(rt; text.as_str(), wanted);
     }

@@ -1,5 +1,5 @@
 -- What a command over a file did is what its words ask for.
-use Rattle.std.proofs.Common.{ℕ, List, Option, Result, Ok, Err, inl, inr}
+use Rattle.std.proofs.Common.{ℕ, List, Result, Ok, Err, inl, inr}
 use Rattle.std.specs.Prelude.{IfErr, OnOk}
 use Rattle.zope.specs.declared.refusal.Refusal.{Refusal}
 use Rattle.zope.specs.Causes.{Cause, Did}

@@ -3,9 +3,9 @@ use Rattle.std.proofs.Common.{◌≡◌, ℕ, ◌≤◌, ◌<◌, List, Option, 
 use Rattle.std.proofs.lemmas.Bool.Decides.{nat_tests}
 use Rattle.zbase.specs.Faults.{Counter, Rose}
 use Rattle.zope.specs.declared.refusal.Refusal.{Refusal}
-use Rattle.zope.specs.Causes.{Cause, Comes, Names, NoCause}
+use Rattle.zope.specs.Causes.{Cause, Names, NoCause}
 use Rattle.zope.specs.Ends.{Ends, status_of}
-use Rattle.zope.specs.Outside.{DiskFailed, OutsideView, SinkFailed, SourceFailed}
+use Rattle.zope.specs.Outside.{OutsideView, SinkFailed}
 use Rattle.zope.proofs.NoCauses.{NotBoth, NotDamaged, OneSchedule, only_memory, sink_is_calm, told}
 
 -- a refusal for the sink has it that the sink failed
@@ -13,7 +13,7 @@ sink_cause : (words : List (List ℕ)) (old mid : OutsideView) → Cause words o
 sink_cause words old mid (inl usage) = (let is = usage.0 in absurd cc)
 sink_cause words old mid (inr (inl (name, limit, is, inl input))) = absurd input.0
 sink_cause words old mid (inr (inl (name, limit, is, inr (inl file)))) = absurd file.2
-sink_cause words old mid (inr (inl (name, limit, is, inr (inr run)))) = run.6
+sink_cause words old mid (inr (inl (name, limit, is, inr (inr run)))) = run.4.0
 sink_cause words old mid (inr (inr (inl (name, is, inl scan)))) = absurd scan.0
 sink_cause words old mid (inr (inr (inl (name, is, inr print)))) = print.2.0
 sink_cause words old mid (inr (inr (inr (name, is, dump)))) = dump

@@ -13,8 +13,8 @@ use Rattle.fs_scan.specs.declared.opening.ScanRefusal.{ScanRefusal}
 use Rattle.replay.specs.declared.dumping.DumpRefusal.{DumpRefusal}
 use Rattle.zope.specs.DumpCauses.{DumpCause, IsOfDump, of_dump}
 use Rattle.zope.specs.CheckCauses.{IsOfScan, ScanCause, of_scan}
-use Rattle.zope.specs.Given.{IfKept, Stored, most_file}
-use Rattle.zope.specs.ReplayCauses.{FileCause, IsOfReading, of_file}
+use Rattle.zope.specs.Given.{IfKept, most_file}
+use Rattle.zope.specs.ReplayCauses.{FileCause, of_file}
 use Rattle.zope.specs.Shelved.{IsLength, IsMissing, IsPresent}
 
 -- the length of a disk is that of the file which it was opened over
@@ -37,22 +37,6 @@ unread files name failed FileRefusal.Missing missing long disk there = missing r
 unread files name failed (FileRefusal.TooLarge n) missing long disk there = long n refl
 unread files name failed FileRefusal.Disk missing long disk there = (disk refl, there refl)
 unread files name failed FileRefusal.Memory missing long disk there = tt
-
-pub unopened : {T : Type 0} (files : Option (List Entry)) (name bytes : List ℕ) (failed : Type 0) (r : Result T Refusal) → Stored files name bytes
-    → ((kind : Damage) (place : ℕ) → IsErrOf r (Refusal.Damaged kind place) → Damaged bytes place kind)
-    → IfErr r IsOfReading → IfErr r (FileCause files name failed)
-unopened files name bytes failed (Ok x) stored damaged others = tt
-unopened files name bytes failed (Err (Refusal.Damaged kind place)) stored damaged others = (bytes, stored, damaged kind place refl)
-unopened files name bytes failed (Err Refusal.Memory) stored damaged others = tt
-unopened files name bytes failed (Err Refusal.Usage) stored damaged others = absurd others
-unopened files name bytes failed (Err (Refusal.BadLine n)) stored damaged others = absurd others
-unopened files name bytes failed (Err Refusal.Disk) stored damaged others = absurd others
-unopened files name bytes failed (Err Refusal.Input) stored damaged others = absurd others
-unopened files name bytes failed (Err Refusal.Output) stored damaged others = absurd others
-unopened files name bytes failed (Err Refusal.Missing) stored damaged others = absurd others
-unopened files name bytes failed (Err Refusal.InputTooLarge) stored damaged others = absurd others
-unopened files name bytes failed (Err (Refusal.FileTooLarge n)) stored damaged others = absurd others
-unopened files name bytes failed (Err (Refusal.TooLong n)) stored damaged others = absurd others
 
 -- what holds of the bytes of a disk holds of the file which it was opened over
 pub kept : (files : Option (List Entry)) (name : List ℕ) (told : Option Told) (P : List ℕ → Type 0) → IfSome files (λ all. told ≡ option_map synced (file_at all name)) → IfSome files (λ all. file_at all name ≡ None → ⊥) → IfSome told (λ t. (length (content t) ≤ most_length) × P (content t)) → IfKept files name P

@@ -1,12 +1,10 @@
 -- A run that writes nothing, where nothing is a cause, is one for which memory was wanting.
-use Rattle.std.proofs.Common.{◌≡◌, ℕ, List, [], ◌∷◌, Some, refl, inl, inr, ◌∙◌, ap, arith}
+use Rattle.std.proofs.Common.{◌≡◌, ℕ, [], ◌∷◌, Some, refl, inl, inr, ◌∙◌, ap, arith}
 use Rattle.std.specs.Prelude.{codes}
 use Rattle.fs_record.specs.File.{front_of, magic}
 use Rattle.fs_record.specs.Opening.{Cut, is_end}
-use Rattle.zope.specs.declared.refusal.Refusal.{Refusal}
 use Rattle.zope.specs.Causes.{NoCause}
 use Rattle.zope.specs.Ends.{Ends, status_of}
-use Rattle.zope.specs.Given.{IsSound}
 use Rattle.zope.specs.Worked.{calm, checking, untouched}
 use Rattle.zope.proofs.NoCauses.{NotBoth, NotDamaged, OneSchedule, only_memory}
 

@@ -1,8 +1,7 @@
 -- Where a command meets no cause, it ends well or for want of memory.
-use Rattle.std.proofs.Common.{◌≡◌, ℕ, ◌≤◌, ◌<◌, List, [], ◌∷◌, length, Option, None, Some, refl, sym, ap, subst, ◌∙◌, ◌⊎◌, Bool, true, false, nat_lt, arith, inl, inr}
+use Rattle.std.proofs.Common.{◌≡◌, ℕ, ◌≤◌, ◌<◌, List, [], ◌∷◌, length, Option, None, Some, refl, sym, ap, subst, ◌∙◌, ◌⊎◌, arith, inl, inr}
 use Rattle.std.specs.Prelude.{IfSome}
 use Rattle.std.specs.Option.{option_map}
-use Rattle.std.proofs.lemmas.Bool.Decides.{nat_tests}
 use Rattle.zbase.specs.Faults.{Counter, Rose}
 use Rattle.zio.specs.Shelves.{Entry, file_at}
 use Rattle.fs_record.specs.declared.damage.Damage.{Damage}
@@ -20,8 +19,7 @@ use Rattle.zope.specs.DumpCauses.{DumpCause}
 use Rattle.zope.specs.Given.{IfKept, IsSound, most_file, most_input}
 use Rattle.zope.specs.ReplayCauses.{Broke, FileCause, InputCause, NoReplayCause, ReplayCause, RunCause}
 use Rattle.zope.specs.Shelved.{HasFile, IsLength, IsMissing}
-use Rattle.zope.specs.Stores.{Opens}
-use Rattle.zope.specs.Words.{GivesLimit, IsCheckOf, IsCommand, IsDumpOf, IsReplayWith}
+use Rattle.zope.specs.Words.{GivesLimit, IsCheckOf, IsDumpOf, IsReplayWith}
 
 abbrev pub OneSchedule : Type 0
 OneSchedule = (text : List ℕ) (a b : List Item2) → IsSchedule text a → IsSchedule text b → a ≡ b
@@ -71,36 +69,34 @@ of_input input text failed items given within spells law calm (Refusal.TooLong n
 has_same : (files : Option (List Entry)) (entries : List Entry) (name a b : List ℕ) → files ≡ Some entries → file_at entries name ≡ Some a → HasFile files name b → a ≡ b
 has_same files entries name a b shelf there has = same_bytes (file_at entries name) a b there (subst (λ f. HasFile f name b) shelf has)
 
-of_file : (files : Option (List Entry)) (entries : List Entry) (name bytes : List ℕ) (front : Front) (end : ℕ) (failed : Type 0) → files ≡ Some entries → file_at entries name ≡ Some bytes → length bytes ≤ most_file → Cut bytes front end → NotDamaged → (failed → ⊥) → (e : Refusal) → FileCause files name failed e → e ≡ Refusal.Memory
-of_file files entries name bytes front end failed shelf there fits opens law calm Refusal.Memory cause = refl
-of_file files entries name bytes front end failed shelf there fits opens law calm Refusal.Missing cause = absurd (not_none (file_at entries name) bytes there (subst (λ f. IfSome f (λ all. file_at all name ≡ None)) shelf cause))
-of_file files entries name bytes front end failed shelf there fits opens law calm (Refusal.FileTooLarge n) cause =
+of_file : (files : Option (List Entry)) (entries : List Entry) (name bytes : List ℕ) (failed : Type 0) → files ≡ Some entries → file_at entries name ≡ Some bytes → length bytes ≤ most_file → (failed → ⊥) → (e : Refusal) → FileCause files name failed e → e ≡ Refusal.Memory
+of_file files entries name bytes failed shelf there fits calm Refusal.Memory cause = refl
+of_file files entries name bytes failed shelf there fits calm Refusal.Missing cause = absurd (not_none (file_at entries name) bytes there (subst (λ f. IfSome f (λ all. file_at all name ≡ None)) shelf cause))
+of_file files entries name bytes failed shelf there fits calm (Refusal.FileTooLarge n) cause =
     let long : option_map length (file_at entries name) ≡ Some n = subst (λ f. IsLength f name n) shelf cause.1 in
     let same : length bytes ≡ n = same_bytes (option_map length (file_at entries name)) (length bytes) n (ap (option_map length) there) long in
     absurd (omega (arith, cause.0, same))
-of_file files entries name bytes front end failed shelf there fits opens law calm Refusal.Disk cause = absurd (calm cause.0)
-of_file files entries name bytes front end failed shelf there fits opens law calm (Refusal.Damaged kind place) cause =
-    let same = has_same files entries name bytes cause.0 shelf there cause.1.has in
-    absurd (law bytes front end place kind opens (subst (λ (b : List ℕ). Damaged b place kind) (sym same) cause.2))
-of_file files entries name bytes front end failed shelf there fits opens law calm Refusal.Usage cause = absurd cause
-of_file files entries name bytes front end failed shelf there fits opens law calm (Refusal.BadLine n) cause = absurd cause
-of_file files entries name bytes front end failed shelf there fits opens law calm Refusal.Input cause = absurd cause
-of_file files entries name bytes front end failed shelf there fits opens law calm Refusal.Output cause = absurd cause
-of_file files entries name bytes front end failed shelf there fits opens law calm Refusal.InputTooLarge cause = absurd cause
-of_file files entries name bytes front end failed shelf there fits opens law calm (Refusal.TooLong n) cause = absurd cause
+of_file files entries name bytes failed shelf there fits calm Refusal.Disk cause = absurd (calm cause.0)
+of_file files entries name bytes failed shelf there fits calm (Refusal.Damaged kind place) cause = absurd cause
+of_file files entries name bytes failed shelf there fits calm Refusal.Usage cause = absurd cause
+of_file files entries name bytes failed shelf there fits calm (Refusal.BadLine n) cause = absurd cause
+of_file files entries name bytes failed shelf there fits calm Refusal.Input cause = absurd cause
+of_file files entries name bytes failed shelf there fits calm Refusal.Output cause = absurd cause
+of_file files entries name bytes failed shelf there fits calm Refusal.InputTooLarge cause = absurd cause
+of_file files entries name bytes failed shelf there fits calm (Refusal.TooLong n) cause = absurd cause
 
-of_run : (broken : ℕ → Type 0) (failed : Type 0) → ((n : ℕ) → broken n → ⊥) → (failed → ⊥) → (e : Refusal) → RunCause broken failed e → e ≡ Refusal.Memory
-of_run broken failed runs calm Refusal.Memory cause = refl
-of_run broken failed runs calm Refusal.Output cause = absurd (calm cause)
-of_run broken failed runs calm (Refusal.BadLine n) cause = absurd (runs n cause)
-of_run broken failed runs calm Refusal.Usage cause = absurd cause
-of_run broken failed runs calm (Refusal.Damaged kind place) cause = absurd cause
-of_run broken failed runs calm Refusal.Disk cause = absurd cause
-of_run broken failed runs calm Refusal.Input cause = absurd cause
-of_run broken failed runs calm Refusal.Missing cause = absurd cause
-of_run broken failed runs calm Refusal.InputTooLarge cause = absurd cause
-of_run broken failed runs calm (Refusal.FileTooLarge n) cause = absurd cause
-of_run broken failed runs calm (Refusal.TooLong n) cause = absurd cause
+of_run : (limit : ℕ) (bytes : List ℕ) (items : List Item2) (failed : Type 0) (old new : Option (List ℕ)) (front : Front) (end : ℕ) → Cut bytes front end → NotDamaged → ((n : ℕ) → Broke limit bytes items old new n → ⊥) → (failed → ⊥) → (e : Refusal) → RunCause limit bytes items failed old new e → e ≡ Refusal.Memory
+of_run limit bytes items failed old new front end opens law runs calm Refusal.Memory cause = refl
+of_run limit bytes items failed old new front end opens law runs calm Refusal.Output cause = absurd (calm cause.0)
+of_run limit bytes items failed old new front end opens law runs calm (Refusal.BadLine n) cause = absurd (runs n cause)
+of_run limit bytes items failed old new front end opens law runs calm (Refusal.Damaged kind place) cause = absurd (law bytes front end place kind opens cause.0)
+of_run limit bytes items failed old new front end opens law runs calm Refusal.Usage cause = absurd cause
+of_run limit bytes items failed old new front end opens law runs calm Refusal.Disk cause = absurd cause
+of_run limit bytes items failed old new front end opens law runs calm Refusal.Input cause = absurd cause
+of_run limit bytes items failed old new front end opens law runs calm Refusal.Missing cause = absurd cause
+of_run limit bytes items failed old new front end opens law runs calm Refusal.InputTooLarge cause = absurd cause
+of_run limit bytes items failed old new front end opens law runs calm (Refusal.FileTooLarge n) cause = absurd cause
+of_run limit bytes items failed old new front end opens law runs calm (Refusal.TooLong n) cause = absurd cause
 
 kept_same : (files : Option (List Entry)) (entries : List Entry) (name bytes : List ℕ) (P : List ℕ → Type 0) → files ≡ Some entries → file_at entries name ≡ Some bytes → IfKept files name P → P bytes
 kept_same files entries name bytes P shelf there kept =
@@ -139,13 +135,14 @@ of_print failed text old new calm (Refusal.TooLong n) cause = absurd cause
 -- the sink of the whole run has failed where that of the command has
 replay_memory : (name : List ℕ) (limit : ℕ) (files : Option (List Entry)) (input : Option (List ℕ)) (source sink more disk : Type 0) (old new : Option (List ℕ)) (e : Refusal) → OneSchedule → NotBoth → NotDamaged → (sink → more) → ReplayCause name limit files input source sink disk old new e → NoReplayCause name limit files input source more disk → e ≡ Refusal.Memory
 replay_memory name limit files input source sink more disk old new e one both law wider (inl c) meets = of_input input meets.text source meets.items meets.given meets.within meets.spells both meets.source_calm e c.0
-replay_memory name limit files input source sink more disk old new e one both law wider (inr (inl c)) meets = of_file files meets.entries name meets.bytes meets.front meets.end disk meets.shelf meets.there meets.fits meets.opens law meets.disk_calm e c.2
+replay_memory name limit files input source sink more disk old new e one both law wider (inr (inl c)) meets = of_file files meets.entries name meets.bytes disk meets.shelf meets.there meets.fits meets.disk_calm e c.2
 replay_memory name limit files input source sink more disk old new e one both law wider (inr (inr c)) meets =
     let spelled : IsSchedule meets.text c.0 = subst (λ i. IfSome i (λ t. IsSchedule t c.0)) meets.given c.1.spells in
     let same : c.0 ≡ meets.items = one meets.text c.0 meets.items spelled meets.spells in
-    let bytes = has_same files meets.entries name meets.bytes c.2 meets.shelf meets.there c.4.has in
-    let opens : Opens meets.bytes limit c.3 = subst (λ (b : List ℕ). Opens b limit c.3) (sym bytes) c.5 in
-    of_run (Broke c.3 c.0 old new) sink (λ n broke. meets.runs c.3 n old new opens (subst (λ (xs : List Item2). Broke c.3 xs old new n) same broke)) (λ rose. meets.sink_calm (wider rose)) e c.6
+    let bytes = has_same files meets.entries name meets.bytes c.2 meets.shelf meets.there c.3.has in
+    let Of : List ℕ → List Item2 → Type 0 = λ bs items. RunCause limit bs items sink old new e in
+    let cause : Of meets.bytes meets.items = subst (λ (b : List ℕ). Of b meets.items) (sym bytes) (subst (λ (items : List Item2). Of c.2 items) same c.4) in
+    of_run limit meets.bytes meets.items sink old new meets.front meets.end meets.opens law (λ n broke. meets.runs n old new broke) (λ rose. meets.sink_calm (wider rose)) e cause
 
 check_memory : (name : List ℕ) (files : Option (List Entry)) (sink more disk : Type 0) (old new : Option (List ℕ)) (e : Refusal) → NotDamaged → (sink → more) → CheckCause name files sink disk old new e → IsSound name files more disk → e ≡ Refusal.Memory
 check_memory name files sink more disk old new e law wider (inl c) meets = of_scan files meets.entries name meets.bytes meets.front meets.end disk meets.shelf meets.there meets.fits meets.opens law meets.disk_calm e c.0

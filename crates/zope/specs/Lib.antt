@@ -1,7 +1,6 @@
 pub mod Words
 pub mod Shelved
 pub mod Given
-pub mod Stores
 pub mod Replayed
 pub mod Numbers
 pub mod ReplayCauses

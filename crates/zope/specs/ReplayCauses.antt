@@ -12,15 +12,12 @@ use Rattle.schedule.specs.declared.reader.ScheduleRefusal.{ScheduleRefusal}
 use Rattle.zope.specs.declared.refusal.FileRefusal.{FileRefusal}
 use Rattle.zope.specs.declared.refusal.InputRefusal.{InputRefusal}
 use Rattle.zope.specs.declared.refusal.Refusal.{Refusal}
-use Rattle.fs_store.specs.Stores.{StoreView}
 use Rattle.publisher.specs.Messages.{message_of}
 use Rattle.publisher.specs.Site.{site}
 use Rattle.replay.specs.declared.refusal.RunRefusal.{RunRefusal}
-use Rattle.replay.specs.BrokenOff.{BrokenOff}
-use Rattle.replay.specs.Printed.{terms_of}
+use Rattle.replay.specs.Replayed.{AreOpened, Breaks}
 use Rattle.zope.specs.Given.{Scheduled, Stored, most_file, most_input}
 use Rattle.zope.specs.Shelved.{IsLength, IsMissing, IsPresent}
-use Rattle.zope.specs.Stores.{Opens}
 
 -- what the input is refused for; a source that failed has its count
 abbrev pub InputCause : Option (List ℕ) → Type 0 → Refusal → Type 0
@@ -35,33 +32,27 @@ abbrev pub FileCause : Option (List Entry) → List ℕ → Type 0 → Refusal �
 FileCause files name failed Refusal.Missing = IsMissing files name
 FileCause files name failed (Refusal.FileTooLarge n) = (most_file < n) × IsLength files name n
 FileCause files name failed Refusal.Disk = failed × IsPresent files name
-FileCause files name failed (Refusal.Damaged kind place) = (bytes : List ℕ) × Stored files name bytes × Damaged bytes place kind
 FileCause files name failed Refusal.Memory = Unit {0}
 FileCause files name failed _ = ⊥
 
--- what the opening of bytes that were read may be refused for
-abbrev pub IsOfReading : Refusal → Type 0
-IsOfReading (Refusal.Damaged kind place) = Unit {0}
-IsOfReading Refusal.Memory = Unit {0}
-IsOfReading _ = ⊥
+-- the run over these bytes was broken off at the line of that number
+abbrev pub Broke : ℕ → List ℕ → List Item2 → Option (List ℕ) → Option (List ℕ) → ℕ → Type 0
+Broke limit bytes items old new n = Breaks message_of site limit bytes items n old new
 
--- what the run is broken off for
-abbrev pub RunCause : (ℕ → Type 0) → Type 0 → Refusal → Type 0
-RunCause broken failed Refusal.Output = failed
-RunCause broken failed (Refusal.BadLine n) = broken n
-RunCause broken failed Refusal.Memory = Unit {0}
-RunCause broken failed _ = ⊥
+-- what a run over these bytes is refused for; where that is their damage, nothing was written
+abbrev pub RunCause : (limit : ℕ) (bytes : List ℕ) (items : List Item2) (failed : Type 0) (old new : Option (List ℕ)) → Refusal → Type 0
+RunCause limit bytes items failed old new (Refusal.Damaged kind place) = Damaged bytes place kind × (new ≡ old)
+RunCause limit bytes items failed old new (Refusal.BadLine n) = Broke limit bytes items old new n
+RunCause limit bytes items failed old new Refusal.Output = failed × AreOpened bytes
+RunCause limit bytes items failed old new Refusal.Memory = Unit {0}
+RunCause limit bytes items failed old new _ = ⊥
 
--- the run over that file was broken off at the line of that number
-abbrev pub Broke : StoreView → List Item2 → Option (List ℕ) → Option (List ℕ) → ℕ → Type 0
-Broke s items old new n = BrokenOff (terms_of message_of site s.limit s.end) s.history items n old new
-
--- The cause of a refusal: of the input, of the file, or of the run. Until the run nothing is written.
+-- The cause of a refusal: of the input, of the file, or of the run over its bytes. Until the run nothing is written.
 abbrev pub ReplayCause : (name : List ℕ) (limit : ℕ) (files : Option (List Entry)) (input : Option (List ℕ)) (source sink disk : Type 0) (old new : Option (List ℕ)) → Refusal → Type 0
 ReplayCause name limit files input source sink disk old new e =
     (InputCause input source e × (new ≡ old))
     ⊎ (((items : List Item2) × Scheduled input items × FileCause files name disk e × (new ≡ old))
-    ⊎ ((items : List Item2) × Scheduled input items × (bytes : List ℕ) × (s : StoreView) × Stored files name bytes × Opens bytes limit s × RunCause (Broke s items old new) sink e))
+    ⊎ ((items : List Item2) × Scheduled input items × (bytes : List ℕ) × Stored files name bytes × RunCause limit bytes items sink old new e))
 
 -- a refusal of a part, as one of the command
 
@@ -81,6 +72,7 @@ of_file FileRefusal.Disk = Refusal.Disk
 of_file FileRefusal.Memory = Refusal.Memory
 
 abbrev pub of_run : RunRefusal → Refusal
+of_run (RunRefusal.Damaged kind place) = Refusal.Damaged kind place
 of_run (RunRefusal.BadLine n) = Refusal.BadLine n
 of_run RunRefusal.Output = Refusal.Output
 of_run RunRefusal.Memory = Refusal.Memory
@@ -101,7 +93,8 @@ pub record NoReplayCause (name : List ℕ) (limit : ℕ) (files : Option (List E
   pub within : length text ≤ most_input
   pub items : List Item2
   pub spells : IsSchedule text items
-  pub runs : (s : StoreView) (n : ℕ) (old new : Option (List ℕ)) → Opens bytes limit s → Broke s items old new n → ⊥
+  -- whatever report the lines before it may have, a line's request is one message and comes to a free worker
+  pub runs : (n : ℕ) (old new : Option (List ℕ)) → Broke limit bytes items old new n → ⊥
   pub source_calm : source → ⊥
   pub sink_calm : sink → ⊥
   pub disk_calm : disk → ⊥

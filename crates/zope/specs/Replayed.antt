@@ -3,22 +3,29 @@ use Rattle.std.specs.Prelude.{ℕ, List, Option}
 use Rattle.zbase.specs.History.{History}
 use Rattle.zio.specs.Shelves.{Entry}
 use Rattle.schedule.specs.declared.item.Item2.{Item2}
-use Rattle.fs_store.specs.Stores.{StoreView}
+use Rattle.schedule.specs.declared.line.Line.{Line}
+use Rattle.schedule.specs.Explained.{Explained}
+use Rattle.fs_store.specs.Moments.{OpensTo}
 use Rattle.publisher.specs.Messages.{message_of}
 use Rattle.publisher.specs.Site.{site}
-use Rattle.replay.specs.Printed.{terms_of, PrintsReport}
+use Rattle.replay.specs.Printed.{Prints, terms_of}
 use Rattle.zope.specs.Given.{Scheduled, Stored}
-use Rattle.zope.specs.Stores.{Opens}
+
+-- these bytes open to a history, and the sink grew by a report that the schedule may have over it
+pub record Explains (limit : ℕ) (bytes : List ℕ) (items : List Item2) (old new : Option (List ℕ)) : Type 0 where
+  pub history : History
+  pub end : ℕ
+  pub opens : OpensTo bytes history end
+  pub report : List Line
+  pub explained : Explained (terms_of message_of site limit end) history items report
+  pub printed : Prints old new report
 
 pub record Replayed (name : List ℕ) (limit : ℕ) (files : Option (List Entry)) (input old new : Option (List ℕ)) : Type 0 where
-  -- where the shelf tells, that file has these bytes, not too many, which open to this history
+  -- where the shelf tells, that file has these bytes, and not too many
   pub bytes : List ℕ
   pub file : Stored files name bytes
-  pub opened : StoreView
-  pub opens : Opens bytes limit opened
-  -- where the source tells, all of the input spells this schedule, within its limit, which arms nothing
+  -- where the source tells, all of the input spells this schedule, within its limit
   pub items : List Item2
   pub scheduled : Scheduled input items
-  -- the sink grew by a report that this schedule may have over that history
-  pub last : History
-  pub printed : PrintsReport (terms_of message_of site opened.limit opened.end) opened.history items last old new
+  -- what was written explains the schedule over that file
+  pub explains : Explains limit bytes items old new

@@ -52,6 +52,8 @@ fn numbers_of<F: Shelf>(alloc: Global, files: &mut F, name: &str) -> Result<Chec
         Err(ShelfRefusal::Missing) => Err(Refusal::Missing),
         Err(ShelfRefusal::Failed) => Err(Refusal::Disk),
         Err(ShelfRefusal::Memory) => Err(Refusal::Memory),
+        // A file that is there is what was asked for.
+        Err(ShelfRefusal::Exists) => unreachable!(),
     }
 }
 

@@ -54,6 +54,8 @@ fn dump_named<F: Shelf, K: Sink>(
         Err(ShelfRefusal::Missing) => Err(Refusal::Missing),
         Err(ShelfRefusal::Failed) => Err(Refusal::Disk),
         Err(ShelfRefusal::Memory) => Err(Refusal::Memory),
+        // A file that is there is what was asked for.
+        Err(ShelfRefusal::Exists) => unreachable!(),
     }
 }
 

@@ -66,5 +66,7 @@ pub fn read_file<F: Shelf>(alloc: Global, files: &mut F, name: &str) -> Result<V
         Err(ShelfRefusal::Missing) => Err(FileRefusal::Missing),
         Err(ShelfRefusal::Failed) => Err(FileRefusal::Disk),
         Err(ShelfRefusal::Memory) => Err(FileRefusal::Memory),
+        // A file that is there is what was asked for.
+        Err(ShelfRefusal::Exists) => unreachable!(),
     }
 }

@@ -127,6 +127,7 @@ impl From<RunRefusal> for Refusal {
 
     fn from(refusal: RunRefusal) -> Refusal {
         match refusal {
+            RunRefusal::Damaged(kind, place) => Refusal::Damaged(kind, place),
             RunRefusal::BadLine(line) => Refusal::BadLine(line),
             RunRefusal::Output => Refusal::Output,
             RunRefusal::Memory => Refusal::Memory,

@@ -88,6 +88,14 @@ impl Shelf for LongShelf {
             faults: FaultCount::new(),
         })
     }
+
+    fn create(&mut self, _name: &str) -> Result<LongDisk, ShelfRefusal> {
+        Err(ShelfRefusal::Exists)
+    }
+
+    fn replace(&mut self, _new: &str, _main: &str) -> Result<(), ShelfRefusal> {
+        Err(self.faults.fault().into())
+    }
 }
 
 /// Whether a command over a file of that length ends with this status and this output.

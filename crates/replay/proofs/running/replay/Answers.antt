@@ -1,6 +1,14 @@
-use Rattle.replay.specs.Printed.{terms_of}
-use Rattle.replay.proofs.Flushing.{flushed_break, none_due}
+use Rattle.std.proofs.Common.{◌∙◌, Err, ap}
+use Rattle.replay.specs.Replayed.{Breaks}
+use Rattle.replay.proofs.Flushing.{flushed, none_due}
+use Rattle.replay.proofs.OpenedRuns.{flushed_replays}
 use Rattle.replay.proofs.running.replay.Goals as goal
 
+pub returns-in-Ok-run_over-clause-replays : goal.returns-in-Ok-run_over-clause-replays
+returns-in-Ok-run_over-clause-replays g c =
+    let ran = rw c.as_slice-items.ensures at (c.in-Ok-run_over.ensures.replays c.args.bytes c.in_ok-store.ensures.opened) in
+    flushed_replays _ _ _ _ (none_due _ _ c.in-Ok.ensures) c.in_ok-flush-in-Ok-run_over.ensures.ok.1 ran
+
 pub returns-in-Err-BadLine-clause-bad_line : goal.returns-in-Err-BadLine-clause-bad_line
-returns-in-Err-BadLine-clause-bad_line g c n is = flushed_break (terms_of g.E.Evaluator.takes g.E.Evaluator.meaning c.args.store.limit c.args.store.end) c.args.store.history c.args.items.now n _ _ _ _ (none_due _ _ c.in-Ok.ensures) c.in_ok-flush-in-Err-BadLine.ensures.ok.1 (c.in-Err-BadLine.ensures.bad_line n (rw c.in-Err-BadLine.field-0-is is))
+returns-in-Err-BadLine-clause-bad_line g c n is = flushed (λ o w. Breaks g.E.Evaluator.takes g.E.Evaluator.meaning c.args.limit c.args.bytes c.args.schedule.now n o w) _ _ _ _ (none_due _ _ c.in-Ok.ensures) c.in_ok-flush-in-Err-BadLine.ensures.ok.1
+    (rw c.as_slice-items.ensures at (c.in-Err-BadLine.ensures.bad_line n (rw c.in-Err-BadLine.field-0-is is) c.args.bytes c.in_ok-store.ensures.opened))

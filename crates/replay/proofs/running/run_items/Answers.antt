@@ -1,74 +1,78 @@
-use Rattle.std.proofs.Common.{[], ◌∷◌, ◌++◌, ◌∙◌, ◌≡◌, Err, ap, sym, subst, refl, arith, length}
-use Rattle.std.proofs.lemmas.List.{take_all}
+use Rattle.std.proofs.Common.{◌≡◌, ◌+◌, [], ◌∷◌, ◌++◌, ◌∙◌, Err, ap, sym, subst, refl, arith, take}
+use Rattle.std.proofs.lemmas.List.{take_all, take_more}
 use Rattle.std.proofs.lemmas.Result.{err_from_is_err_and}
+use Rattle.std.specs.Prelude.{IsErrOf}
+use Rattle.zbase.specs.Faults.{Counts, counts_as, counts_then}
 use Rattle.zio.specs.Sinks.{due}
-use Rattle.zbase.specs.Faults.{counts_as, counts_then}
-use Rattle.zbase.specs.Values.{last}
-use Rattle.schedule.specs.declared.line.Line.{Line}
-use Rattle.schedule.specs.CourseLaws.{RanCalm, ran_next, ran_none}
-use Rattle.schedule.specs.Moments.{start}
+use Rattle.replay.specs.declared.refusal.RunRefusal.{RunRefusal}
+use Rattle.replay.specs.Kept.{Kept}
 use Rattle.replay.specs.Printed.{Prints, opening, terms_of}
 use Rattle.replay.proofs.BreakingOff.{broken_off}
-use Rattle.replay.proofs.LineRefusals.{no_line}
+use Rattle.replay.proofs.Keeping.{kept_first}
+use Rattle.replay.proofs.LineRefusals.{no_line, outside_counts}
 use Rattle.replay.proofs.PrintSteps.{prints_then}
-use Rattle.replay.proofs.WholeReport.{rest_starts}
 use Rattle.replay.proofs.running.run_items.Goals as goal
 
+pub returns-in-Err-clause-bad_line : goal.returns-in-Err-clause-bad_line
+returns-in-Err-clause-bad_line g c n is = absurd (no_line c.broken_off.result c.from.result c.in-Err.refusal n c.broken_off.ensures c.from.ensures is)
+
+pub returns-in-Err-clause-counts : goal.returns-in-Err-clause-counts
+returns-in-Err-clause-counts g c = outside_counts _ _ c.put_opening.result c.broken_off.result c.in-Err.refusal c.from.result c.in-Err.is c.broken_off.ensures c.from.ensures c.put_opening.ensures.counts
+
 pub loop-item-init : goal.loop-item-init
-loop-item-init g c =
-    let core = c.args.core.now in
-    let told = c.requires.steady.told in
-    let terms = terms_of g.E.Evaluator.takes g.E.Evaluator.meaning core.store.limit core.store.end in
-    let opened : Line.Opened c.last.result c.len.result ≡ Line.Opened (last core.store.history) (length core.store.history.transactions) =
-    ap (λ n. Line.Opened n c.len.result) ((rw c.store-2.ensures at c.last.ensures) told)
-    ∙ ap (λ n. Line.Opened (last core.store.history) n) ((rw c.store-3.ensures at c.len.ensures) told) in
-    record {
-      limit = refl;
-      steady = c.requires.steady;
-      ran = ([], subst (λ m. RanCalm terms (start terms core.store.history) [] [] m) (sym (rest_starts g.E.Evaluator.takes g.E.Evaluator.meaning core.store.limit core c.requires.rest)) (ran_none terms (start terms core.store.history)), subst (λ line. Prints (due (g.K.Sink.written c.args.out.now) c.args.held.now) (due (g.K.Sink.written c.put_line-2.new.out) c.put_line-2.new.held) (Line.Head ∷ line ∷ [])) opened (prints_then _ _ _ (Line.Head ∷ []) (Line.Opened c.last.result c.len.result ∷ []) c.in_ok-put_line.ensures.ok c.in_ok-put_line-2.ensures.ok));
-      number = refl;
-      counts = counts_then (counts_as c.in_ok-put_line.ensures.counts (λ e. cc) (λ none. absurd none)) (λ none. none) (counts_as c.in_ok-put_line-2.ensures.counts (λ e. cc) (λ none. absurd none));
-    }
+loop-item-init g c = record {
+  told = c.requires.opened.1.told;
+  limit = c.requires.limit.0;
+  ran = λ given is. ([], kept_first g.E.Evaluator.meaning (terms_of g.E.Evaluator.takes g.E.Evaluator.meaning c.args.limit c.args.core.store.end) given c.args.core is refl, rw c.store-2.ensures at c.in-Ok.ensures.ok);
+  number = refl;
+  counts = counts_as c.in-Ok.ensures.counts (λ e. cc) (λ none. absurd none);
+}
 
 pub loop-item-preserved : goal.loop-item-preserved
 loop-item-preserved g c =
-    let core = c.args.core.now in
-    let terms = terms_of g.E.Evaluator.takes g.E.Evaluator.meaning core.store.limit core.store.end in
-    let ran = c.loop-item.invariant.ran in
-    let did = rw c.loop-item.invariant.limit at (c.in_ok-run_item.ensures.ok core.store.end) in
+    let first = c.args.core in
+    let items = c.args.items.now in
+    let i = c.loop-item.item-index in
+    let item = c.item-item.result in
+    let terms = terms_of g.E.Evaluator.takes g.E.Evaluator.meaning c.args.limit first.store.end in
+    let more : take i items ++ item ∷ [] ≡ take (i + 1) items = sym (take_more items i item c.loop-item-test.true ∙ ap (λ x. take i items ++ x ∷ []) (sym c.item-item.is)) in
+    let opened = c.requires.opened in
+    let before = c.loop-item.invariant.ran opened.0 opened.1 in
     record {
-      limit = c.in_ok-run_item.ensures.limit ∙ c.loop-item.invariant.limit;
-      steady = c.in_ok-run_item.ensures.steady;
-      ran = (
-        ran.0 ++ did.0,
-        ran_next terms (start terms core.store.history) _ _ c.args.items.now c.loop-item.item-index c.item-item.result ran.0 did.0 c.loop-item-test.true c.item-item.is ran.1 did.1 did.2,
-        prints_then _ _ _ (opening core.store.history ++ ran.0) did.0 ran.2 did.3,
-      );
+      told = (c.in_ok-core.ensures.ok first.store.end opened.0 first.store.history (take i items) before.0 before.1).1.told;
+      limit = c.loop-item.invariant.limit ∙ sym c.in_ok-core.ensures.limit;
+      ran = λ given is.
+          (let ran = c.loop-item.invariant.ran given is in
+          let did = c.in_ok-core.ensures.ok first.store.end given first.store.history (take i items) ran.0 ran.1 in (
+            ran.0 ++ did.0,
+            subst (λ xs. Kept g.E.Evaluator.meaning terms given first.store.history xs (ran.0 ++ did.0) c.in_ok-core.core c.run_item.new.clock) more did.1,
+            prints_then _ _ _ (opening first.store.history ++ ran.0) did.0 ran.2 did.2,
+          ));
       number = omega (arith, c.saturating_add-number.ensures, c.loop-item.invariant.number, c.loop-item-test.true);
-      counts = counts_then c.loop-item.invariant.counts (λ none. none) (counts_as c.in_ok-run_item.ensures.counts (λ e. cc) (λ none. absurd none));
+      counts = counts_then c.loop-item.invariant.counts (λ none. none) (counts_as c.in_ok-core.ensures.counts (λ e. cc) (λ none. absurd none));
     }
 
-pub returns-in_err-put_line-clause-bad_line : goal.returns-in_err-put_line-clause-bad_line
-returns-in_err-put_line-clause-bad_line g c n is =
+pub returns-in_err-core-clause-bad_line : goal.returns-in_err-core-clause-bad_line
+returns-in_err-core-clause-bad_line g c n is =
     let p = err_from_is_err_and c.from_residual.result c.from_residual.ensures.1 in
-    absurd (no_line c.from_residual.result _ c.in_err-put_line.field-0.0 n p.1 p.2 is)
+    let first = c.args.core in
+    let terms = terms_of g.E.Evaluator.takes g.E.Evaluator.meaning c.args.limit first.store.end in
+    let opened = c.requires.opened in
+    let ran = c.loop-item.invariant.ran opened.0 opened.1 in
+    let bad = c.in_err-core.ensures.bad_line n first.store.end (sym (p.1 ∙ ap (λ (k : _). Err k) p.2) ∙ is) in
+    let grew = subst (λ w. Prints (due (g.K.Sink.written c.args.out.now) c.args.held.now) w (opening first.store.history ++ ran.0)) (sym bad.2) ran.2 in
+    broken_off g.E.Evaluator.meaning terms opened.0 first.store.history c.args.items.now c.loop-item.item-index c.item-item.result n ran.0 c.loop-item.core c.loop-item.clock _ _
+    c.runs_are_serial.ensures g.met.E.Evaluator.lawful ((rw c.store.ensures at c.is_sound-2.ensures.history) opened.1.told) c.loop-item-test.true c.item-item.is (bad.0 ∙ c.loop-item.invariant.number) ran.1 grew bad.1
 
-pub returns-in_err-put_line-2-clause-bad_line : goal.returns-in_err-put_line-2-clause-bad_line
-returns-in_err-put_line-2-clause-bad_line g c n is =
-    let p = err_from_is_err_and c.from_residual-in_err-put_line-2.result c.from_residual-in_err-put_line-2.ensures.1 in
-    absurd (no_line c.from_residual-in_err-put_line-2.result _ c.in_err-put_line-2.field-0.0 n p.1 p.2 is)
-
-pub returns-in_err-run_item-clause-bad_line : goal.returns-in_err-run_item-clause-bad_line
-returns-in_err-run_item-clause-bad_line g c n is =
-    let p = err_from_is_err_and c.from_residual-in_err-run_item.result c.from_residual-in_err-run_item.ensures.1 in
-    let core = c.args.core.now in
-    let bad = rw c.loop-item.invariant.limit at (c.in_err-run_item.ensures.bad_line n core.store.end (sym (p.1 ∙ ap (λ (k : _). Err k) p.2) ∙ is)) in
-    let ran = c.loop-item.invariant.ran in
-    let grew = subst (λ w. Prints (due (g.K.Sink.written c.args.out.now) c.args.held.now) w (opening core.store.history ++ ran.0)) (sym bad.2) ran.2 in
-    broken_off g.E.Evaluator.takes g.E.Evaluator.meaning core.store.limit core.store.end core.store.history _ _ c.args.items.now c.loop-item.item-index c.item-item.result n ran.0 _ _
-    c.runs_are_serial.ensures g.met.E.Evaluator.lawful ((rw c.store.ensures at c.is_sound.ensures.history) c.requires.steady.told) refl c.loop-item-test.true c.item-item.is (bad.0 ∙ c.loop-item.invariant.number) ran.1 grew bad.1
+pub returns-in_err-core-clause-counts : goal.returns-in_err-core-clause-counts
+returns-in_err-core-clause-counts g c =
+    let p = err_from_is_err_and c.from_residual.result c.from_residual.ensures.1 in
+    counts_then c.loop-item.invariant.counts (λ none. none) (subst (λ r. Counts (g.K.Sink.counter c.loop-item.out) (g.K.Sink.counter c.run_item.new.out) (IsErrOf r RunRefusal.Output)) (sym (p.1 ∙ ap (λ (k : _). Err k) p.2)) c.in_err-core.ensures.counts)
 
 pub returns-clause-ran : goal.returns-clause-ran
-returns-clause-ran g c =
-    let ran = c.loop-item.invariant.ran in
-    (c.loop-item.clock, (ran.0, rw (take_all c.loop-item.item-index c.args.items.now c.loop-item-test.false) at ran.1, ran.2))
+returns-clause-ran g c = λ given is.
+    (let ran = c.loop-item.invariant.ran given is in
+    (c.loop-item.clock, ran.0, rw (take_all c.loop-item.item-index c.args.items.now c.loop-item-test.false) at ran.1, ran.2))
+
+pub returns-clause-counts : goal.returns-clause-counts
+returns-clause-counts g c = counts_as c.loop-item.invariant.counts (λ none. absurd none) (λ e. cc)

@@ -1,0 +1,152 @@
+ghost use Rattle.std.specs.Prelude.{◌≡◌, ◌⊎◌, ◌∷◌, ◌<◌, ◌≤◌, ℕ, [], Err, None, false, true, IfErr, IfOk, IsErrOf};
+ghost use Rattle.zbase.specs.Faults.{Counts};
+ghost use Rattle.zio.specs.Sinks.{due};
+ghost use Rattle.schedule.specs.Follows.{Follows};
+ghost use Rattle.schedule.specs.Moments.{clocked};
+ghost use Rattle.schedule.specs.declared.item.Item2.{Item2};
+ghost use Rattle.fs_store.specs.Stores.{IsTold, most_length};
+ghost use Rattle.txn_core.specs.Cores.{IsIdle, MayBe};
+ghost use Rattle.txn_core.specs.Slots.{moment_of};
+ghost use Rattle.replay.specs.BrokenOff.{CannotRun};
+ghost use Rattle.replay.specs.Kept.{GoesOn};
+ghost use Rattle.replay.specs.Printed.{terms_of};
+ghost use Rattle.replay.specs.Refusals.{IsOfItems, IsOfPrinting};
+
+use crate::printing::put_step;
+use crate::refusal::RunRefusal;
+use crate::restarting::restart;
+use evaluator::Evaluator;
+use schedule::{Item2, WORKERS};
+use std::alloc::Global;
+use txn_core::Core;
+use zbase::{Bytes, Memory, Tid};
+use zdisk::MemoryDisk;
+use zio::{Pending, Sink};
+
+/// Ends a core whose run is broken off.
+pub(crate) fn broken_off<T, E: Evaluator>(
+    core: Core<MemoryDisk, E>,
+    refusal: RunRefusal,
+) -> Result<T, RunRefusal>
+    ensures { result ≡ Err refusal }
+{
+    let _closed = core.close();
+    Err(refusal)
+}
+
+// Gives a worker a request; false where it isn't free, or the bytes aren't one message.
+fn give<E: Evaluator>(
+    core: &mut Core<MemoryDisk, E>,
+    worker: u32,
+    bytes: &Bytes,
+) -> Result<bool, Memory>
+    ensures store { core.new.store ≡ core.old.store }
+    ensures refused { IfOk result (λ given. given ≡ false → (E.takes bytes.now ≡ None) ⊎ (IsIdle core.old worker → ⊥)) }
+    ensures same { IfOk result (λ given. given ≡ false → core.new ≡ core.old) }
+    ensures given { IfOk result (λ given. given ≡ true → (now limit end : ℕ) → Follows (terms_of E.takes E.meaning limit end) (MayBe E.meaning core.old) now (MayBe E.meaning core.new) now (Item2.Request worker bytes.now) []) }
+{
+    core.is_sound();
+    if worker >= WORKERS as u32 {
+        return Ok(false);
+    }
+    let Some(request) = core.take(bytes.as_slice())? else {
+        return Ok(false);
+    };
+    match core.give(worker, request) {
+        Ok(()) => Ok(true),
+        Err(_) => Ok(false),
+    }
+}
+
+// Runs a step of a worker, and writes what it printed. Where the disk stopped in it, the core is made anew over what the
+// stop left.
+fn run_step<E: Evaluator, K: Sink>(
+    alloc: Global,
+    core: Core<MemoryDisk, E>,
+    limit: u64,
+    worker: u32,
+    clock: Tid,
+    held: &mut Pending,
+    out: &mut K,
+) -> Result<Core<MemoryDisk, E>, RunRefusal>
+    requires worker { worker < WORKERS }
+    requires told { IsTold core.store }
+    requires limit { (limit ≡ core.store.limit) × (limit ≤ most_length) }
+    ensures limit { IfOk result (λ new. new.store.limit ≡ core.store.limit) }
+    ensures ok { IfOk result (λ new. GoesOn E.takes E.meaning limit core clock (Item2.Step worker ∷ []) new clock (due (K.written out.old) held.old) (due (K.written out.new) held.new)) }
+    ensures refused { IfErr result IsOfPrinting }
+    ensures counts { Counts (K.counter out.old) (K.counter out.new) (IsErrOf result RunRefusal.Output) }
+{
+    let mut core = core;
+    core.is_sound();
+    // Where nothing waits in the queue, the step can't fail.
+    let _running = core.stopped();
+    let line = core.step(worker, clock);
+    core.is_sound();
+    core.store().is_sound();
+    if core.stopped() {
+        return restart(alloc, core, limit, worker, held, out);
+    }
+    match put_step(alloc, worker, &line, held, out) {
+        Ok(()) => Ok(core),
+        Err(refusal) => broken_off(core, RunRefusal::from(refusal)),
+    }
+}
+
+/// Runs the item with this line number. What a refusal leaves of the core is closed.
+pub(crate) fn run_item<E: Evaluator, K: Sink>(
+    alloc: Global,
+    core: Core<MemoryDisk, E>,
+    limit: u64,
+    number: u64,
+    item: &Item2,
+    clock: &mut Tid,
+    held: &mut Pending,
+    out: &mut K,
+) -> Result<Core<MemoryDisk, E>, RunRefusal>
+    requires told { IsTold core.store }
+    requires limit { (limit ≡ core.store.limit) × (limit ≤ most_length) }
+    ensures limit { IfOk result (λ new. new.store.limit ≡ core.store.limit) }
+    ensures ok { IfOk result (λ new. GoesOn E.takes E.meaning limit core clock.old (item.now ∷ []) new clock.new (due (K.written out.old) held.old) (due (K.written out.new) held.new)) }
+    ensures bad_line { (n end : ℕ) → IsErrOf result (RunRefusal.BadLine n) → (n ≡ number) × CannotRun (terms_of E.takes E.meaning limit end) (clocked (moment_of E.meaning core.store core.slots) clock.old) item.now × (due (K.written out.new) held.new ≡ due (K.written out.old) held.old) }
+    ensures refused { IfErr result IsOfItems }
+    ensures counts { Counts (K.counter out.old) (K.counter out.new) (IsErrOf result RunRefusal.Output) }
+{
+    let mut core = core;
+    match item {
+        Item2::Request(worker, bytes) => match give(&mut core, *worker, bytes) {
+            Ok(true) => Ok(core),
+            Ok(false) => broken_off(core, RunRefusal::BadLine(number)),
+            Err(_) => broken_off(core, RunRefusal::Memory),
+        },
+        Item2::Step(worker) => {
+            if *worker >= WORKERS as u32 {
+                return broken_off(core, RunRefusal::BadLine(number));
+            }
+            run_step(alloc, core, limit, *worker, *clock, held, out)
+        }
+        Item2::Clock(stamp) => {
+            *clock = *stamp;
+            Ok(core)
+        }
+        Item2::Stop(calls, seed) => {
+            if *calls == 0 {
+                return broken_off(core, RunRefusal::BadLine(number));
+            }
+            match core.arm_stop(*calls, *seed) {
+                Ok(()) => Ok(core),
+                Err(_) => broken_off(core, RunRefusal::Memory),
+            }
+        }
+        Item2::Fail(calls, seed) => {
+            if *calls == 0 {
+                return broken_off(core, RunRefusal::BadLine(number));
+            }
+            match core.arm_fail(*calls, *seed) {
+                Ok(()) => Ok(core),
+                Err(_) => broken_off(core, RunRefusal::Memory),
+            }
+        }
+        Item2::End => broken_off(core, RunRefusal::BadLine(number)),
+    }
+}
