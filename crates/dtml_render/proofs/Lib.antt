@@ -1,0 +1,2 @@
+mod ForUsers
+mod PageLaws
