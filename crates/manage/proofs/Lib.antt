@@ -1,0 +1,5 @@
+mod Calls
+mod Edited
+mod Steps
+mod Templates
+mod Utf8

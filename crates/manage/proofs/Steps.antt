@@ -1,0 +1,73 @@
+-- One question after another, where what is needed is an ask of an evaluation.
+use Rattle.std.proofs.Common.{ℕ, ◌≡◌, ◌∙◌, refl, sym, ap, subst, Option, Some, None, Result, Ok, Err}
+use Rattle.zbase.specs.Query.{Query, ◌>>=◌, run, go_on, and_then, Told, Answers, Halt, Need, Cause}
+use Rattle.zbase.specs.QueryLaws.{run_then}
+use Rattle.evaluator.specs.declared.ask.Ask.{Ask}
+use Rattle.evaluator.specs.Questions.{as_ask}
+use Rattle.manage.specs.declared.refusal.ManageRefusal.{ManageRefusal}
+use Rattle.manage.specs.declared.refusal.ManageRefusal.TheVariants as refusals
+use Rattle.zobject.specs.declared.object.Object.{Object}
+use Rattle.zknown.specs.Seen.{Seen, Here, Absent, Unreadable}
+use Rattle.manage.specs.Calling.{here, present, told}
+use Rattle.manage.specs.Changing.{settled}
+use Rattle.manage.specs.Fields.{Checked, Fails, Gives}
+use Rattle.manage.specs.Fields as fields
+
+asked_then : {E A B : Type 0} (r : Result A (Halt ℕ E)) (next : A → Result B (Halt ℕ E)) → as_ask (and_then r next) ≡ and_then (as_ask r) (λ x. as_ask (next x))
+asked_then (Ok x) next = refl
+asked_then (Err (Need o)) next = refl
+asked_then (Err (Cause e)) next = refl
+
+run_asked : {R E A B : Type 0} (k : ℕ → Option R) (q : Query ℕ R E A) (f : A → Query ℕ R E B) → as_ask (run k (q >>= f)) ≡ and_then (as_ask (run k q)) (λ x. as_ask (run k (f x)))
+run_asked k q f = ap as_ask (run_then k q f) ∙ asked_then (run k q) (λ x. run k (f x))
+
+goes : {R E A B : Type 0} (k : ℕ → Option R) (q : Query ℕ R E A) (f : A → Query ℕ R E B) (x : A) → as_ask (run k q) ≡ Ok x → as_ask (run k (q >>= f)) ≡ as_ask (run k (f x))
+goes k q f x e = run_asked k q f ∙ ap (λ r. and_then r (λ y. as_ask (run k (f y)))) e
+
+-- a value goes on to the next question
+pub goes_so : {R X A B F : Type 0} (told : F → Option (Halt Ask ManageRefusal)) (view : X → B) (result : Result X F) (k : ℕ → Option R) (q : Query ℕ R ManageRefusal A) (f : A → Query ℕ R ManageRefusal B) (x : A) →
+    as_ask (run k q) ≡ Ok x → Answers told view result (as_ask (run k (f x))) → Answers told view result (as_ask (run k (q >>= f)))
+goes_so told view result k q f x e a = subst (Answers told view result) (sym (goes k q f x e)) a
+
+-- and what stops the first stops both
+pub passes : {R A B : Type 0} (k : ℕ → Option R) (q : Query ℕ R ManageRefusal A) (f : A → Query ℕ R ManageRefusal B) (halt : Option (Halt Ask ManageRefusal)) → Told halt (as_ask (run k q)) → Told halt (as_ask (run k (q >>= f)))
+passes k q f None t = tt
+passes k q f (Some halt) t = run_asked k q f ∙ ap (λ r. and_then r (λ y. as_ask (run k (f y)))) t
+
+-- a refusal of the first of two tests is that of both
+pub stops : {A B : Type 0} (r : Checked A) (f : A → Checked B) (e : ManageRefusal) → Fails e r → Fails e (fields.◌>>=◌ r f)
+stops r f refusals.Memory h = tt
+stops r f (refusals.Need ask) h = absurd h
+stops r f (refusals.Broken o) h = rw h refl
+stops r f (refusals.NotFound c) h = rw h refl
+stops r f (refusals.NotYet o) h = rw h refl
+stops r f (refusals.Missing field) h = rw h refl
+stops r f (refusals.BadField field) h = rw h refl
+stops r f (refusals.TooLong field) h = rw h refl
+stops r f (refusals.BadSource refusal) h = rw h refl
+
+settled_fails : {R A : Type 0} (k : ℕ → Option R) (r : Checked A) (e : ManageRefusal) → Fails e r → Told (told e) (as_ask (run k (settled r)))
+settled_fails k r refusals.Memory h = tt
+settled_fails k r (refusals.Need ask) h = absurd h
+settled_fails k r (refusals.Broken o) h = rw h refl
+settled_fails k r (refusals.NotFound c) h = rw h refl
+settled_fails k r (refusals.NotYet o) h = rw h refl
+settled_fails k r (refusals.Missing field) h = rw h refl
+settled_fails k r (refusals.BadField field) h = rw h refl
+settled_fails k r (refusals.TooLong field) h = rw h refl
+settled_fails k r (refusals.BadSource refusal) h = rw h refl
+
+-- what a test gives is what its question answers
+pub decided : {R A : Type 0} (k : ℕ → Option R) (result : Result A ManageRefusal) (r : Checked A) → Gives (λ x. x) result r → Answers told (λ x. x) result (as_ask (run k (settled r)))
+decided k (Ok x) r h = rw h refl
+decided k (Err e) r h = settled_fails k r e h
+
+here_at : (k : ℕ → Option (Seen Object)) (o : ℕ) (x : Object) (found : Option (Seen Object)) → as_ask (go_on o (λ seen. run k (present o seen)) found) ≡ Ok x → found ≡ Some (Here x)
+here_at k o x None e = absurd (let bad = e in cc)
+here_at k o x (Some (Here y)) e = (let same : ◌≡◌ {A = Result Object (Halt Ask ManageRefusal)} (Ok y) (Ok x) = e in cc)
+here_at k o x (Some Absent) e = absurd (let bad = e in cc)
+here_at k o x (Some Unreadable) e = absurd (let bad = e in cc)
+
+-- an object that was answered is here
+pub is_here : (k : ℕ → Option (Seen Object)) (o : ℕ) (x : Object) → as_ask (run k (here o)) ≡ Ok x → k o ≡ Some (Here x)
+is_here k o x e = here_at k o x (k o) e

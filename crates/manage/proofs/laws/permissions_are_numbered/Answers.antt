@@ -1,0 +1,5 @@
+use Rattle.manage.proofs.Calls.{numbered}
+use Rattle.manage.proofs.laws.permissions_are_numbered.Goals as goal
+
+pub returns : goal.returns
+returns c = numbered

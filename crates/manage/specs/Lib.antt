@@ -1,0 +1,7 @@
+pub mod Calls
+pub mod Calling
+pub mod Fields
+pub mod Edits
+pub mod Changing
+pub mod Laws
+pub mod Worked

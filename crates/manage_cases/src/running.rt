@@ -1,0 +1,40 @@
+use crate::asking::{put_change, put_name, put_need};
+use crate::knowing::known_of;
+use cases::{Case, CasesRefusal, Part, Runner};
+use std::alloc::Global;
+
+/// What calls of management are, need and change.
+///
+/// What is known of a site's objects, by their ids in decimal: `object ID`, whose record is below it; `absent ID`, which has
+/// no value; `unreadable ID`, whose value is no record. And what is asked:
+///
+/// - `name NAME`: `call NAME` comes of it, with the name of the call that it names, or `call none`;
+/// - `need NAME METHOD ID`: `permission NUMBER` comes of it, with the permission that the call needs on the object, or
+///   `permission WHY`;
+/// - `change NAME ID`, with a form in the lines below: `written ID` comes of it, with the record that is written of that
+///   object, or `refused WHY`.
+///
+/// WHY is `need ID`, `broken ID`, `not-found NAME`, `not-yet ID`, `missing FIELD`, `bad-field FIELD`, `too-long FIELD`, or
+/// `bad-source KIND PLACE` with the number of the kind.
+#[derive(Drop)]
+pub struct ManageCases;
+
+impl Runner for ManageCases {
+    fn knows(&self, key: &str) -> bool {
+        ["object", "absent", "unreadable", "name", "need", "change"].contains(&key)
+    }
+
+    fn run(&self, alloc: Global, case: &Case) -> Result<Vec<Part>, CasesRefusal> {
+        let known = known_of(alloc, case)?;
+        let mut parts = Vec::new(alloc);
+        for part in &case.parts {
+            match part.key() {
+                "name" => put_name(alloc, part, &mut parts)?,
+                "need" => put_need(alloc, &known, part, &mut parts)?,
+                "change" => put_change(alloc, &known, part, &mut parts)?,
+                _ => {}
+            }
+        }
+        Ok(parts)
+    }
+}
