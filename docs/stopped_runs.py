@@ -23,20 +23,15 @@ Nothing here runs or reads the product.
 
 import sys
 
-from stops import chosen, number, record, transaction
+from stops import Disk as NumberedDisk, Hit, chosen, number, record, transaction
 
 
-class Hit(Exception):
-    """The call met an armed entry, or the disk is stopped."""
-
-
-class Disk:
-    """A file, what of it was synced last, and a queue of armed entries, of which the first alone is counted."""
+class Disk(NumberedDisk):
+    """A disk whose armed entries stand in a queue, of which the first alone is counted."""
 
     def __init__(self, content):
-        self.content, self.synced = content, content
-        self.queue, self.left, self.stopped = [], 0, False
-        self.calls = 0
+        super().__init__(content, {})
+        self.queue, self.left = [], 0
 
     def arm(self, stops, calls, seed):
         if not self.queue:
@@ -74,18 +69,6 @@ class Disk:
         self.content = new
         if kind == "sync":
             self.synced = new
-
-    def read(self):
-        self._call("read", self.content)
-
-    def write(self, at, piece):
-        self._call("write", self.content[:at] + piece + self.content[at + len(piece) :])
-
-    def cut(self, to):
-        self._call("cut", self.content[:to])
-
-    def sync(self):
-        self._call("sync", self.content)
 
 
 # ---- the store
