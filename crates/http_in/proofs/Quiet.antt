@@ -1,5 +1,5 @@
 -- While no LF comes no message does.
-use Rattle.std.proofs.Common.{◌≡◌, ◌≢◌, ◌==◌, ℕ, zero, suc, ◌-◌, ◌<◌, ◌≤◌, Bool, true, false, if◌then◌else◌, Option, Some, None, List, [], ◌∷◌, ◌++◌, length, take, drop, length-drop, append-nil, append_assoc, refl, subst, sym, ap, ◌∙◌, arith}
+use Rattle.std.proofs.Common.{◌≡◌, ◌≢◌, ◌==◌, ℕ, ◌-◌, ◌<◌, ◌≤◌, Bool, true, false, if◌then◌else◌, Option, Some, None, List, [], ◌∷◌, ◌++◌, length, take, drop, length-drop, append-nil, append_assoc, refl, subst, sym, ap, ◌∙◌, arith}
 use Rattle.std.specs.List.{All}
 use Rattle.std.proofs.lemmas.Bool.{ne_eqb}
 use Rattle.std.proofs.lemmas.List.{take_all}
@@ -84,12 +84,6 @@ pub quiet_byte : (rest : List ℕ) (most b : ℕ) → IsQuiet most rest → b �
 quiet_byte rest most b still other more all few =
     let same = append_assoc rest (b ∷ []) more in
     ap asked same ∙ still (b ∷ more) (All-cons (λ x. x ≢ 10) b more other all) (subst (λ (l : List ℕ). length l ≤ most) same few)
-
--- with a byte behind them, at which it may end
-pub quiet_pushed : (rest : List ℕ) (to quiet now b : ℕ) → IsQuiet (quiet - to) rest → now ≤ quiet → (0 < now → b ≢ 10) → IsQuiet (now - to) (rest ++ b ∷ [])
-quiet_pushed rest to quiet zero b still less other = quiet_less (rest ++ b ∷ []) 0 (0 - to) (quiet_none (rest ++ b ∷ [])) (omega arith)
-quiet_pushed rest to quiet (suc now) b still less other =
-    quiet_less (rest ++ b ∷ []) (quiet - to) (suc now - to) (quiet_byte rest (quiet - to) b still (other (omega arith))) (omega (arith, less))
 
 pub quiet_now : (bytes : List ℕ) (to quiet : ℕ) → IsQuiet (quiet - to) (drop to bytes) → length bytes ≤ quiet → asked (drop to bytes) ≡ None
 quiet_now bytes to quiet still few =

@@ -85,17 +85,18 @@ IsLook bytes (Look.Found m n) = asked bytes ≡ Some (m, n)
 IsLook bytes (Look.Head passed) = (asked bytes ≡ None) × (passed ≤ length bytes) × (passed ≤ most_head) × IsPassed (take passed bytes) × IsQuiet 16383 bytes
 IsLook bytes (Look.Body wanted) = (asked bytes ≡ None) × (length bytes < wanted) × IsShort wanted bytes
 
--- how a reader keeps a stream, in memory that has room for so many bytes
-pub record Keeps (bytes : List ℕ) (from to clean wanted quiet room : ℕ) : Type 0 where
-  pub ordered : from ≤ to
+-- how a reader keeps a stream whose last answered message has a length and ends at a place, in memory that has room for
+-- so many bytes
+pub record Keeps (bytes : List ℕ) (last to clean wanted quiet room : ℕ) : Type 0 where
+  pub ordered : last ≤ to
   pub within : to ≤ length bytes
-  pub small : to - from ≤ most_message
+  pub small : last ≤ most_message
   pub seen : clean ≤ length (drop to bytes)
   pub most : clean ≤ most_head
   pub passed : IsPassed (take clean (drop to bytes))
   pub short : IsShort wanted (drop to bytes)
   pub still : IsQuiet (quiet - to) (drop to bytes)
-  pub front : 0 < quiet → from ≡ 0
+  pub front : 0 < quiet → to ≤ last
   pub fits : quiet ≤ room
   pub left : 0 < quiet → length bytes ≤ quiet
 

@@ -59,26 +59,17 @@ fn moved_on(bytes: Vec<u8>, count: usize, piece: &[u8]) -> (Vec<u8>, Result<(), 
     (bytes, answer)
 }
 
-/// The same number, or none where this byte is an LF.
-#[inline(always)]
-fn quiet_by(byte: u8, quiet: usize) -> usize
-    ensures same { 0 < result → result ≡ quiet }
-    ensures other { 0 < result → byte ≢ 10 }
-{
-    if byte == b'\n' { 0 } else { quiet }
-}
-
 /// How many bytes there may be in all, if no message comes before so many stand behind the last one. There is room for
 /// them, and nothing to let go of before them; none where there are more already.
 #[inline(always)]
-fn quiet_to(start: usize, at: usize, count: usize, bytes: &Vec<u8>) -> usize
+fn quiet_to(taken: usize, at: usize, count: usize, bytes: &Vec<u8>) -> usize
     ensures most { result ≤ at + count }
     ensures fits { result ≤ vec_capacity bytes.now }
-    ensures front { 0 < result → start ≡ 0 }
+    ensures front { 0 < result → at ≤ taken }
     ensures left { 0 < result → length bytes.now.items ≤ result }
 {
     let most = at.saturating_add(count).min(bytes.capacity());
-    if start > 0 || most < bytes.len() {
+    if at > taken || most < bytes.len() {
         0
     } else {
         most
@@ -89,8 +80,8 @@ fn quiet_to(start: usize, at: usize, count: usize, bytes: &Vec<u8>) -> usize
 #[derive(Debug, Drop)]
 pub struct Reader {
     bytes: Vec<u8>,
-    // Where the last answered message begins, and where it ends.
-    start: usize,
+    // How long the last answered message is, and where it ends.
+    taken: usize,
     at: usize,
     // How many bytes behind that no end of a head begins among.
     clean: usize,
@@ -103,9 +94,9 @@ pub struct Reader {
 impl Model for Reader {
     ghost Value = { Stream };
 
-    ghost view = { λ r. record { taken = take (r.at - r.start) (drop r.start r.bytes.items); rest = drop r.at r.bytes.items; held = length r.bytes.items } };
+    ghost view = { λ r. record { taken = take r.taken (drop (r.at - r.taken) r.bytes.items); rest = drop r.at r.bytes.items; held = length r.bytes.items } };
 
-    ghost invariant = { λ r. Keeps r.bytes.items r.start r.at r.clean r.wanted r.quiet (vec_capacity r.bytes) };
+    ghost invariant = { λ r. Keeps r.bytes.items r.taken r.at r.clean r.wanted r.quiet (vec_capacity r.bytes) };
 }
 
 impl Reader {
@@ -115,7 +106,7 @@ impl Reader {
     {
         Reader {
             bytes: Vec::new(alloc),
-            start: 0,
+            taken: 0,
             at: 0,
             clean: 0,
             wanted: 0,
@@ -134,10 +125,9 @@ impl Reader {
     {
         let alloc = *self.bytes.allocator();
         let bytes = replace(&mut self.bytes, Vec::new(alloc));
-        let (bytes, answer) = moved_on(bytes, self.start, piece);
+        let (bytes, answer) = moved_on(bytes, self.at - self.taken, piece);
         self.bytes = bytes;
-        self.at -= self.start;
-        self.start = 0;
+        self.at = self.taken;
         self.quiet = 0;
         answer
     }
@@ -156,7 +146,7 @@ impl Reader {
         let rest = self.bytes.as_slice().split_at(self.at).1;
         match look(alloc, rest, self.clean, self.wanted)? {
             Looked::Found(message, length) => {
-                self.start = self.at;
+                self.taken = length;
                 self.at += length;
                 self.clean = 0;
                 self.wanted = 0;
@@ -164,12 +154,12 @@ impl Reader {
                 Ok(Some(message))
             }
             Looked::Head(clean) => {
-                self.quiet = quiet_to(self.start, self.at, MOST_HEAD - 1, &self.bytes);
+                self.quiet = quiet_to(self.taken, self.at, MOST_HEAD - 1, &self.bytes);
                 self.clean = clean;
                 Ok(None)
             }
             Looked::Body(wanted) => {
-                self.quiet = quiet_to(self.start, self.at, wanted - 1, &self.bytes);
+                self.quiet = quiet_to(self.taken, self.at, wanted - 1, &self.bytes);
                 self.wanted = wanted;
                 Ok(None)
             }
@@ -189,10 +179,8 @@ impl Reader {
         ensures held { self.new.held ≡ length self.new.taken + length self.new.rest }
         ensures most { asked self.old.rest ≡ None → self.new.held < length self.new.taken + most_message + length piece.now }
     {
-        if piece.len() == 1 && self.bytes.len() < self.quiet {
-            let byte = piece[0];
-            self.bytes.push_reserved(byte);
-            self.quiet = quiet_by(byte, self.quiet);
+        if piece.len() == 1 && piece[0] != b'\n' && self.bytes.len() < self.quiet {
+            self.bytes.push_reserved(piece[0]);
             return Ok(());
         }
         self.feed_on(piece)
@@ -222,9 +210,9 @@ impl Reader {
     {
         self.bytes
             .as_slice()
-            .split_at(self.start)
+            .split_at(self.at - self.taken)
             .1
-            .split_at(self.at - self.start)
+            .split_at(self.taken)
             .0
     }
     /// How many bytes the reader keeps.

@@ -17,7 +17,7 @@ invariant_of-self c =
     let found : asked c.split_at.result.1.now ≡ Some (c.in-Found.message, c.in-Found.length) = subst (λ x. IsLook c.split_at.result.1.now (looked_by x)) c.in-Found.is c.in_ok-message.ensures in
     let rest : c.split_at.result.1.now ≡ drop c.self.inside.at c.self.inside.bytes.items = c.split_at.ensures.back ∙ ap (drop c.self.inside.at) c.as_slice.ensures.value in
     let within : c.in-Found.length ≤ length (drop c.self.inside.at c.self.inside.bytes.items) = rw (← rest) (asked_within c.split_at.result.1.now (c.in-Found.message, c.in-Found.length) found).1 in
-    keeps_next c.self.inside.bytes.items c.self.inside.start c.self.inside.at c.self.inside.clean c.self.inside.wanted c.self.inside.quiet (vec_capacity c.self.inside.bytes) c.in-Found.length c.self.invariant within (longest_message c.split_at.result.1.now (c.in-Found.message, c.in-Found.length) found)
+    keeps_next c.self.inside.bytes.items c.self.inside.taken c.self.inside.at c.self.inside.clean c.self.inside.wanted c.self.inside.quiet (vec_capacity c.self.inside.bytes) c.in-Found.length c.self.invariant within (longest_message c.split_at.result.1.now (c.in-Found.message, c.in-Found.length) found)
 
 pub returns-in-Found-clause-some : goal.returns-in-Found-clause-some
 returns-in-Found-clause-some c =
