@@ -15,7 +15,7 @@ use Rattle.schedule.specs.Moments.{Attempt}
 use Rattle.fs_store.specs.declared.refusal.Spent.{Spent}
 use Rattle.fs_store.specs.declared.refusal.VoteRefusal.{VoteRefusal}
 use Rattle.fs_store.specs.Stores.{IsTold, Out, Settles, StoreView, finished, idle, unsettled}
-use Rattle.connection.specs.Asks.{HasAsked}
+use Rattle.connection.specs.Asked.{HasAsked}
 use Rattle.connection.specs.States.{ActiveView, AreSeen, FreshView, PendingView, begun, clashes_of}
 use Rattle.connection.specs.Turns.{IsFactOf, Learns, comes_to, knowing}
 use Rattle.connection.specs.Votes.{IsHeldBy, IsRuled, IsVoted}

@@ -12,7 +12,7 @@ use Rattle.evaluator.specs.Facts.{TrueOf, ask_of}
 use Rattle.schedule.specs.Moments.{Terms, Attempt, Doing, Free, Waiting, Asking, Computed, Vote, Moment, clocked}
 use Rattle.schedule.specs.Stepping.{Steps}
 use Rattle.fs_store.specs.Stores.{IsTold, IsVoteOf, Out, StoreView, settled, staled, voting}
-use Rattle.connection.specs.Asks.{asks_at}
+use Rattle.schedule.specs.Asks.{asks_at}
 use Rattle.connection.specs.States.{ActiveView, AreSeen, PendingView, clashes_of}
 use Rattle.connection.specs.Telling.{TellsOn}
 use Rattle.connection.specs.Turns.{comes_to}
