@@ -9,7 +9,8 @@ use Rattle.evaluator.specs.declared.reply.Reply.{Reply}
 use Rattle.evaluator.specs.Exec.{Eval, IsDecided, IsTrail, IsTrailFrom, most_asks}
 use Rattle.evaluator.specs.Facts.{TrueOf, ask_of, fact, look}
 use Rattle.schedule.specs.Moments.{Attempt}
-use Rattle.connection.specs.Asks.{HasAsked, asked_from, asks_at, then_asked}
+use Rattle.schedule.specs.Asks.{asked_from, asks_at, then_asked}
+use Rattle.connection.specs.Asked.{HasAsked}
 
 nothing_asked : (o : Outcome) (behind : Ask → List Ask) → IsDecided o → then_asked o behind ≡ []
 nothing_asked (Outcome.Need ask) behind decided = absurd decided

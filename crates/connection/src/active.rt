@@ -83,7 +83,7 @@ impl<E: Evaluator> Active<E> {
     ghost use Rattle.fs_store.specs.Seeing.{IsSeen};
     ghost use Rattle.fs_store.specs.Stores.{IsTold, Stands};
     ghost use Rattle.fs_store.specs.declared.reads.Seen.{Seen};
-    ghost use Rattle.connection.specs.Asks.{Asked};
+    ghost use Rattle.connection.specs.Asked.{Asked};
     ghost use Rattle.connection.specs.States.{AreSeen};
     ghost use Rattle.connection.specs.Telling.{TellsOn};
     ghost use Rattle.connection.specs.Turns.{IsTurn, ReadsStand, TurnsStore};

@@ -12,7 +12,6 @@
 mod active;
 mod conflicts;
 mod fresh;
-mod laws;
 mod learning;
 mod pending;
 mod refusal;
@@ -21,7 +20,6 @@ mod turned;
 pub use active::Active;
 pub use conflicts::Conflicts;
 pub use fresh::Fresh;
-pub use laws::asks_stand_once;
 pub use pending::Pending;
 pub use refusal::{BeginRefusal, CommitRefusal, TurnRefusal};
 pub use turned::Turned;

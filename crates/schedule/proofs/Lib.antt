@@ -16,3 +16,4 @@ pub mod Decided
 pub mod Stamps
 pub mod ReadOrBad
 pub mod WorkedQueues
+pub mod Unhindered

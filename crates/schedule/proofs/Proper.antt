@@ -150,7 +150,7 @@ proper_told terms m w lawful good (Some (Waiting q cs)) here =
 proper_told terms m w lawful good (Some (Asking a)) here = proper_asking terms m w a lawful good here (terms.eval (look a.facts) a.request) refl
 proper_told terms m w lawful good (Some (Computed a x d)) here = proper_computed terms m w a x d lawful good here m.vote refl
 
-held : (w : ℕ) (o : Option Vote) (v : Vote) → held_by w o ≡ Some v → (o ≡ Some v) × (v.holder ≡ w)
+pub held : (w : ℕ) (o : Option Vote) (v : Vote) → held_by w o ≡ Some v → (o ≡ Some v) × (v.holder ≡ w)
 held w None v e = cc
 held w (Some u) v e = go (u.holder == w) refl e
   where

@@ -20,3 +20,6 @@ pub mod StoppedSteps
 pub mod Openings
 pub mod EntryLaws
 pub mod StepLaws
+pub mod Asks
+pub mod AskLaws
+pub mod Unhindered

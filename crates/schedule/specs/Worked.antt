@@ -122,3 +122,13 @@ abbrev pub lossy_restart : List Line
 lossy_restart =
     Line.Head ∷ Line.Opened first_tid 1 ∷ Line.Begin 0 first_tid ∷ Line.Fetch 0 (Ask.Object 1) ∷ Line.Computed 0 ∷ Line.Vote 0 (first_tid + 1)
     ∷ Line.ReplyCommit 0 (first_tid + 1) (done_at (first_tid + 1)) ∷ Line.Stop ∷ Line.Lost 0 ∷ Line.Restart first_tid 1 ∷ []
+
+-- what a request prints that copies the first of two cells into the second, and meets nothing: five steps, for one ask
+abbrev pub copy_steps : List (List Line)
+copy_steps =
+    (Line.Begin 0 first_tid ∷ []) ∷ (Line.Fetch 0 (Ask.Object 1) ∷ [])
+    ∷ (Line.Computed 0 ∷ []) ∷ (Line.Vote 0 (first_tid + 1) ∷ []) ∷ (Line.ReplyCommit 0 (first_tid + 1) (done_at (first_tid + 1)) ∷ []) ∷ []
+
+-- and one that reads the first: three. Its reply has the value in hexadecimal digits
+abbrev pub read_steps : List (List Line)
+read_steps = (Line.Begin 3 first_tid ∷ []) ∷ (Line.Fetch 3 (Ask.Object 1) ∷ []) ∷ (Line.ReplyRead 3 first_tid (114 ∷ first_tid ∷ codes "61" ++ 10 ∷ []) ∷ []) ∷ []

@@ -1,7 +1,15 @@
-ghost use Rattle.std.specs.Prelude.{◌≡◌, ◌⊎◌, ℕ, List};
+ghost use Rattle.std.specs.Prelude.{◌≡◌, ◌⊎◌, ◌+◌, ℕ, List, length};
 ghost use Rattle.zbase.specs.History.{History, IsHistory};
-ghost use Rattle.evaluator.specs.Exec.{IsLawful};
+ghost use Rattle.evaluator.specs.Exec.{IsDecided, IsLawful, exec};
+ghost use Rattle.evaluator.specs.declared.draft.Draft.{Draft};
+ghost use Rattle.evaluator.specs.declared.outcome.Outcome.{Outcome};
+ghost use Rattle.evaluator.specs.declared.reply.Reply.{Reply};
+ghost use Rattle.zbase.specs.Values.{upto};
 ghost use Rattle.schedule.specs.declared.item.Item2.{Item2};
+ghost use Rattle.schedule.specs.declared.line.Line.{Line};
+ghost use Rattle.schedule.specs.AskLaws.{NoneTwice};
+ghost use Rattle.schedule.specs.Asks.{asks_at};
+ghost use Rattle.schedule.specs.Unhindered.{GoTogether, GoesUnhindered, steps_of, whole_steps};
 ghost use Rattle.schedule.specs.Items.{IsSchedule};
 ghost use Rattle.schedule.specs.BadLines.{IsBadAt};
 ghost use Rattle.schedule.specs.Moments.{Terms, Moment, start};
@@ -21,6 +29,24 @@ pub fn runs_are_serial<E: Evaluator>()
     ensures { (terms : Terms E.Request) (h0 : History) (trace : List (Place E.Request)) (end : Moment E.Request) →
         IsLawful terms.eval → IsHistory h0 → Course terms (start terms h0) trace end → IsArmed trace →
         (e : Explained terms h0 (items_of trace) (report h0 trace end)) × (e.trace ≡ trace) × (e.end ≡ end) }
+{}
+
+/// **A request that meets nothing comes to its reply by its worker's own steps alone**: in f + 2 of them where it reads,
+/// and in f + 4 where it writes, f being the number of asks of its evaluation at its snapshot, of which none stands
+/// twice.
+///
+/// From the item that gives the request on, as long as the report has no stop, and for the worker no fault, want of
+/// memory, wait for another's vote, conflict or number that is spent, the worker's steps print `begin`, a `fetch` for each of
+/// these asks, and the reply, or before it `computed` and `vote`. What other workers do meanwhile changes nothing of this.
+pub fn requests_keep_pace<E: Evaluator>()
+    ensures steps { (terms : Terms E.Request) (h0 : History) (s : List Item2) (r : List Line) (e : Explained terms h0 s r) → terms.eval ≡ E.meaning → IsHistory h0 →
+        (w : ℕ) (q : E.Request) (during : List (Place E.Request)) → GoesUnhindered terms e.trace w q during → (at tid : ℕ) × GoTogether (whole_steps terms e.end.standing w at tid q) (steps_of w during) }
+    ensures reads { (terms : Terms E.Request) (h : History) (w at tid : ℕ) (q : E.Request) (x : Reply) → exec terms.eval (upto h at) q ≡ Outcome.Answer x →
+        length (whole_steps terms h w at tid q) ≡ length (asks_at terms.eval (upto h at) q) + 2 }
+    ensures writes { (terms : Terms E.Request) (h : History) (w at tid : ℕ) (q : E.Request) (x : Reply) (d : Draft) → exec terms.eval (upto h at) q ≡ Outcome.Change x d →
+        length (whole_steps terms h w at tid q) ≡ length (asks_at terms.eval (upto h at) q) + 4 }
+    ensures one_or_other { (h : History) (q : E.Request) → IsDecided (exec E.meaning h q) }
+    ensures once { (h : History) (q : E.Request) → NoneTwice (asks_at E.meaning h q) }
 {}
 
 /// A text spells one schedule.

@@ -15,13 +15,14 @@ use Rattle.schedule.specs.Moments.{Attempt}
 use Rattle.fs_store.specs.declared.refusal.Spent.{Spent}
 use Rattle.fs_store.specs.declared.refusal.VoteRefusal.{VoteRefusal}
 use Rattle.fs_store.specs.Stores.{IsTold, Out, Settles, StoreView, finished, idle, unsettled}
-use Rattle.connection.specs.Asks.{HasAsked}
+use Rattle.connection.specs.Asked.{HasAsked}
 use Rattle.connection.specs.States.{ActiveView, AreSeen, FreshView, PendingView, begun, clashes_of}
 use Rattle.connection.specs.Turns.{IsFactOf, Learns, comes_to, knowing}
 use Rattle.connection.specs.Votes.{IsHeldBy, IsRuled, IsVoted}
 use Rattle.txn_core.specs.declared.slot.Slot.{Slot}
 use Rattle.txn_core.specs.declared.step_line.StepLine.{StepLine}
 use Rattle.txn_core.specs.Counting.{IsFinishLine, Lowers, Paces, further_steps, left_of}
+use Rattle.txn_core.specs.Passing.{Passes}
 use Rattle.txn_core.specs.Slots.{ActiveStands, Advances, AsksStand, ChangeStands, ComputedStands, CoreStands, FactsStand, Moves, PendingStands, RestsOn, SlotStands, Waits}
 use Rattle.txn_core.proofs.Lists.{set_same}
 use Rattle.txn_core.proofs.QuietArms.{active_left, after, begin_lowers, begin_moves, computed_lowers, computed_moves, ends_none, fetch_lowers, fetch_moves, idle_moves, one_fact_more, read_moves, stands_quiet}
@@ -44,6 +45,7 @@ pub began : {E R S : Type 0} (eval : Eval R) (w now : ℕ) (old new : StoreView)
 began {E} {R} {S} eval w now old new f a t carries out settles is at it =
     let made : ActiveView R = begun f a.attempt.snapshot in
     record {
+      passes = (f, refl, ap (λ (k : ActiveView R). (let slot : Slot E R S = Slot.Active k in slot)) (is ∙ ap (begun f) (sym it)));
       lowers = rw is (begin_lowers f.conflicts);
       ends = λ k. k;
       paces = rw is refl;
@@ -56,9 +58,10 @@ began {E} {R} {S} eval w now old new f a t carries out settles is at it =
 
 -- ---- a step that ends the request of a worker that hasn't voted
 
-pub troubled : {E R S : Type 0} (eval : Eval R) (w now : ℕ) (old new : StoreView) (slot : Slot E R S) (line : StepLine) → Carries old new → new.out ≡ old.out → (IsPending (Some slot) → ⊥) → Lowers line (left_of slot) 0
+pub troubled : {E R S : Type 0} (eval : Eval R) (w now : ℕ) (old new : StoreView) (slot : Slot E R S) (line : StepLine) → Carries old new → new.out ≡ old.out → (IsPending (Some slot) → ⊥) → Passes eval line slot Slot.Idle → Lowers line (left_of slot) 0
     → (IsFinishLine line → ⊥) → Paces line slot Slot.Idle → Waits old line → (IsTold old → RestsOn eval old line slot) → (IsTold old → Moves eval w now old new slot Slot.Idle line) → Advances eval w now old new slot Slot.Idle line
-troubled eval w now old new slot line carries out not lowers finish paces waits asked moves = record {
+troubled eval w now old new slot line carries out not passes lowers finish paces waits asked moves = record {
+  passes = passes;
   lowers = lowers;
   ends = ends_none slot Slot.Idle line not finish;
   paces = paces;
@@ -78,6 +81,7 @@ fetched {E} {R} {S} eval w now old new a b ask carries out settles stands need l
     let at : b.attempt.snapshot ≡ a.attempt.snapshot = ap (λ (k : Attempt R). k.snapshot) is in
     let one = one_fact_more new a b ask learns in
     record {
+      passes = (a, b, found, refl, need, learns.1.0, is ∙ ap (knowing a.attempt) learns.2, refl);
       lowers = fetch_lowers new a b ask learns is few;
       ends = λ k. k;
       paces = omega (arith, one);
@@ -100,6 +104,7 @@ fetched {E} {R} {S} eval w now old new a b ask carries out settles stands need l
 pub answered : {E R S : Type 0} (eval : Eval R) (w now : ℕ) (old new : StoreView) (a : ActiveView R) (x : Reply) (t : ℕ) → Carries old new → new ≡ old → ActiveStands old a → comes_to eval a.attempt ≡ Outcome.Answer x → t ≡ a.attempt.snapshot → HasAsked eval a.attempt
     → Advances {E = E} {R = R} {S = S} eval w now old new (Slot.Active a) Slot.Idle (StepLine.Read x t)
 answered {E} {R} {S} eval w now old new a x t carries same stands answer at asks = record {
+  passes = (a, refl, answer, at, refl);
   lowers = active_left a;
   ends = λ k. k;
   paces = omega arith;
@@ -114,6 +119,7 @@ pub computed : {E R S : Type 0} (eval : Eval R) (w now : ℕ) (old new : StoreVi
 computed {E} {R} {S} eval w now old new a b x d carries same stands change is asks =
     let whole : IsTold new → AsksStand eval new a.attempt = (λ told. let now_true : FactsStand new a.attempt = facts_carried old new a.attempt carries stands.2 told in record { below = now_true.below; asks = asks (upto new.history a.attempt.snapshot) now_true.facts }) in
     record {
+      passes = (a, x, d, refl, change, ap (λ (k : ActiveView R). (let slot : Slot E R S = Slot.Computed k in slot)) is);
       lowers = rw is (computed_lowers a);
       ends = λ k. k;
       paces = rw is (omega arith);
@@ -126,9 +132,13 @@ computed {E} {R} {S} eval w now old new a b x d carries same stands change is as
 
 -- ---- a vote
 
+pending_is : {R : Type 0} (p : PendingView R) (a : Attempt R) (x : Reply) (t : ℕ) → p.attempt ≡ a → p.reply ≡ x → t ≡ p.tid → p ≡ record { attempt = a; reply = x; tid = t }
+pending_is p a x t attempt reply tid = rw (← attempt, ← reply, tid) refl
+
 pub voted : {E R S : Type 0} (eval : Eval R) (w now : ℕ) (old new : StoreView) (a : ActiveView R) (x : Reply) (d : Draft) (p : PendingView R) (t : ℕ) → Carries old new → ComputedStands eval old a → a.ready ≡ Some (x, d) → IsVoted old new w now a.attempt x d p → t ≡ p.tid
     → Advances {E = E} {R = R} {S = S} eval w now old new (Slot.Computed a) (Slot.Pending p) (StepLine.Voted t)
 voted {E} {R} {S} eval w now old new a x d p t carries stands ready v at = record {
+  passes = (a, x, d, refl, ready, ap (λ (k : PendingView R). (let slot : Slot E R S = Slot.Pending k in slot)) (pending_is p a.attempt x t v.attempt v.reply at));
   lowers = vote_lowers (further_steps (length a.attempt.clashes));
   ends = λ k. k;
   paces = rw v.attempt (omega arith);
@@ -144,6 +154,7 @@ voted {E} {R} {S} eval w now old new a x d p t carries stands ready v at = recor
 pub busy : {E R S : Type 0} (eval : Eval R) (w now : ℕ) (old new : StoreView) (a b : ActiveView R) (x : Reply) (d : Draft) (v : ℕ) → Carries old new → new.out ≡ old.out → ComputedStands eval old a → a.ready ≡ Some (x, d) → b ≡ a → IsHeldBy old v → IsRuled old new a.attempt d (VoteRefusal.Busy v)
     → Advances {E = E} {R = R} {S = S} eval w now old new (Slot.Computed a) (Slot.Computed b) (StepLine.Busy v)
 busy {E} {R} {S} eval w now old new a b x d v carries out stands ready is held ruled = record {
+  passes = (a, refl, ap (λ (k : ActiveView R). (let slot : Slot E R S = Slot.Computed k in slot)) is);
   lowers = ap (λ (k : ActiveView R). further_steps (length k.attempt.clashes) + 2) is;
   ends = λ k. k;
   paces = tt;
@@ -162,6 +173,7 @@ pub conflicting : {E R S : Type 0} (eval : Eval R) (w now : ℕ) (old new : Stor
 conflicting {E} {R} {S} eval w now old new a f x d c carries out ready few request clashes ruled =
     let one : length (clashes_of f.conflicts) ≡ length a.attempt.clashes + 1 = ap length clashes ∙ length-append a.attempt.clashes (c ∷ []) in
     record {
+      passes = (a, f, refl, few, request, clashes, refl);
       lowers = conflict_lowers (length a.attempt.clashes) (length (clashes_of f.conflicts)) one few;
       ends = λ k. k;
       paces = tt;
@@ -177,7 +189,7 @@ pub given_up : {E R S : Type 0} (eval : Eval R) (w now : ℕ) (old new : StoreVi
     → length a.attempt.clashes ≡ 3 → cs ≡ a.attempt.clashes ++ c ∷ [] → IsRuled old new a.attempt d (VoteRefusal.Conflict c)
     → Advances {E = E} {R = R} {S = S} eval w now old new (Slot.Computed a) Slot.Idle (StepLine.GivenUp cs)
 given_up {E} {R} {S} eval w now old new a x d cs c carries out ready three is ruled =
-    troubled {E = E} {R = R} {S = S} eval w now old new (Slot.Computed a) (StepLine.GivenUp cs) carries out (λ k. k) (ends_lower (further_steps (length a.attempt.clashes))) (λ k. k) tt tt (λ told. tt)
+    troubled {E = E} {R = R} {S = S} eval w now old new (Slot.Computed a) (StepLine.GivenUp cs) carries out (λ k. k) (a, c, refl, three, is, refl) (ends_lower (further_steps (length a.attempt.clashes))) (λ k. k) tt tt (λ told. tt)
     (λ told.
     let r = ruled told in
     after eval w now old new new (Slot.Computed a) Slot.Idle (StepLine.GivenUp cs) r.0 (given_up_moves eval w now new a x d cs c (settles_none old new r.0) ready r.1 three is))
@@ -185,7 +197,7 @@ given_up {E} {R} {S} eval w now old new a x d cs c carries out ready three is ru
 pub spends : {E R S : Type 0} (eval : Eval R) (w now : ℕ) (old new : StoreView) (a : ActiveView R) (x : Reply) (d : Draft) (k : Spent) → Carries old new → new.out ≡ old.out → a.ready ≡ Some (x, d) → IsRuled old new a.attempt d (VoteRefusal.Spent k)
     → Advances {E = E} {R = R} {S = S} eval w now old new (Slot.Computed a) Slot.Idle (StepLine.Spent k)
 spends {E} {R} {S} eval w now old new a x d k carries out ready ruled =
-    troubled {E = E} {R = R} {S = S} eval w now old new (Slot.Computed a) (StepLine.Spent k) carries out (λ c. c) (ends_lower (further_steps (length a.attempt.clashes))) (λ c. c) tt tt (λ told. tt)
+    troubled {E = E} {R = R} {S = S} eval w now old new (Slot.Computed a) (StepLine.Spent k) carries out (λ c. c) (a, refl, refl) (ends_lower (further_steps (length a.attempt.clashes))) (λ c. c) tt tt (λ told. tt)
     (λ told.
     let r = ruled told in
     after eval w now old new new (Slot.Computed a) Slot.Idle (StepLine.Spent k) r.0 (spent_moves eval w now new a x d k (settles_none old new r.0) ready r.1))
@@ -195,6 +207,7 @@ spends {E} {R} {S} eval w now old new a x d k carries out ready ruled =
 pub committed : {E R S : Type 0} (eval : Eval R) (w now : ℕ) (old new : StoreView) (p : PendingView R) (x : Reply) (t : ℕ) → Carries old new → PendingStands old w p → ChangeStands eval old p → old.undecided ≡ None → new.out ≡ None → (IsTold old → new ≡ finished old old.out new.disk) → x ≡ p.reply → t ≡ p.tid
     → Advances {E = E} {R = R} {S = S} eval w now old new (Slot.Pending p) Slot.Idle (StepLine.Commit x t)
 committed {E} {R} {S} eval w now old new p x t carries holds change none gone is reply at = record {
+  passes = (p, refl, reply, at, refl);
   lowers = lit< tt;
   ends = (refl, (reply, at));
   paces = omega arith;
@@ -207,6 +220,7 @@ committed {E} {R} {S} eval w now old new p x t carries holds change none gone is
 pub unknown : {E R S : Type 0} (eval : Eval R) (w now : ℕ) (old new : StoreView) (p : PendingView R) (t : ℕ) → Carries old new → PendingStands old w p → new ≡ unsettled old new.disk → t ≡ p.tid
     → Advances {E = E} {R = R} {S = S} eval w now old new (Slot.Pending p) Slot.Idle (StepLine.Unknown t)
 unknown {E} {R} {S} eval w now old new p t carries holds is at = record {
+  passes = (p, refl, at, refl);
   lowers = lit< tt;
   ends = (refl, at);
   paces = omega arith;
@@ -220,6 +234,7 @@ unknown {E} {R} {S} eval w now old new p t carries holds is at = record {
 
 pub idle_stays : {E R S : Type 0} (eval : Eval R) (w now : ℕ) (st : StoreView) → Advances {E = E} {R = R} {S = S} eval w now st st Slot.Idle Slot.Idle StepLine.Idle
 idle_stays {E} {R} {S} eval w now st = record {
+  passes = (refl, refl);
   lowers = (refl, refl);
   ends = λ k. k;
   paces = tt;

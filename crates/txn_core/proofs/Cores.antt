@@ -5,14 +5,15 @@ use Rattle.schedule.specs.declared.item.Item2.{Item2}
 use Rattle.schedule.specs.Follows.{Follows}
 use Rattle.schedule.specs.Moments.{Terms, clocked}
 use Rattle.schedule.specs.Stepping.{Steps}
-use Rattle.fs_store.specs.Stores.{IsTold, StoreView}
+use Rattle.fs_store.specs.Stores.{IsTold, Out, StoreView}
 use Rattle.connection.specs.declared.conflicts.Conflicts.{Conflicts}
 use Rattle.connection.specs.States.{PendingView}
 use Rattle.connection.specs.Votes.{IsHeldBy}
 use Rattle.txn_core.specs.declared.slot.Slot.{Slot}
 use Rattle.txn_core.specs.declared.step_line.StepLine.{StepLine}
-use Rattle.txn_core.specs.Cores.{MayBe}
+use Rattle.txn_core.specs.Cores.{HasVoted, MayBe}
 use Rattle.txn_core.specs.Counting.{EndsVote, IsFinishLine, IsOutcome, Lowers, Paces, left, left_at, left_of}
+use Rattle.txn_core.specs.Passing.{Passes}
 use Rattle.txn_core.specs.StepLines.{step_lines}
 use Rattle.txn_core.specs.Slots.{doing_of, moment_of, CoreStands, Advances, RestsOn, Waits}
 use Rattle.txn_core.proofs.Lists.{get_map, get_set_same}
@@ -53,6 +54,14 @@ step_lowers {E} {R} {S} eval w now old new slot next line sl moves here =
 
 pub some_same : {X : Type 0} (x y : X) → Some x ≡ Some y → x ≡ y
 some_same x y e = cc
+
+-- the worker passes as the answer says
+pub step_passes : {E R S : Type 0} (eval : Eval R) (w now : ℕ) (old new : StoreView) (slot next : Slot E R S) (line : StepLine) (sl : List (Slot E R S)) → Advances eval w now old new slot next line → slice_get sl w ≡ Some slot
+    → (a b : Slot E R S) → slice_get sl w ≡ Some a → slice_get (slice_set sl w next) w ≡ Some b → Passes eval line a b
+step_passes {E} {R} {S} eval w now old new slot next line sl moves here a b was is =
+    let first : slot ≡ a = some_same slot a (sym here ∙ was) in
+    let second : next ≡ b = some_same next b (sym (get_set_same sl w next slot here) ∙ is) in
+    subst (λ (x : Slot E R S). Passes eval line x b) first (subst (λ (y : Slot E R S). Passes eval line slot y) second moves.passes)
 
 -- the step is one more of its attempt
 pub step_paces : {E R S : Type 0} (eval : Eval R) (w now : ℕ) (old new : StoreView) (slot next : Slot E R S) (line : StepLine) (sl : List (Slot E R S)) → Advances eval w now old new slot next line → slice_get sl w ≡ Some slot
@@ -95,3 +104,18 @@ pub step_asked : {E R S : Type 0} (eval : Eval R) (w now : ℕ) (old new : Store
     → IsTold old → (a : Slot E R S) → slice_get sl w ≡ Some a → RestsOn eval old line a
 step_asked {E} {R} {S} eval w now old new slot next line sl moves here told a was =
     subst (RestsOn eval old line) (some_same slot a (sym here ∙ was)) (moves.asked told)
+
+-- ---- the vote that is out
+
+pub voted_holds : {E R S : Type 0} (eval : Eval R) (store : StoreView) (sl : List (Slot E R S)) → CoreStands eval store sl → (w : ℕ) → HasVoted (record { store = store; slots = sl }) w → IsHeldBy store w
+voted_holds eval store sl all w (p, here) = (let stands = (all.each w (Slot.Pending p) here).0 in (stands.0, stands.1, stands.2))
+
+pub held_voted : {E R S : Type 0} (eval : Eval R) (store : StoreView) (sl : List (Slot E R S)) → CoreStands eval store sl → (w : ℕ) → IsHeldBy store w → HasVoted (record { store = store; slots = sl }) w
+held_voted eval store sl all w (o, out, holder) = (let voter = all.voter o out in (voter.0, sym (ap (λ k. slice_get sl k) holder) ∙ voter.1))
+
+-- the store has one vote at most, so one worker at most has voted
+pub one_voter : {E R S : Type 0} (eval : Eval R) (store : StoreView) (sl : List (Slot E R S)) → CoreStands eval store sl → (v w : ℕ) → HasVoted (record { store = store; slots = sl }) v → HasVoted (record { store = store; slots = sl }) w → v ≡ w
+one_voter eval store sl all v w first second =
+    let a = voted_holds eval store sl all v first in
+    let b = voted_holds eval store sl all w second in
+    sym a.2 ∙ ap (λ (o : Out). o.holder) (some_same a.0 b.0 (sym a.1 ∙ b.1)) ∙ b.2

@@ -11,7 +11,7 @@ use Rattle.schedule.specs.Moments.{Attempt, Moment}
 use Rattle.fs_store.specs.declared.reads.Seen.{Seen}
 use Rattle.fs_store.specs.Seeing.{IsSeen, SeenOn}
 use Rattle.fs_store.specs.Stores.{IsTold, Loses, Out, Settles, Stands, StoreView, finished, on_disk, settled, staled, unsettled}
-use Rattle.connection.specs.Asks.{asks_at}
+use Rattle.schedule.specs.Asks.{asks_at}
 use Rattle.connection.specs.States.{AreSeen}
 use Rattle.txn_core.specs.declared.slot.Slot.{Slot}
 use Rattle.txn_core.specs.Slots.{AsksStand, CoreStands, FactsStand, HasVoter, Possible, SlotStands, doing_of, moment_of, vote_of}

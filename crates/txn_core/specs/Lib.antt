@@ -1,3 +1,4 @@
+pub mod Passing
 pub mod Slots
 pub mod StepLines
 pub mod Counting

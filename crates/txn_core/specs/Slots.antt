@@ -12,7 +12,7 @@ use Rattle.evaluator.specs.Facts.{TrueOf, ask_of}
 use Rattle.schedule.specs.Moments.{Terms, Attempt, Doing, Free, Waiting, Asking, Computed, Vote, Moment, clocked}
 use Rattle.schedule.specs.Stepping.{Steps}
 use Rattle.fs_store.specs.Stores.{IsTold, IsVoteOf, Out, StoreView, settled, staled, voting}
-use Rattle.connection.specs.Asks.{asks_at}
+use Rattle.schedule.specs.Asks.{asks_at}
 use Rattle.connection.specs.States.{ActiveView, AreSeen, PendingView, clashes_of}
 use Rattle.connection.specs.Telling.{TellsOn}
 use Rattle.connection.specs.Turns.{comes_to}
@@ -20,6 +20,7 @@ use Rattle.connection.specs.Votes.{IsHeldBy}
 use Rattle.txn_core.specs.declared.slot.Slot.{Slot}
 use Rattle.txn_core.specs.declared.step_line.StepLine.{StepLine}
 use Rattle.txn_core.specs.Counting.{EndsVote, Lowers, Paces, left_of}
+use Rattle.txn_core.specs.Passing.{Passes}
 use Rattle.txn_core.specs.StepLines.{step_lines}
 
 abbrev pub no_draft : Draft
@@ -135,9 +136,10 @@ abbrev pub Moves : {E R S : Type 0} → Eval R → ℕ → ℕ → StoreView →
 Moves {E} {R} {S} eval w now old new slot next line = (sl : List (Slot E R S)) → slice_get sl w ≡ Some slot → HasVoter old sl → (terms : Terms R) → terms.eval ≡ eval → terms.limit ≡ old.limit → (may : StoreView) → Possible new may
     → (was : StoreView) × Possible old was × Steps terms (clocked (moment_of eval was sl) now) w (step_lines terms.answer w line) (clocked (moment_of eval may (slice_set sl w next)) now)
 
--- A worker's slot becomes the next: all slots keep standing, the worker's number is lowered, and where the store tells, that
--- is a step of the table.
+-- A worker's slot becomes the next, as the answer says: all slots keep standing, the worker's number is lowered, and where the
+-- store tells, that is a step of the table.
 pub record Advances {E R S : Type 0} (eval : Eval R) (w now : ℕ) (old new : StoreView) (slot next : Slot E R S) (line : StepLine) : Type 0 where
+  pub passes : Passes eval line slot next
   pub lowers : Lowers line (left_of slot) (left_of next)
   pub ends : EndsVote line slot next
   pub paces : Paces line slot next

@@ -9,6 +9,8 @@ ghost use Rattle.fs_store.specs.Stores.{IsTold};
 ghost use Rattle.connection.specs.States.{PendingView};
 ghost use Rattle.connection.specs.Telling.{TellsOn};
 ghost use Rattle.txn_core.specs.Counting.{IsFinishLine, IsOutcome, Lowers, Paces, left};
+ghost use Rattle.connection.specs.Votes.{IsHeldBy};
+ghost use Rattle.txn_core.specs.Passing.{Passes};
 ghost use Rattle.txn_core.specs.StepLines.{IsAnswered, IsCommitLine, IsFaultLine, IsVoteLine, step_lines};
 ghost use Rattle.txn_core.specs.Slots.{Closes, IsLeft, RestsOn};
 ghost use Rattle.txn_core.specs.declared.slot.Slot.{Slot};
@@ -60,7 +62,7 @@ impl<D: Disk + Drop, E: Evaluator> Model for Core<D, E> {
 }
 
 impl<D: Disk + Drop, E: Evaluator> Core<D, E> {
-    ghost use Rattle.txn_core.specs.Cores.{IsAtRest, IsIdle, MayBe, is_taken};
+    ghost use Rattle.txn_core.specs.Cores.{HasVoted, IsAtRest, IsIdle, MayBe, is_taken};
 
     /// A core whose workers have no request. For want of memory the parts come back.
     pub fn new(
@@ -84,10 +86,13 @@ impl<D: Disk + Drop, E: Evaluator> Core<D, E> {
         }
     }
 
-    /// There are sixteen workers, and one has no step left exactly where it has no request.
+    /// There are sixteen workers, and one has no step left exactly where it has no request. One at most stands between its
+    /// vote and its finish, whatever the disk tells: the one that holds the store's vote.
     pub fn is_sound(&self)
         ensures workers { length self.now.slots ≡ WORKERS }
         ensures idle { (worker : ℕ) → worker < WORKERS → left self.now.slots worker ≡ 0 ↔ IsIdle self.now worker }
+        ensures one_vote { (v w : ℕ) → HasVoted self.now v → HasVoted self.now w → v ≡ w }
+        ensures voter { (worker : ℕ) → HasVoted self.now worker ↔ IsHeldBy self.now.store worker }
     {
         let _alloc = self.alloc;
     }
@@ -154,6 +159,7 @@ impl<D: Disk + Drop, E: Evaluator> Core<D, E> {
         ensures answered { IsAnswered result }
         ensures counts { Counts self.old.store.disk.counter self.new.store.disk.counter (IsFaultLine result) }
         ensures twice { IsVoteLine result → Twice self.old.store.disk.counter self.new.store.disk.counter }
+        ensures passes { (old new : Slot E E.Request E.State) → slice_get self.old.slots worker ≡ Some old → slice_get self.new.slots worker ≡ Some new → Passes E.meaning result old new }
         ensures left { Lowers result (left self.old.slots worker) (left self.new.slots worker) }
         ensures paces { (old new : Slot E E.Request E.State) → slice_get self.old.slots worker ≡ Some old → slice_get self.new.slots worker ≡ Some new → Paces result old new }
         ensures asked { IsTold self.old.store → (old : Slot E E.Request E.State) → slice_get self.old.slots worker ≡ Some old → RestsOn E.meaning self.old.store result old }

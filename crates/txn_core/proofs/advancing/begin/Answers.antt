@@ -18,14 +18,14 @@ pub returns-in-Err-Disk-default-clause-advances : goal.returns-in-Err-Disk-defau
 returns-in-Err-Disk-default-clause-advances g c =
     let same = c.in-Err-Disk-default.ensures.stands in
     let carries : Carries c.args.store.now c.begin.new.store = record { tells = tells_forth c.args.store.now.disk.told c.begin.new.store.disk.told c.begin.ensures.tells; told = tells_back c.args.store.now.disk.told c.begin.new.store.disk.told c.begin.ensures.tells; seen = c.begin.ensures.seen; grows = λ told. grows_same c.args.store.now.history c.begin.new.store.history (ap (λ (s : StoreView). s.history) same) } in
-    troubled {E = g.row.E.Denot} {R = g.row.E-Request.Denot} {S = g.row.E-State.Denot} g.E.Evaluator.meaning c.args.worker c.args.now c.args.store.now c.begin.new.store (Slot.Fresh c.args.fresh) StepLine.DiskFault carries c.begin.ensures.out (λ k. k) (fresh_left (let f : FreshView _ = c.args.fresh in f).conflicts) (λ k. k) tt tt (λ told. tt)
+    troubled {E = g.row.E.Denot} {R = g.row.E-Request.Denot} {S = g.row.E-State.Denot} g.E.Evaluator.meaning c.args.worker c.args.now c.args.store.now c.begin.new.store (Slot.Fresh c.args.fresh) StepLine.DiskFault carries c.begin.ensures.out (λ k. k) (tt, refl) (fresh_left (let f : FreshView _ = c.args.fresh in f).conflicts) (λ k. k) tt tt (λ told. tt)
     (λ told. fault_moves {E = g.row.E.Denot} {R = g.row.E-Request.Denot} {S = g.row.E-State.Denot} g.E.Evaluator.meaning c.args.worker c.args.now c.args.store.now c.begin.new.store (Slot.Fresh c.args.fresh) (rests_over c.args.store.now c.begin.new.store same) (λ k. k) refl)
 
 pub returns-in-Err-Memory-default-clause-advances : goal.returns-in-Err-Memory-default-clause-advances
 returns-in-Err-Memory-default-clause-advances g c =
     let same = c.in-Err-Memory-default.ensures.stands in
     let carries : Carries c.args.store.now c.begin.new.store = record { tells = tells_forth c.args.store.now.disk.told c.begin.new.store.disk.told c.begin.ensures.tells; told = tells_back c.args.store.now.disk.told c.begin.new.store.disk.told c.begin.ensures.tells; seen = c.begin.ensures.seen; grows = λ told. grows_same c.args.store.now.history c.begin.new.store.history (ap (λ (s : StoreView). s.history) same) } in
-    troubled {E = g.row.E.Denot} {R = g.row.E-Request.Denot} {S = g.row.E-State.Denot} g.E.Evaluator.meaning c.args.worker c.args.now c.args.store.now c.begin.new.store (Slot.Fresh c.args.fresh) StepLine.Memory carries c.begin.ensures.out (λ k. k) (fresh_left (let f : FreshView _ = c.args.fresh in f).conflicts) (λ k. k) tt tt (λ told. tt)
+    troubled {E = g.row.E.Denot} {R = g.row.E-Request.Denot} {S = g.row.E-State.Denot} g.E.Evaluator.meaning c.args.worker c.args.now c.args.store.now c.begin.new.store (Slot.Fresh c.args.fresh) StepLine.Memory carries c.begin.ensures.out (λ k. k) (tt, refl) (fresh_left (let f : FreshView _ = c.args.fresh in f).conflicts) (λ k. k) tt tt (λ told. tt)
     (λ told. memory_moves {E = g.row.E.Denot} {R = g.row.E-Request.Denot} {S = g.row.E-State.Denot} g.E.Evaluator.meaning c.args.worker c.args.now c.args.store.now c.begin.new.store (Slot.Fresh c.args.fresh) (rests_over c.args.store.now c.begin.new.store same) (λ k. k) refl)
 
 pub returns-in-Ok-clause-calm : goal.returns-in-Ok-clause-calm

@@ -37,7 +37,7 @@ pub returns-in-Err-Disk-default-clause-advances : goal.returns-in-Err-Disk-defau
 returns-in-Err-Disk-default-clause-advances g c =
     let stands = c.in-Err-Disk-default.ensures.stands in
     let carries : Carries c.args.store.now c.turn.new.store = record { tells = tells_forth c.args.store.now.disk.told c.turn.new.store.disk.told c.turn.ensures.tells; told = tells_back c.args.store.now.disk.told c.turn.new.store.disk.told c.turn.ensures.tells; seen = c.turn.ensures.seen; grows = λ told. grows_stands c.args.store.now c.turn.new.store (stands told) (c.is_sound.ensures.history told) (c.is_sound.ensures.later_undecided told) } in
-    troubled {E = g.row.E.Denot} {R = g.row.E-Request.Denot} {S = g.row.E-State.Denot} g.E.Evaluator.meaning c.args.worker c.args.now c.args.store.now c.turn.new.store (Slot.Active c.args.active) StepLine.DiskFault carries c.turn.ensures.out (λ k. k) (active_left c.args.active) (λ k. k) tt tt (λ told. tt)
+    troubled {E = g.row.E.Denot} {R = g.row.E-Request.Denot} {S = g.row.E-State.Denot} g.E.Evaluator.meaning c.args.worker c.args.now c.args.store.now c.turn.new.store (Slot.Active c.args.active) StepLine.DiskFault carries c.turn.ensures.out (λ k. k) (tt, refl) (active_left c.args.active) (λ k. k) tt tt (λ told. tt)
     (λ told. stands_moves {E = g.row.E.Denot} {R = g.row.E-Request.Denot} {S = g.row.E-State.Denot} g.E.Evaluator.meaning c.args.worker c.args.now c.args.store.now c.turn.new.store (Slot.Active c.args.active) StepLine.DiskFault (stands told)
     (λ st rests. fault_moves {E = g.row.E.Denot} {R = g.row.E-Request.Denot} {S = g.row.E-State.Denot} g.E.Evaluator.meaning c.args.worker c.args.now st c.turn.new.store (Slot.Active c.args.active) rests (λ k. k) refl))
 
@@ -45,7 +45,7 @@ pub returns-in-Err-Memory-default-clause-advances : goal.returns-in-Err-Memory-d
 returns-in-Err-Memory-default-clause-advances g c =
     let stands = c.in-Err-Memory-default.ensures.stands in
     let carries : Carries c.args.store.now c.turn.new.store = record { tells = tells_forth c.args.store.now.disk.told c.turn.new.store.disk.told c.turn.ensures.tells; told = tells_back c.args.store.now.disk.told c.turn.new.store.disk.told c.turn.ensures.tells; seen = c.turn.ensures.seen; grows = λ told. grows_stands c.args.store.now c.turn.new.store (stands told) (c.is_sound.ensures.history told) (c.is_sound.ensures.later_undecided told) } in
-    troubled {E = g.row.E.Denot} {R = g.row.E-Request.Denot} {S = g.row.E-State.Denot} g.E.Evaluator.meaning c.args.worker c.args.now c.args.store.now c.turn.new.store (Slot.Active c.args.active) StepLine.Memory carries c.turn.ensures.out (λ k. k) (active_left c.args.active) (λ k. k) tt tt (λ told. tt)
+    troubled {E = g.row.E.Denot} {R = g.row.E-Request.Denot} {S = g.row.E-State.Denot} g.E.Evaluator.meaning c.args.worker c.args.now c.args.store.now c.turn.new.store (Slot.Active c.args.active) StepLine.Memory carries c.turn.ensures.out (λ k. k) (tt, refl) (active_left c.args.active) (λ k. k) tt tt (λ told. tt)
     (λ told. stands_moves {E = g.row.E.Denot} {R = g.row.E-Request.Denot} {S = g.row.E-State.Denot} g.E.Evaluator.meaning c.args.worker c.args.now c.args.store.now c.turn.new.store (Slot.Active c.args.active) StepLine.Memory (stands told)
     (λ st rests. memory_moves {E = g.row.E.Denot} {R = g.row.E-Request.Denot} {S = g.row.E-State.Denot} g.E.Evaluator.meaning c.args.worker c.args.now st c.turn.new.store (Slot.Active c.args.active) rests (λ k. k) refl))
 

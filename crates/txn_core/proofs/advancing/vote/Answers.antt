@@ -1,4 +1,4 @@
-use Rattle.std.proofs.Common.{length}
+use Rattle.std.proofs.Common.{length, refl}
 use Rattle.connection.specs.States.{ActiveView}
 use Rattle.fs_store.specs.Stores.{idle}
 use Rattle.connection.specs.Telling.{tells_back, tells_forth}
@@ -48,14 +48,14 @@ pub returns-in-Err-Disk-clause-advances : goal.returns-in-Err-Disk-clause-advanc
 returns-in-Err-Disk-clause-advances g c =
     let t = rw c.in-Err-Disk.field-0-is at c.in-Err-Disk.ensures.refused in
     let carries : Carries c.args.store.now c.vote.new.store = record { tells = tells_forth c.args.store.now.disk.told c.vote.new.store.disk.told c.vote.ensures.tells; told = tells_back c.args.store.now.disk.told c.vote.new.store.disk.told c.vote.ensures.tells; seen = c.vote.ensures.seen; grows = λ told. grows_loses c.args.store.now c.vote.new.store (t.3.2 told) (c.is_sound.ensures.history told) (c.is_sound.ensures.later_undecided told) } in
-    troubled {E = g.row.E.Denot} {R = g.row.E-Request.Denot} {S = g.row.E-State.Denot} g.E.Evaluator.meaning c.args.worker c.args.now c.args.store.now c.vote.new.store (Slot.Computed c.args.active) StepLine.DiskFault carries c.in-Err-Disk.ensures.kept (λ k. k) (ends_lower (further_steps (length (let a : ActiveView _ = c.args.active in a).attempt.clashes))) (λ k. k) tt tt (λ told. tt)
+    troubled {E = g.row.E.Denot} {R = g.row.E-Request.Denot} {S = g.row.E-State.Denot} g.E.Evaluator.meaning c.args.worker c.args.now c.args.store.now c.vote.new.store (Slot.Computed c.args.active) StepLine.DiskFault carries c.in-Err-Disk.ensures.kept (λ k. k) (tt, refl) (ends_lower (further_steps (length (let a : ActiveView _ = c.args.active in a).attempt.clashes))) (λ k. k) tt tt (λ told. tt)
     (λ told. vote_fault_moves {E = g.row.E.Denot} {R = g.row.E-Request.Denot} {S = g.row.E-State.Denot} g.E.Evaluator.meaning c.args.worker c.args.now c.args.store.now c.vote.new.store (Slot.Computed c.args.active) (t.3.2 told) t.3.1 (λ k. k) (computed_busy c.args.active))
 
 pub returns-in-Err-Memory-clause-advances : goal.returns-in-Err-Memory-clause-advances
 returns-in-Err-Memory-clause-advances g c =
     let t = rw c.in-Err-Memory.field-0-is at c.in-Err-Memory.ensures.refused in
     let carries : Carries c.args.store.now c.vote.new.store = record { tells = tells_forth c.args.store.now.disk.told c.vote.new.store.disk.told c.vote.ensures.tells; told = tells_back c.args.store.now.disk.told c.vote.new.store.disk.told c.vote.ensures.tells; seen = c.vote.ensures.seen; grows = λ told. grows_stands c.args.store.now c.vote.new.store (t.3.2 told) (c.is_sound.ensures.history told) (c.is_sound.ensures.later_undecided told) } in
-    troubled {E = g.row.E.Denot} {R = g.row.E-Request.Denot} {S = g.row.E-State.Denot} g.E.Evaluator.meaning c.args.worker c.args.now c.args.store.now c.vote.new.store (Slot.Computed c.args.active) StepLine.Memory carries c.in-Err-Memory.ensures.kept (λ k. k) (ends_lower (further_steps (length (let a : ActiveView _ = c.args.active in a).attempt.clashes))) (λ k. k) tt tt (λ told. tt)
+    troubled {E = g.row.E.Denot} {R = g.row.E-Request.Denot} {S = g.row.E-State.Denot} g.E.Evaluator.meaning c.args.worker c.args.now c.args.store.now c.vote.new.store (Slot.Computed c.args.active) StepLine.Memory carries c.in-Err-Memory.ensures.kept (λ k. k) (tt, refl) (ends_lower (further_steps (length (let a : ActiveView _ = c.args.active in a).attempt.clashes))) (λ k. k) tt tt (λ told. tt)
     (λ told. stands_moves {E = g.row.E.Denot} {R = g.row.E-Request.Denot} {S = g.row.E-State.Denot} g.E.Evaluator.meaning c.args.worker c.args.now c.args.store.now c.vote.new.store (Slot.Computed c.args.active) StepLine.Memory (t.3.2 told)
     (λ st rests. memory_moves {E = g.row.E.Denot} {R = g.row.E-Request.Denot} {S = g.row.E-State.Denot} g.E.Evaluator.meaning c.args.worker c.args.now st c.vote.new.store (Slot.Computed c.args.active) rests (λ k. k) (computed_busy c.args.active)))
 

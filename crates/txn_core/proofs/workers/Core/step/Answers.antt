@@ -1,7 +1,7 @@
 use Rattle.std.proofs.Common.{◌≡◌, Some, sym, slice_get}
 use Rattle.std.proofs.lemmas.Option.{slice_get_read}
 use Rattle.txn_core.proofs.Lists.{set_other, set_twice}
-use Rattle.txn_core.proofs.Cores.{step_asked, step_ends, step_finishes, step_follows, step_lowers, step_paces, step_waits}
+use Rattle.txn_core.proofs.Cores.{step_asked, step_ends, step_finishes, step_follows, step_lowers, step_paces, step_passes, step_waits}
 use Rattle.txn_core.proofs.workers.Core.step.Goals as goal
 
 pub advance-next-requires : goal.advance-next-requires
@@ -22,6 +22,12 @@ returns-clause-step g c =
     slice_get_read c.self.inside.slots.items 16 c.args.worker c.replace-slot.result (sym c.self.invariant.count) c.requires (rw c.replace-slot.ensures.value c.index_mut.ensures.value) in
     rw (← c.self.view_is) (λ told terms same limit. rw (set_twice, c.replace-idle.ensures.after)
     (step_follows g.E.Evaluator.meaning c.args.worker c.args.now c.self.inside.store c.advance-next.new.store c.replace-slot.result c.advance-next.result.0 c.advance-next.result.1 c.self.inside.slots.items c.advance-next.ensures.advances here c.self.invariant told terms same limit))
+
+pub returns-clause-passes : goal.returns-clause-passes
+returns-clause-passes g c =
+    let here : slice_get c.self.inside.slots.items c.args.worker ≡ Some c.replace-slot.result =
+    slice_get_read c.self.inside.slots.items 16 c.args.worker c.replace-slot.result (sym c.self.invariant.count) c.requires (rw c.replace-slot.ensures.value c.index_mut.ensures.value) in
+    rw (← c.self.view_is) (rw (set_twice, c.replace-idle.ensures.after) (step_passes g.E.Evaluator.meaning c.args.worker c.args.now c.self.inside.store c.advance-next.new.store c.replace-slot.result c.advance-next.result.0 c.advance-next.result.1 c.self.inside.slots.items c.advance-next.ensures.advances here))
 
 pub returns-clause-left : goal.returns-clause-left
 returns-clause-left g c =

@@ -1,5 +1,5 @@
 -- No ask of an evaluation stands twice, by the laws of an evaluator.
-use Rattle.std.proofs.Common.{ℕ, zero, suc, ◌≡◌, ◌≢◌, ◌∙◌, List, [], ◌∷◌, ◌++◌, Option, Some, None, refl, sym, ap, subst}
+use Rattle.std.proofs.Common.{ℕ, zero, suc, ◌≡◌, ◌≢◌, ◌∙◌, List, [], ◌∷◌, ◌++◌, Option, Some, None, refl, sym, ap}
 use Rattle.std.specs.List.{AllByRecursion}
 use Rattle.zbase.specs.History.{History}
 use Rattle.evaluator.specs.declared.ask.Ask.{Ask}
@@ -8,7 +8,7 @@ use Rattle.evaluator.specs.declared.outcome.Outcome.{Outcome}
 use Rattle.evaluator.specs.Exec.{Eval, IsLawful, most_asks}
 use Rattle.evaluator.specs.Facts.{ask_of, fact, look}
 use Rattle.evaluator.specs.FactLaws.{fact_asked, look_more, look_new}
-use Rattle.connection.specs.Asks.{asked_from, asks_at, then_asked}
+use Rattle.schedule.specs.Asks.{asked_from, asks_at, then_asked}
 
 abbrev pub NoneTwice : List Ask → Type 0
 NoneTwice [] = Unit {0}

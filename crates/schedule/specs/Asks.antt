@@ -1,13 +1,11 @@
 -- Which facts an evaluation asks for.
-use Rattle.std.specs.Prelude.{ℕ, zero, suc, ◌≡◌, List, [], ◌∷◌, ◌++◌, map}
+use Rattle.std.specs.Prelude.{ℕ, zero, suc, List, [], ◌∷◌, ◌++◌}
 use Rattle.zbase.specs.History.{History}
 use Rattle.evaluator.specs.declared.ask.Ask.{Ask}
 use Rattle.evaluator.specs.declared.fact.Fact.{Fact}
 use Rattle.evaluator.specs.declared.outcome.Outcome.{Outcome}
 use Rattle.evaluator.specs.Exec.{Eval, most_asks}
-use Rattle.evaluator.specs.Facts.{TrueOf, ask_of, fact, look}
-use Rattle.schedule.specs.Moments.{Attempt}
-use Rattle.connection.specs.declared.turned.Turned.{Turned}
+use Rattle.evaluator.specs.Facts.{fact, look}
 
 -- an ask and those behind it, or none where nothing is asked for
 abbrev pub then_asked : Outcome → (Ask → List Ask) → List Ask
@@ -24,13 +22,3 @@ asked_from (suc n) eval h q known = then_asked (eval (look known) q) (λ ask. as
 -- found. By the laws of an evaluator what is asked for isn't known, so that no ask stands twice.
 unfoldable pub asks_at : {R : Type 0} → Eval R → History → R → List Ask
 asks_at eval h q = asked_from most_asks eval h q []
-
--- The facts of an attempt answer these asks, whatever the history that gave them.
-abbrev pub HasAsked : {R : Type 0} → Eval R → Attempt R → Type 0
-HasAsked eval a = (h : History) → TrueOf a.facts h → map ask_of a.facts ≡ asks_at eval h a.request
-
--- an attempt that is decided has asked for all that its evaluation asks for
-abbrev pub Asked : {E R S : Type 0} → Eval R → Attempt R → Turned E R S → Type 0
-Asked eval a (Turned.Fetched new ask) = Unit {0}
-Asked eval a (Turned.Answered x t) = HasAsked eval a
-Asked eval a (Turned.Ready new) = HasAsked eval a
