@@ -1,0 +1,12 @@
+pub mod Faults
+pub mod Replies
+pub mod Pages
+pub mod Site
+pub mod Comes
+pub mod Ways
+pub mod TextRules
+pub mod UserRules
+pub mod PageRules
+pub mod SiteLaws
+pub mod Access
+pub mod Worked

@@ -1,0 +1,44 @@
+ghost use Rattle.std.specs.Prelude.{◌≡◌, ◌≤◌, ℕ, List, Option, length};
+ghost use Rattle.evaluator.specs.declared.ask.Ask.{Ask};
+ghost use Rattle.evaluator.specs.declared.draft.Draft.{Draft};
+ghost use Rattle.evaluator.specs.declared.fact.Fact.{Fact};
+ghost use Rattle.evaluator.specs.declared.outcome.Outcome.{Outcome};
+ghost use Rattle.evaluator.specs.declared.reply.Reply.{Reply};
+ghost use Rattle.evaluator.specs.Change.{IsChange, IsReply};
+ghost use Rattle.evaluator.specs.Exec.{IsLawful, IsTrail, most_asks};
+ghost use Rattle.evaluator.specs.Facts.{look};
+ghost use Rattle.http_in.specs.declared.message.Message.{Message};
+ghost use Rattle.site.specs.Access.{ContentsStayApart, PagesShowRightly, RefusalsAreDenied};
+ghost use Rattle.site.specs.Site.{site};
+
+use dtml_render::{pages_are_for_their_users, pages_are_their_users_own};
+
+/// What a message means to a site keeps the laws of an evaluator: what is decided on true facts is decided so on the whole
+/// history, a change rests on lasting facts alone, what is asked for isn't known, no message asks for more than 12,000
+/// facts, and changes and replies keep their rules.
+pub fn messages_are_lawful()
+    ensures lawful { IsLawful site }
+    ensures few_asks { (facts : List Fact) (message : Message) → IsTrail (λ known. site (look known) message) facts → length facts ≤ most_asks }
+    ensures changes { (known : Ask → Option Fact) (message : Message) (reply : Reply) (draft : Draft) → site known message ≡ Outcome.Change reply draft → IsChange known draft × IsReply reply }
+    ensures replies { (known : Ask → Option Fact) (message : Message) (reply : Reply) → site known message ≡ Outcome.Answer reply → IsReply reply }
+{}
+
+/// Each 200 is a page that shows rightly: each object that it shows was granted to its user, or to someone who has the
+/// proxy roles of an object, by the role that is told; and each object whose title, source or property it uses is shown.
+/// What a refusal denies is an object and a permission that isn't granted to the request's user, or to someone who has the
+/// proxy roles of an object.
+pub fn pages_show_rightly()
+    ensures shown { PagesShowRightly }
+    ensures denied { RefusalsAreDenied }
+{
+    pages_are_for_their_users();
+}
+
+/// Contents that a user may not view make no difference to his pages: over two histories that differ at their ends in such
+/// contents alone, where no object has proxy roles, a request for a page has one reply, unless one of both has too much to
+/// look at.
+pub fn contents_stay_apart()
+    ensures { ContentsStayApart }
+{
+    pages_are_their_users_own();
+}
