@@ -17,4 +17,5 @@ pub mod Ranges
 pub mod BodiesRead
 pub mod ValuesRead
 pub mod Walking
+pub mod TransactionsRead
 pub mod ScanSteps

@@ -108,7 +108,7 @@ none_more : (more : List Data) → [] ≡ flat_map data_spelling more → AllByR
 none_more [] e fits = refl
 none_more (d ∷ more) e fits = absurd (omega (arith, ap length e, length-append (data_spelling d) (flat_map data_spelling more), long_data d fits.0.body))
 
-same_ds : (area : List ℕ) (ds es : List Data) → AreRecords area ds → AreRecords area es → es ≡ ds
+pub same_ds : (area : List ℕ) (ds es : List Data) → AreRecords area ds → AreRecords area es → es ≡ ds
 same_ds area ds es a b =
     let s = same_records ds es [] a.fits b.fits (append-nil (flat_map data_spelling ds) ∙ sym a.spelled ∙ b.spelled) in
     s.1 ∙ ap (λ (more : List Data). ds ++ more) (none_more s.0 s.2 (tail_fits ds s.0 (subst (AllByRecursion FitsData) s.1 b.fits))) ∙ append-nil ds
@@ -121,7 +121,7 @@ passed : (t : Bool) (o : Option Kind) (d : Kind) → cond t o (Some d) ≡ None 
 passed true o d e = (refl, e)
 passed false o d e = absurd cc
 
-right_bodies : (place t : ℕ) (rs : List Row) (b : Block) (ds : List Data) → fault_in place t rs b (Records ds) ≡ None → list_all (has_body rs) ds ≡ true
+pub right_bodies : (place t : ℕ) (rs : List Row) (b : Block) (ds : List Data) → fault_in place t rs b (Records ds) ≡ None → list_all (has_body rs) ds ≡ true
 unfolding fault_in
 right_bodies place t rs b ds e = (passed _ _ BadBack (passed _ _ BadPrev (passed _ _ BadTid e).1).1).0
 

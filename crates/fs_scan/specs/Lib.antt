@@ -5,6 +5,7 @@ pub mod Taking
 pub mod Rising
 pub mod Pages
 pub mod Newest
+pub mod OnlyReads
 pub mod Wholes
 pub mod Scanned
 pub mod Present

@@ -1,5 +1,4 @@
 ghost use Rattle.std.specs.Prelude.{◌≡◌, ◌++◌, ℕ, List, filter, length, IfOk, IfSome, IsErrOf};
-ghost use Rattle.zbase.specs.Faults.{Counts};
 ghost use Rattle.zdisk.specs.Disk.{content};
 ghost use Rattle.fs_record.specs.declared.damage.Damage.{Damage as Kind};
 ghost use Rattle.fs_record.specs.File.{Earlier};
@@ -8,6 +7,7 @@ ghost use Rattle.fs_record.specs.Opening.{Damaged};
 ghost use Rattle.fs_record.specs.Spelling.{Data, data_spelling};
 ghost use Rattle.fs_record.specs.Standing.{IsPlace};
 ghost use Rattle.fs_scan.specs.Checked.{Checks};
+ghost use Rattle.fs_scan.specs.OnlyReads.{OnlyReads};
 ghost use Rattle.fs_scan.specs.Present.{AllStand, ArePlaces, back_in, means_value};
 
 use crate::opening::{ScanRefusal, read_whole, scan_bytes};
@@ -105,9 +105,7 @@ pub fn check_bytes(alloc: Global, bytes: &[u8]) -> Result<Checked, ScanRefusal>
 pub fn check<D: Disk>(alloc: Global, disk: &mut D) -> Result<Checked, ScanRefusal>
     ensures told { IfOk result (λ checked. IfSome (D.told disk.old) (λ told. Checks (content told) checked)) }
     ensures damaged { (kind : Kind) (place : ℕ) → IsErrOf result (ScanRefusal.Damaged kind place) → IfSome (D.told disk.old) (λ told. Damaged (content told) place kind) }
-    ensures same { D.told disk.new ≡ D.told disk.old }
-    ensures spare { (D.spare_calls disk.new ≡ D.spare_calls disk.old) × (D.spare_bytes disk.new ≡ D.spare_bytes disk.old) }
-    ensures counts { Counts (D.counter disk.old) (D.counter disk.new) (IsErrOf result ScanRefusal.Disk) }
+    ensures only_reads { OnlyReads D.Disk disk.old disk.new (IsErrOf result ScanRefusal.Disk) }
 {
     let bytes = read_whole(alloc, disk)?;
     check_bytes(alloc, bytes.as_slice())

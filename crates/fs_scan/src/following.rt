@@ -1,6 +1,5 @@
 ghost use Rattle.std.specs.Prelude.{◌≡◌, ◌+◌, ◌<◌, ◌≤◌, ◌++◌, ℕ, List, IfOk, IfSome, IsErr, IsErrOf, Some, drop, length};
 ghost use Rattle.std.specs.Option.{ForSome, option_map};
-ghost use Rattle.zbase.specs.Faults.{Counts};
 ghost use Rattle.zdisk.specs.Disk.{content};
 ghost use Rattle.fs_record.specs.declared.damage.Damage.{Damage as Kind};
 ghost use Rattle.fs_record.specs.declared.body.Body.TheVariants.{Back};
@@ -9,6 +8,7 @@ ghost use Rattle.fs_record.specs.Fits.{FitsData};
 ghost use Rattle.fs_record.specs.Spelling.{Data, data_spelling, head_of};
 ghost use Rattle.fs_record.specs.Standing.{IsPlace};
 ghost use Rattle.fs_scan.specs.Backs.{CostsBacks, HasDataOf};
+ghost use Rattle.fs_scan.specs.OnlyReads.{OnlyReads};
 ghost use Rattle.fs_scan.specs.Present.{AllStand};
 
 use crate::ScanRefusal;
@@ -23,10 +23,8 @@ use zdisk::Disk;
 pub fn read_head<D: Disk>(disk: &mut D, len: u64, at: u64) -> Result<Option<DataHead>, Failed>
     requires { ForSome (D.told disk.old) (λ told. len ≡ length (content told)) }
     ensures head { IfOk result (λ head. IfSome (D.told disk.old) (λ told. (d : Data) (more : List ℕ) → FitsData d → drop at (content told) ≡ data_spelling d ++ more → head ≡ Some (head_of d))) }
-    ensures same { D.told disk.new ≡ D.told disk.old }
-    ensures spare { (D.spare_calls disk.new ≡ D.spare_calls disk.old) × (D.spare_bytes disk.new ≡ D.spare_bytes disk.old) }
     ensures reads { (D.counter disk.new).calls ≤ (D.counter disk.old).calls + 1 }
-    ensures counts { Counts (D.counter disk.old) (D.counter disk.new) (IsErr result) }
+    ensures only_reads { OnlyReads D.Disk disk.old disk.new (IsErr result) }
 {
     let left = len.saturating_sub(at);
     if left < DATA_HEAD_LEN as u64 {
@@ -52,10 +50,8 @@ fn body_behind<D: Disk>(
     requires { ForSome (D.told disk.old) (λ told. len ≡ length (content told)) }
     ensures body { IfOk result (λ body. IfSome (D.told disk.old) (λ told. (d : Data) (more : List ℕ) → FitsData d → drop at (content told) ≡ data_spelling d ++ more → head.now ≡ head_of d → body ≡ Some d.body)) }
     ensures undamaged { (kind : Kind) (place : ℕ) → IsErrOf result (ScanRefusal.Damaged kind place) → ⊥ }
-    ensures same { D.told disk.new ≡ D.told disk.old }
-    ensures spare { (D.spare_calls disk.new ≡ D.spare_calls disk.old) × (D.spare_bytes disk.new ≡ D.spare_bytes disk.old) }
     ensures reads { (D.counter disk.new).calls ≤ (D.counter disk.old).calls + 1 }
-    ensures counts { Counts (D.counter disk.old) (D.counter disk.new) (IsErrOf result ScanRefusal.Disk) }
+    ensures only_reads { OnlyReads D.Disk disk.old disk.new (IsErrOf result ScanRefusal.Disk) }
 {
     let left = len.saturating_sub(at);
     if left < DATA_HEAD_LEN as u64 {
@@ -91,10 +87,8 @@ pub fn follow_from<D: Disk>(
     requires head { IfSome (D.told disk.old) (λ told. (d : Data) (more : List ℕ) → FitsData d → drop place (content told) ≡ data_spelling d ++ more → head.now ≡ head_of d) }
     ensures value { IfOk result (λ value. IfSome (D.told disk.old) (λ told. (records : List Earlier) (oid : ℕ) → AllStand (content told) records → IsPlace records oid place → value ≡ value_at place records)) }
     ensures undamaged { (kind : Kind) (place : ℕ) → IsErrOf result (ScanRefusal.Damaged kind place) → ⊥ }
-    ensures same { D.told disk.new ≡ D.told disk.old }
-    ensures spare { (D.spare_calls disk.new ≡ D.spare_calls disk.old) × (D.spare_bytes disk.new ≡ D.spare_bytes disk.old) }
     ensures reads { IfSome (D.told disk.old) (λ told. (records : List Earlier) (oid : ℕ) → AllStand (content told) records → IsPlace records oid place → CostsBacks (content told) place (D.counter disk.old).calls (D.counter disk.new).calls) }
-    ensures counts { Counts (D.counter disk.old) (D.counter disk.new) (IsErrOf result ScanRefusal.Disk) }
+    ensures only_reads { OnlyReads D.Disk disk.old disk.new (IsErrOf result ScanRefusal.Disk) }
 {
     let mut at = place;
     let mut head = *head;
@@ -128,10 +122,8 @@ fn back_behind<D: Disk>(
     requires len { ForSome (D.told disk.old) (λ told. len ≡ length (content told)) }
     requires no_data { head.now.length ≡ 0 }
     ensures back { IfOk result (λ back. IfSome (D.told disk.old) (λ told. (d : Data) (more : List ℕ) → FitsData d → drop at (content told) ≡ data_spelling d ++ more → head.now ≡ head_of d → option_map Back back ≡ Some d.body)) }
-    ensures same { D.told disk.new ≡ D.told disk.old }
-    ensures spare { (D.spare_calls disk.new ≡ D.spare_calls disk.old) × (D.spare_bytes disk.new ≡ D.spare_bytes disk.old) }
     ensures reads { (D.counter disk.new).calls ≤ (D.counter disk.old).calls + 1 }
-    ensures counts { Counts (D.counter disk.old) (D.counter disk.new) (IsErr result) }
+    ensures only_reads { OnlyReads D.Disk disk.old disk.new (IsErr result) }
 {
     let left = len.saturating_sub(at);
     if left < BACK_RECORD_LEN as u64 {
@@ -154,10 +146,8 @@ pub fn data_place<D: Disk>(
     requires len { ForSome (D.told disk.old) (λ told. len ≡ length (content told)) }
     requires head { IfSome (D.told disk.old) (λ told. (d : Data) (more : List ℕ) → FitsData d → drop place (content told) ≡ data_spelling d ++ more → head.now ≡ head_of d) }
     ensures data_stands { IfOk result (λ at. IfSome (D.told disk.old) (λ told. (records : List Earlier) (oid : ℕ) → AllStand (content told) records → IsPlace records oid place → 0 < place → HasDataOf (content told) records oid place at)) }
-    ensures same { D.told disk.new ≡ D.told disk.old }
-    ensures spare { (D.spare_calls disk.new ≡ D.spare_calls disk.old) × (D.spare_bytes disk.new ≡ D.spare_bytes disk.old) }
     ensures reads { IfSome (D.told disk.old) (λ told. (records : List Earlier) (oid : ℕ) → AllStand (content told) records → IsPlace records oid place → CostsBacks (content told) place (D.counter disk.old).calls (D.counter disk.new).calls) }
-    ensures counts { Counts (D.counter disk.old) (D.counter disk.new) (IsErr result) }
+    ensures only_reads { OnlyReads D.Disk disk.old disk.new (IsErr result) }
 {
     let mut at = place;
     let mut head = *head;
@@ -189,9 +179,7 @@ pub fn follow<D: Disk>(
     requires { ForSome (D.told disk.old) (λ told. len ≡ length (content told)) }
     ensures value { IfOk result (λ value. IfSome (D.told disk.old) (λ told. (records : List Earlier) (oid : ℕ) → AllStand (content told) records → IsPlace records oid place → value ≡ value_at place records)) }
     ensures undamaged { (kind : Kind) (place : ℕ) → IsErrOf result (ScanRefusal.Damaged kind place) → ⊥ }
-    ensures same { D.told disk.new ≡ D.told disk.old }
-    ensures spare { (D.spare_calls disk.new ≡ D.spare_calls disk.old) × (D.spare_bytes disk.new ≡ D.spare_bytes disk.old) }
-    ensures counts { Counts (D.counter disk.old) (D.counter disk.new) (IsErrOf result ScanRefusal.Disk) }
+    ensures only_reads { OnlyReads D.Disk disk.old disk.new (IsErrOf result ScanRefusal.Disk) }
 {
     match read_head(disk, len, place)? {
         Some(head) => follow_from(alloc, disk, len, place, &head),

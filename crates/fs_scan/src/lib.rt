@@ -3,7 +3,8 @@
 //! `step::take_one` says of any bytes what stands at a place in a file: the end, a damage or a right transaction.
 //! `scan` tells of any file where it ends and where each object's last record stands (`specs/Scanned`), and `check`
 //! its numbers (`specs/Checked`). A `Walk` answers its transactions one after another, with their values
-//! (`specs/Walked`).
+//! (`specs/Walked`). `read_txn`, `texts_at` and `values_at` read one transaction where it stands, and no more of it than is
+//! asked for. `specs/OnlyReads` says what all of them leave.
 #![tactic(auto)]
 
 mod checking;
@@ -18,6 +19,7 @@ mod places;
 mod records;
 mod step;
 mod texts;
+mod transactions;
 mod valued;
 mod walk;
 mod wholes;
@@ -26,5 +28,6 @@ mod window;
 pub use checking::{Checked, check, check_bytes};
 pub use following::{data_place, follow_from, read_head};
 pub use opening::{ScanRefusal, Scanned, scan, scan_bytes};
+pub use transactions::{read_txn, texts_at, values_at};
 pub use walk::Walk;
 pub use wholes::{OidValue, OidValues, Whole, Wholes};

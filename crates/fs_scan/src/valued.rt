@@ -1,6 +1,5 @@
-ghost use Rattle.std.specs.Prelude.{◌≡◌, ◌+◌, ◌<◌, ◌≤◌, ℕ, List, IfOk, IfSome, IsErrOf, length, true};
+ghost use Rattle.std.specs.Prelude.{◌≡◌, ◌+◌, ◌<◌, ◌≤◌, ℕ, List, IfOk, IfSome, IsErrOf, MatchOption, length, true};
 ghost use Rattle.std.specs.Option.{ForSome};
-ghost use Rattle.zbase.specs.Faults.{Counts};
 ghost use Rattle.zdisk.specs.Disk.{content};
 ghost use Rattle.fs_record.specs.declared.damage.Damage.{Damage as Kind};
 ghost use Rattle.fs_record.specs.File.{Earlier, has_body, rows, value_of};
@@ -8,7 +7,8 @@ ghost use Rattle.fs_record.specs.Spelling.{Data};
 ghost use Rattle.fs_scan.specs.Extent.{IsWhole, area_in};
 ghost use Rattle.fs_scan.specs.Followed.{MeansValues, MeansWhole};
 ghost use Rattle.fs_scan.specs.Found.{data_in};
-ghost use Rattle.fs_scan.specs.Marked.{AreRecords};
+ghost use Rattle.fs_scan.specs.Marked.{AreRecords, NoRecords};
+ghost use Rattle.fs_scan.specs.OnlyReads.{OnlyReads};
 ghost use Rattle.fs_scan.specs.Present.{AllStand};
 
 use crate::data::{Found, data_at};
@@ -34,9 +34,7 @@ fn value_at_front<D: Disk>(
     requires whole { ForSome (D.told disk.old) (λ told. len ≡ length (content told)) }
     ensures value { IfOk result (λ value. IfSome (D.told disk.old) (λ told. (records : List Earlier) → AllStand (content told) records → has_body (rows records) (data_in found.now rest.now) ≡ true → value ≡ value_of records (data_in found.now rest.now).body)) }
     ensures undamaged { (kind : Kind) (place : ℕ) → IsErrOf result (ScanRefusal.Damaged kind place) → ⊥ }
-    ensures same { D.told disk.new ≡ D.told disk.old }
-    ensures spare { (D.spare_calls disk.new ≡ D.spare_calls disk.old) × (D.spare_bytes disk.new ≡ D.spare_bytes disk.old) }
-    ensures counts { Counts (D.counter disk.old) (D.counter disk.new) (IsErrOf result ScanRefusal.Disk) }
+    ensures only_reads { OnlyReads D.Disk disk.old disk.new (IsErrOf result ScanRefusal.Disk) }
 {
     if found.head.length != 0 {
         return Ok(Some(Bytes::from_slice(alloc, &rest[DATA_HEAD_LEN..found.size])?));
@@ -47,27 +45,25 @@ fn value_at_front<D: Disk>(
     follow(alloc, disk, len, found.back)
 }
 
-// The values of an area's data records, in a disk's file of this length.
-fn read_values<D: Disk>(
+/// The values of an area's data records, in a disk's file of this length, back pointers followed; none where the records
+/// don't end exactly with the area.
+pub fn read_values<D: Disk>(
     alloc: Global,
     disk: &mut D,
     len: u64,
     area: &[u8],
-) -> Result<OidValues, ScanRefusal>
-    requires records { (ds : List Data) × AreRecords area.now ds }
-    requires whole { ForSome (D.told disk.old) (λ told. len ≡ length (content told)) }
-    ensures values { IfOk result (MeansValues (D.told disk.old) area.now) }
+) -> Result<Option<OidValues>, ScanRefusal>
+    requires { ForSome (D.told disk.old) (λ told. len ≡ length (content told)) }
+    ensures values { IfOk result (λ found. MatchOption found (NoRecords area.now) (MeansValues (D.told disk.old) area.now)) }
     ensures undamaged { (kind : Kind) (place : ℕ) → IsErrOf result (ScanRefusal.Damaged kind place) → ⊥ }
-    ensures same { D.told disk.new ≡ D.told disk.old }
-    ensures spare { (D.spare_calls disk.new ≡ D.spare_calls disk.old) × (D.spare_bytes disk.new ≡ D.spare_bytes disk.old) }
-    ensures counts { Counts (D.counter disk.old) (D.counter disk.new) (IsErrOf result ScanRefusal.Disk) }
+    ensures only_reads { OnlyReads D.Disk disk.old disk.new (IsErrOf result ScanRefusal.Disk) }
 {
     let mut values = OidValues::new(alloc);
     let mut at = 0;
     while at < area.len() {
         let rest = &area[at..];
         let Some(found) = data_at(rest) else {
-            unreachable!();
+            return Ok(None);
         };
         let value = value_at_front(alloc, disk, len, rest, &found)?;
         values.push(OidValue {
@@ -76,7 +72,7 @@ fn read_values<D: Disk>(
         })?;
         at += found.size;
     }
-    Ok(values)
+    Ok(Some(values))
 }
 
 /// The transaction in the window, which begins at this place in a disk's file of this length, with its values.
@@ -93,11 +89,12 @@ pub fn read_whole_in<D: Disk>(
     requires whole { ForSome (D.told disk.old) (λ told. len ≡ length (content told)) }
     ensures means { IfOk result (MeansWhole (D.told disk.old) window.now place extent.now) }
     ensures undamaged { (kind : Kind) (place : ℕ) → IsErrOf result (ScanRefusal.Damaged kind place) → ⊥ }
-    ensures same { D.told disk.new ≡ D.told disk.old }
-    ensures spare { (D.spare_calls disk.new ≡ D.spare_calls disk.old) × (D.spare_bytes disk.new ≡ D.spare_bytes disk.old) }
-    ensures counts { Counts (D.counter disk.old) (D.counter disk.new) (IsErrOf result ScanRefusal.Disk) }
+    ensures only_reads { OnlyReads D.Disk disk.old disk.new (IsErrOf result ScanRefusal.Disk) }
 {
-    let values = read_values(alloc, disk, len, &window[extent.from..extent.long])?;
+    let area = &window[extent.from..extent.long];
+    let Some(values) = read_values(alloc, disk, len, area)? else {
+        unreachable!();
+    };
     let texts = copy_texts(alloc, window, &extent.head)?;
     Ok(Whole {
         place,

@@ -1,6 +1,5 @@
 ghost use Rattle.std.specs.Prelude.{◌≡◌, ◌+◌, ◌++◌, ◌<◌, ◌≤◌, ◌^◌, ℕ, List, IfErr, IfOk, IfSome, IsErrOf, MatchOption, None, OnErr, OnOk, Some, drop, length};
 ghost use Rattle.std.specs.Option.{ForSome};
-ghost use Rattle.zbase.specs.Faults.{Counts};
 ghost use Rattle.zdisk.specs.Disk.{content};
 ghost use Rattle.fs_record.specs.declared.damage.Damage.{Damage as Kind};
 ghost use Rattle.fs_record.specs.Opening.{Damaged};
@@ -10,6 +9,7 @@ ghost use Rattle.fs_scan.specs.Extent.{IsWhole, area_in};
 ghost use Rattle.fs_scan.specs.Followed.{MeansWhole};
 ghost use Rattle.fs_scan.specs.Marked.{AreRecords};
 ghost use Rattle.fs_scan.specs.Newest.{AreNewest, greatest_of};
+ghost use Rattle.fs_scan.specs.OnlyReads.{OnlyReads};
 ghost use Rattle.fs_scan.specs.Walked.{IsOn, Steps, Walks, begun, place_on, standing};
 
 use crate::extent::{Extent, last_behind};
@@ -71,10 +71,8 @@ impl Walk {
         ensures magic { IfOk result (λ at. self.old.place ≡ None → IfSome (D.told disk.old) (λ told. content told ≡ magic ++ drop MAGIC_LEN (content told))) }
         ensures stays { IfErr result (λ _. self.new ≡ self.old) }
         ensures damaged { (kind : Kind) (place : ℕ) → IsErrOf result (ScanRefusal.Damaged kind place) → IfSome (D.told disk.old) (λ told. Damaged (content told) place kind) }
-        ensures same { D.told disk.new ≡ D.told disk.old }
-        ensures spare { (D.spare_calls disk.new ≡ D.spare_calls disk.old) × (D.spare_bytes disk.new ≡ D.spare_bytes disk.old) }
         ensures reads { (D.counter disk.new).calls ≤ (D.counter disk.old).calls + 1 }
-        ensures counts { Counts (D.counter disk.old) (D.counter disk.new) (IsErrOf result ScanRefusal.Disk) }
+        ensures only_reads { OnlyReads D.Disk disk.old disk.new (IsErrOf result ScanRefusal.Disk) }
     {
         if let Some(at) = self.at {
             return Ok(at);
@@ -127,9 +125,7 @@ impl Walk {
         ensures ok { OnOk result (self.new ≡ self.old) }
         ensures err { OnErr result (self.new ≡ begun) }
         ensures undamaged { (kind : Kind) (place : ℕ) → IsErrOf result (ScanRefusal.Damaged kind place) → ⊥ }
-        ensures same { D.told disk.new ≡ D.told disk.old }
-        ensures spare { (D.spare_calls disk.new ≡ D.spare_calls disk.old) × (D.spare_bytes disk.new ≡ D.spare_bytes disk.old) }
-        ensures counts { Counts (D.counter disk.old) (D.counter disk.new) (IsErrOf result ScanRefusal.Disk) }
+        ensures only_reads { OnlyReads D.Disk disk.old disk.new (IsErrOf result ScanRefusal.Disk) }
     {
         match read_whole_in(self.alloc(), disk, len, window, place, extent) {
             Ok(whole) => Ok(Some(whole)),
@@ -163,9 +159,7 @@ impl Walk {
         ensures rises { IfOk result (λ found. IfSome found (λ _. (place_on self.old.place < place_on self.new.place) × (place_on self.new.place < 2 ^ 64))) }
         ensures later { IfOk result (λ found. IfSome found (λ whole. (self.old.last < whole.tid) × (self.new.last ≡ whole.tid))) }
         ensures damaged { (kind : Kind) (place : ℕ) → IsErrOf result (ScanRefusal.Damaged kind place) → IfSome (D.told disk.old) (λ told. Damaged (content told) place kind) }
-        ensures same { D.told disk.new ≡ D.told disk.old }
-        ensures spare { (D.spare_calls disk.new ≡ D.spare_calls disk.old) × (D.spare_bytes disk.new ≡ D.spare_bytes disk.old) }
-        ensures counts { Counts (D.counter disk.old) (D.counter disk.new) (IsErrOf result ScanRefusal.Disk) }
+        ensures only_reads { OnlyReads D.Disk disk.old disk.new (IsErrOf result ScanRefusal.Disk) }
     {
         let len = disk.len()?;
         let mut at = self.enter(disk, len)?;

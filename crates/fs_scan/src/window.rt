@@ -1,9 +1,9 @@
 ghost use Rattle.std.specs.Prelude.{◌≡◌, ◌+◌, ◌≤◌, ◌++◌, ℕ, List, IfNone, IfOk, IfSome, IsErrOf, drop, false, length, max, true};
 ghost use Rattle.std.specs.Option.{ForSome};
-ghost use Rattle.zbase.specs.Faults.{Counts};
 ghost use Rattle.zdisk.specs.Disk.{HasRange, bytes_at, content};
 ghost use Rattle.fs_record.specs.declared.damage.Damage.{Damage as Kind};
 ghost use Rattle.fs_record.specs.Opening.{is_end};
+ghost use Rattle.fs_scan.specs.OnlyReads.{OnlyReads};
 ghost use Rattle.fs_scan.specs.Windows.{Shows};
 
 use crate::ScanRefusal;
@@ -22,10 +22,8 @@ pub fn read_range<D: Disk>(
     ensures bytes { IfOk result (λ bytes. IfSome (D.told disk.old) (λ told. bytes.items ≡ bytes_at told at size)) }
     ensures size { IfOk result (λ bytes. length bytes.items ≡ size) }
     ensures undamaged { (kind : Kind) (place : ℕ) → IsErrOf result (ScanRefusal.Damaged kind place) → ⊥ }
-    ensures same { D.told disk.new ≡ D.told disk.old }
-    ensures spare { (D.spare_calls disk.new ≡ D.spare_calls disk.old) × (D.spare_bytes disk.new ≡ D.spare_bytes disk.old) }
     ensures reads { (D.counter disk.new).calls ≤ (D.counter disk.old).calls + 1 }
-    ensures counts { Counts (D.counter disk.old) (D.counter disk.new) (IsErrOf result ScanRefusal.Disk) }
+    ensures only_reads { OnlyReads D.Disk disk.old disk.new (IsErrOf result ScanRefusal.Disk) }
 {
     let mut bytes = vec![in alloc; 0u8; size as usize]?;
     disk.read_at(at, &mut bytes)?;
@@ -62,10 +60,8 @@ pub fn read_window<D: Disk>(
     ensures shows { IfOk result (λ window. IfSome (D.told disk.old) (λ told. Shows window.items (drop at (content told)))) }
     ensures within { IfOk result (λ window. at + length window.items ≤ max at len) }
     ensures undamaged { (kind : Kind) (place : ℕ) → IsErrOf result (ScanRefusal.Damaged kind place) → ⊥ }
-    ensures same { D.told disk.new ≡ D.told disk.old }
-    ensures spare { (D.spare_calls disk.new ≡ D.spare_calls disk.old) × (D.spare_bytes disk.new ≡ D.spare_bytes disk.old) }
     ensures reads { (D.counter disk.new).calls ≤ (D.counter disk.old).calls + 2 }
-    ensures counts { Counts (D.counter disk.old) (D.counter disk.new) (IsErrOf result ScanRefusal.Disk) }
+    ensures only_reads { OnlyReads D.Disk disk.old disk.new (IsErrOf result ScanRefusal.Disk) }
 {
     let left = len.saturating_sub(at);
     if left < TXN_HEAD_LEN as u64 {

@@ -15,8 +15,8 @@ use Rattle.zbase.specs.HistoryLaws.{found_within}
 use Rattle.evaluator.specs.declared.fact.Part.{Part}
 use Rattle.evaluator.specs.Facts.{last_records, part_of, parts_of}
 use Rattle.fs_scan.specs.declared.wholes.OidValue.{OidValue}
-use Rattle.fs_scan.specs.declared.wholes.Whole.{Whole}
-use Rattle.fs_scan.specs.Wholes.{records_in, transaction_in}
+use Rattle.fs_scan.specs.Wholes.{records_in}
+use Rattle.fs_store.specs.Parts.{records_of}
 
 one_of : (p q : Bool) → (p ≡ true → q ≡ false) → is_eq (cond p Less (cond q Equal Greater)) ≡ q
 one_of true true h = absurd (false≢true (sym (h refl)))
@@ -151,13 +151,22 @@ transaction_zero h good = zero_by h (transaction h 0) good refl
 pub parts_none : (h : History) (tid at : ℕ) → transaction (upto h at) tid ≡ None → None ≡ option_map (parts_of (upto h at)) (transaction (upto h at) tid)
 parts_none h tid at none = sym (ap (option_map (parts_of (upto h at))) none)
 
-pub parts_are : (h : History) (tid at : ℕ) (whole : Whole) (values : List OidValue) (parts : List Part) → IsHistory h → tid ≤ at → Some (transaction_in whole) ≡ transaction h tid → values ≡ whole.values
-    → parts ≡ map (part_of (before h tid)) (last_records (records_in values)) → Some parts ≡ option_map (parts_of (upto h at)) (transaction (upto h at) tid)
-parts_are h tid at whole values parts good le found same are =
-    let x = transaction_in whole in
-    let own = found_tid h x tid good (sym found) in
-    ap (λ (ps : List Part). Some ps) (are
-    ∙ ap (λ (vs : List OidValue). map (part_of (before h tid)) (last_records (records_in vs))) same
-    ∙ ap (λ (t : ℕ). map (part_of (before h t)) (last_records x.records)) (sym own)
-    ∙ sym (parts_within h x at (omega (arith, own, le))))
-    ∙ sym (ap (option_map (parts_of (upto h at))) (transaction_within h tid at le ∙ sym found))
+pub none_found : (f : Option Transaction) → None ≡ option_map records_of f → f ≡ None
+none_found None e = refl
+none_found (Some x) e = absurd cc
+
+pub parts_are : (h : History) (tid at : ℕ) (values shown : List OidValue) (parts : List Part) → IsHistory h → tid ≤ at → Some (records_in values) ≡ option_map records_of (transaction h tid) → shown ≡ values
+    → parts ≡ map (part_of (before h tid)) (last_records (records_in shown)) → Some parts ≡ option_map (parts_of (upto h at)) (transaction (upto h at) tid)
+parts_are h tid at values shown parts good le found same are = go (transaction h tid) refl found
+  where
+    go : (f : Option Transaction) → transaction h tid ≡ f → Some (records_in values) ≡ option_map records_of f → Some parts ≡ option_map (parts_of (upto h at)) (transaction (upto h at) tid)
+    go None is e = absurd cc
+    go (Some x) is e =
+        let said : records_in values ≡ x.records = cc in
+        let own = found_tid h x tid good is in
+        ap (λ (ps : List Part). Some ps) (are
+        ∙ ap (λ (vs : List OidValue). map (part_of (before h tid)) (last_records (records_in vs))) same
+        ∙ ap (λ (rs : List (ℕ × Value)). map (part_of (before h tid)) (last_records rs)) said
+        ∙ ap (λ (t : ℕ). map (part_of (before h t)) (last_records x.records)) (sym own)
+        ∙ sym (parts_within h x at (omega (arith, own, le))))
+        ∙ sym (ap (option_map (parts_of (upto h at))) (transaction_within h tid at le ∙ is))

@@ -18,6 +18,10 @@ pub on_three : (o : Option Told) (P Q R S : Told → Type 0) → ((s : Told) →
 on_three None P Q R S f p q r = tt
 on_three (Some s) P Q R S f p q r = f s p q r
 
+pub on_four : (o : Option Told) (P Q R S T : Told → Type 0) → ((s : Told) → P s → Q s → R s → S s → T s) → IfSome o P → IfSome o Q → IfSome o R → IfSome o S → IfSome o T
+on_four None P Q R S T f p q r t = tt
+on_four (Some s) P Q R S T f p q r t = f s p q r t
+
 -- the same of a disk that tells the same
 pub moved : (o u : Option Told) (P : Told → Type 0) → u ≡ o → IfSome o P → IfSome u P
 moved o u P same p = subst (λ (x : Option Told). IfSome x P) (sym same) p

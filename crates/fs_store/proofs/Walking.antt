@@ -1,97 +1,289 @@
--- A walk over a store's file: the transactions so far.
-use Rattle.std.proofs.Common.{◌≡◌, ℕ, ◌==◌, Bool, true, false, cond, List, [], ◌∷◌, ◌++◌, map, filter, find, Option, Some, None, refl, sym, ap, ap₂, ◌∙◌}
-use Rattle.std.specs.Prelude.{nat_le}
+-- A walk over the heads of a store's file: the transactions so far.
+use Rattle.std.proofs.Common.{◌≡◌, ℕ, ◌+◌, ◌<◌, ◌≤◌, ◌^◌, ◌==◌, Bool, true, false, cond, List, [], ◌∷◌, ◌++◌, map, filter, find, length, take, drop, Option, Some, None, refl, sym, ap, ap₂, subst, ◌∙◌, append_assoc, append-nil, arith, inl, inr}
+use Rattle.std.specs.Prelude.{◌⊎◌, nat_le}
+use Rattle.std.specs.List.{list_all}
 use Rattle.std.specs.Option.{option_map}
-use Rattle.std.proofs.lemmas.List.{map-append}
+use Rattle.std.proofs.lemmas.Bool.{false≢true}
+use Rattle.std.proofs.lemmas.List.{drop_at, length-append, length-take, map-append, take-append-drop}
 use Rattle.std.proofs.lemmas.List.Elements.{filter-append}
 use Rattle.zbase.specs.History.{History, Transaction}
-use Rattle.zbase.specs.Values.{transaction, upto}
+use Rattle.zbase.specs.Values.{last, transaction, upto}
+use Rattle.zbase.specs.declared.ids.Row.{Row}
 use Rattle.zdisk.specs.Disk.{Told, content}
 use Rattle.evaluator.specs.Facts.{log_row}
 use Rattle.evaluator.specs.declared.fact.LogRow.{LogRow}
-use Rattle.fs_record.specs.declared.damage.Damage.{Damage as Kind}
-use Rattle.fs_record.specs.File.{Front, after, front_of}
-use Rattle.fs_record.specs.Opening.{Damaged}
-use Rattle.fs_record.specs.OpeningLaws.{not_both, one_cut}
-use Rattle.fs_scan.specs.declared.wholes.Whole.{Whole}
-use Rattle.fs_scan.specs.Walked.{Course, Ends, FrontAt, Passes, begun}
-use Rattle.fs_scan.specs.WalkedLaws.{one_front}
-use Rattle.fs_scan.specs.Wholes.{transaction_in}
-use Rattle.fs_store.specs.Fronts.{front_at, history_at}
-use Rattle.fs_store.specs.Parts.{EndsThere, first_with}
+use Rattle.fs_record.specs.declared.damage.Damage.TheVariants.{BadTid, BadPrev, BadBack}
+use Rattle.fs_record.specs.declared.body.TxnTexts.{TxnTexts}
+use Rattle.fs_record.specs.declared.heads.TxnHead.{TxnHead}
+use Rattle.fs_record.specs.File.{AreRight, Earlier, Front, after_in, bytes_of, fault_in, front_of, has_body, rows, transaction_of, values_of}
+use Rattle.fs_record.specs.Fits.{FitsInside}
+use Rattle.fs_record.specs.Opening.{Stands}
+use Rattle.fs_record.specs.Spelling.{Block, Data, Inside, Records, Skipped, block_spelling, long_of, txn_head_of}
+use Rattle.fs_record.specs.SpellingLaws.{length-block}
+use Rattle.fs_record.specs.StandingLaws.{each_stands, passed}
+use Rattle.fs_scan.specs.declared.wholes.OidValue.{OidValue}
+use Rattle.fs_scan.specs.Present.{AllStand}
+use Rattle.fs_scan.specs.Wholes.{records_in}
+use Rattle.fs_store.specs.declared.known.Known.{Known}
+use Rattle.fs_store.specs.Fronts.{file_at, front_at, history_at}
+use Rattle.fs_store.specs.Knowing.{Knows}
+use Rattle.fs_store.specs.Parts.{behind, counts_upto, is_with, records_of, row_of}
 
--- the history before the walk's place
-pub record WalkedTo (bytes : List ℕ) (course : Course) (ts : List Transaction) : Type 0 where
-  pub front : Front
-  pub stands : FrontAt bytes course.place front
-  pub transactions : front.history.transactions ≡ ts
+-- ---- the first of a file's blocks, which stand newest first
 
-pub walked_none : (bytes : List ℕ) (course : Course) → course ≡ begun → WalkedTo bytes course []
-walked_none bytes course new = rw new (record { front = front_of []; stands = refl; transactions = refl })
+right_part : (xs ys : List Block) → AreRight (xs ++ ys) → AreRight ys
+right_part [] ys right = right
+right_part (x ∷ xs) ys right = right_part xs ys right.1
 
-pub walked_more : (bytes : List ℕ) (course next : Course) (ts : List Transaction) (whole : Whole) → WalkedTo bytes course ts → Passes bytes course next whole → WalkedTo bytes next (ts ++ transaction_in whole ∷ [])
-walked_more bytes course next ts whole w passes =
-    let front : w.front ≡ passes.before = one_front bytes course.place w.front passes.before w.stands passes.came in
-    record {
-      front = after passes.here passes.block;
-      stands = passes.behind;
-      transactions = ap (λ (h : History). h.transactions) passes.counts ∙ ap (λ (f : Front). f.history.transactions ++ transaction_in whole ∷ []) (sym front) ∙ ap (λ (xs : List Transaction). xs ++ transaction_in whole ∷ []) w.transactions;
-    }
+bytes_part : (xs ys : List Block) → (z : List ℕ) × (bytes_of (xs ++ ys) ≡ bytes_of ys ++ z)
+bytes_part [] ys = ([], sym (append-nil (bytes_of ys)))
+bytes_part (x ∷ xs) ys = let r = bytes_part xs ys in (r.0 ++ block_spelling x, ap (λ (z : List ℕ). z ++ block_spelling x) r.1 ∙ append_assoc (bytes_of ys) r.0 (block_spelling x))
 
-pub walked_all : (told : Told) (end : ℕ) (course next : Course) (ts : List Transaction) → EndsThere told end → WalkedTo (content told) course ts → Ends (content told) course next → (history_at told end).transactions ≡ ts
-walked_all told end course next ts there w ends =
-    let bytes = content told in
-    let last : front_at told end ≡ ends.front = (one_cut bytes (front_at told end) ends.front end ends.end there ends.cut).0 in
-    let front : w.front ≡ ends.before = one_front bytes course.place w.front ends.before w.stands ends.came in
-    ap (λ (f : Front). f.history.transactions) last ∙ ap (λ (h : History). h.transactions) ends.undone ∙ ap (λ (f : Front). f.history.transactions) (sym front) ∙ w.transactions
+grows : (front : Front) (b : Block) (i : Inside) → (z : List Transaction) × ((after_in front b i).history.transactions ≡ front.history.transactions ++ z)
+unfolding after_in
+grows front b (Skipped bytes) = ([], sym (append-nil front.history.transactions))
+grows front b (Records ds) = (transaction_of front.records b ds ∷ [], refl)
 
-pub no_damage : {X : Type 0} (told : Told) (end place : ℕ) (kind : Kind) → EndsThere told end → Damaged (content told) place kind → X
-no_damage told end place kind there damaged = absurd (not_both (content told) (front_at told end) end place kind there damaged)
+said_part : (xs ys : List Block) → (z : List Transaction) × ((front_of (xs ++ ys)).history.transactions ≡ (front_of ys).history.transactions ++ z)
+said_part [] ys = ([], sym (append-nil (front_of ys).history.transactions))
+said_part (x ∷ xs) ys =
+    let r = said_part xs ys in
+    let g = grows (front_of (xs ++ ys)) x x.inside in
+    (r.0 ++ g.0, g.1 ∙ ap (λ (z : List Transaction). z ++ g.0) r.1 ∙ append_assoc (front_of ys).history.transactions r.0 g.0)
 
--- ---- the one that is wanted
+last_of : (xs : List Block) → (xs ≡ []) ⊎ ((ys : List Block) × (y : Block) × (xs ≡ ys ++ y ∷ []))
+last_of [] = inl refl
+last_of (x ∷ xs) =
+    elim (last_of xs) [
+      | inl e ↦ inr ([], x, ap (λ (z : List Block). x ∷ z) e)
+      | inr s ↦ inr (x ∷ s.0, s.1, ap (λ (z : List Block). x ∷ z) s.2)
+    ]
+
+-- ---- how far a walk has come
+
+-- the blocks before the place say these transactions
+pub record WalkedTo (told : Told) (known : Known) (place : ℕ) (ts : List Transaction) : Type 0 where
+  pub knows : Knows told known
+  pub later : List Block
+  pub gone : List Block
+  pub all : knows.file.blocks ≡ later ++ gone
+  pub place_is : place ≡ length (bytes_of gone)
+  pub said : (front_of gone).history.transactions ≡ ts
+
+pub walked_none : (told : Told) (known : Known) → Knows told known → WalkedTo told known 4 []
+walked_none told known k = record { knows = k; later = k.file.blocks; gone = []; all = sym (append-nil k.file.blocks); place_is = refl; said = refl }
+
+-- this block stands next
+record NextIs (told : Told) (known : Known) (place : ℕ) (ts : List Transaction) (later : List Block) (b : Block) : Type 0 where
+  knows : Knows told known
+  gone : List Block
+  all : knows.file.blocks ≡ later ++ b ∷ gone
+  place_is : place ≡ length (bytes_of gone)
+  said : (front_of gone).history.transactions ≡ ts
+
+long_file : (told : Told) (known : Known) → Knows told known → length (file_at told known.end) ≡ known.end
+long_file told known k = omega (arith, length-take known.end (content told), k.within)
+
+next_by : (told : Told) (known : Known) (place : ℕ) (ts : List Transaction) (w : WalkedTo told known place ts) → place < known.end → (w.later ≡ []) ⊎ ((ys : List Block) × (y : Block) × (w.later ≡ ys ++ y ∷ [])) → (later : List Block) × (b : Block) × NextIs told known place ts later b
+next_by told known place ts w lt (inl none) =
+    let gone : w.knows.file.blocks ≡ w.gone = w.all ∙ ap (λ (z : List Block). z ++ w.gone) none in
+    absurd (omega (arith, lt, w.place_is, long_file told known w.knows, ap length w.knows.file.spelled, ap (λ (z : List Block). length (bytes_of z)) gone))
+next_by told known place ts w lt (inr s) = (
+  s.0,
+  s.1,
+  record {
+    knows = w.knows;
+    gone = w.gone;
+    all = w.all ∙ ap (λ (z : List Block). z ++ w.gone) s.2 ∙ append_assoc s.0 (s.1 ∷ []) w.gone;
+    place_is = w.place_is;
+    said = w.said;
+  },
+)
+
+next_is : (told : Told) (known : Known) (place : ℕ) (ts : List Transaction) → WalkedTo told known place ts → place < known.end → (later : List Block) × (b : Block) × NextIs told known place ts later b
+next_is told known place ts w lt = next_by told known place ts w lt (last_of w.later)
+
+module _ (told : Told) (known : Known) (place : ℕ) (ts : List Transaction) (later : List Block) (b : Block) (n : NextIs told known place ts later b) where
+  rights : AreRight (b ∷ n.gone)
+  rights = right_part later (b ∷ n.gone) (subst AreRight n.all n.knows.file.right)
+
+  -- what stands behind it in the file
+  rest_in : List ℕ
+  rest_in = (bytes_part later (b ∷ n.gone)).0
+
+  rest : List ℕ
+  rest = rest_in ++ drop known.end (content told)
+
+  file_is : file_at told known.end ≡ (bytes_of n.gone ++ block_spelling b) ++ rest_in
+  unfolding rest_in
+  file_is = n.knows.file.spelled ∙ ap bytes_of n.all ∙ (bytes_part later (b ∷ n.gone)).1
+
+  content_is : content told ≡ bytes_of n.gone ++ (block_spelling b ++ rest)
+  unfolding rest
+  content_is = sym (take-append-drop known.end (content told)) ∙ ap (λ (z : List ℕ). z ++ drop known.end (content told)) file_is ∙ regroup (bytes_of n.gone) (block_spelling b) rest_in (drop known.end (content told))
+    where
+      regroup : (x y z w : List ℕ) → ((x ++ y) ++ z) ++ w ≡ x ++ (y ++ (z ++ w))
+      regroup x y z w = simp append_assoc
+
+  stands : Stands b (drop place (content told)) rest
+  stands = record {
+    fits = rights.0.fits;
+    spelled = ap (drop place) content_is ∙ drop_at (bytes_of n.gone) (block_spelling b ++ rest) place (sym n.place_is);
+  }
+
+  ends : place + (long_of b + 8) ≤ known.end
+  ends = omega (arith, n.place_is, long_file told known n.knows, ap length file_is, length-append (bytes_of n.gone ++ block_spelling b) rest_in, length-append (bytes_of n.gone) (block_spelling b), length-block b)
+
+  all_stand : AllStand (content told) (front_of n.gone).records
+  all_stand = subst (λ (bytes : List ℕ). AllStand bytes (front_of n.gone).records) (sym content_is) (each_stands (bytes_of n.gone) (block_spelling b ++ rest) (front_of n.gone) (record { blocks = n.gone; right = rights.1; spelled = refl; said = refl }))
+
+  -- behind it
+  walked_on : (next : ℕ) (more : List Transaction) → next ≡ place + (long_of b + 8) → (after_in (front_of n.gone) b b.inside).history.transactions ≡ more → WalkedTo told known next more
+  walked_on next more is said = record {
+    knows = n.knows;
+    later = later;
+    gone = b ∷ n.gone;
+    all = n.all;
+    place_is = omega (arith, is, n.place_is, length-append (bytes_of n.gone) (block_spelling b), length-block b);
+    said = said;
+  }
+
+-- the head that was read is the next one's
+head_is : (b : Block) (head : TxnHead) → Some head ≡ Some (txn_head_of b) → head ≡ txn_head_of b
+head_is b head e = cc
+
+next_place : (told : Told) (known : Known) (place : ℕ) (b : Block) (head : TxnHead) → known.end < 2 ^ 64 → place + (long_of b + 8) ≤ known.end → head ≡ txn_head_of b → behind place head ≡ place + (long_of b + 8)
+next_place told known place b head lt le is = omega (arith, lt, le, ap (λ (h : TxnHead). h.length) is)
+
+-- what is said of a head that was read
+abbrev pub Tells : Told → ℕ → Option TxnHead → Type 0
+Tells told place head = (b : Block) (more : List ℕ) → Stands b (drop place (content told)) more → head ≡ Some (txn_head_of b)
+
+pub no_head : {X : Type 0} (told : Told) (known : Known) (place : ℕ) (ts : List Transaction) → WalkedTo told known place ts → place < known.end → Tells told place None → X
+no_head told known place ts w lt tells =
+    let n = next_is told known place ts w lt in
+    absurd (let e : None ≡ Some (txn_head_of n.1) = tells n.1 (rest told known place ts n.0 n.1 n.2) (stands told known place ts n.0 n.1 n.2) in cc)
+
+pub walked_all : (told : Told) (known : Known) (place : ℕ) (ts : List Transaction) → WalkedTo told known place ts → known.end ≤ place → (history_at told known.end).transactions ≡ ts
+walked_all told known place ts w le = by_last (last_of w.later)
+  where
+    by_last : (w.later ≡ []) ⊎ ((ys : List Block) × (y : Block) × (w.later ≡ ys ++ y ∷ [])) → (history_at told known.end).transactions ≡ ts
+    by_last (inl none) =
+        ap (λ (f : Front). f.history.transactions) w.knows.file.said ∙ ap (λ (z : List Block). (front_of z).history.transactions) (w.all ∙ ap (λ (z : List Block). z ++ w.gone) none) ∙ w.said
+    by_last (inr s) =
+        let n : NextIs told known place ts s.0 s.1 = record { knows = w.knows; gone = w.gone; all = w.all ∙ ap (λ (z : List Block). z ++ w.gone) s.2 ∙ append_assoc s.0 (s.1 ∷ []) w.gone; place_is = w.place_is; said = w.said } in
+        absurd (omega (arith, ends told known place ts s.0 s.1 n, le))
+
+-- ---- the transaction that is wanted
 
 abbrev pub found_in : List Transaction → ℕ → Option Transaction
 found_in ts tid = find (λ (x : Transaction). x.tid == tid) ts
 
-found_more : (ts : List Transaction) (x : Transaction) (tid : ℕ) → found_in (ts ++ x ∷ []) tid ≡ first_with (found_in ts tid) x tid
-found_more [] x tid = refl
-found_more (y ∷ ys) x tid = go (y.tid == tid) (found_more ys x tid)
+none_more : (ts : List Transaction) (x : Transaction) (tid : ℕ) → found_in ts tid ≡ None → (x.tid == tid) ≡ false → found_in (ts ++ x ∷ []) tid ≡ None
+none_more [] x tid none other = rw other refl
+none_more (y ∷ ys) x tid none other = go (y.tid == tid) none (none_more ys x tid)
   where
-    go : (b : Bool) → found_in (ys ++ x ∷ []) tid ≡ first_with (found_in ys tid) x tid → cond b (Some y) (found_in (ys ++ x ∷ []) tid) ≡ first_with (cond b (Some y) (found_in ys tid)) x tid
-    go true deeper = refl
-    go false deeper = deeper
+    go : (b : Bool) → cond b (Some y) (found_in ys tid) ≡ None → (found_in ys tid ≡ None → (x.tid == tid) ≡ false → found_in (ys ++ x ∷ []) tid ≡ None) → cond b (Some y) (found_in (ys ++ x ∷ []) tid) ≡ None
+    go true e deeper = absurd cc
+    go false e deeper = deeper e other
 
--- the one with the id among those so far
-pub record Sought (told : Told) (course : Course) (tid : ℕ) (wanted : Option Whole) : Type 0 where
+found_there : (ts more : List Transaction) (x : Transaction) (tid : ℕ) → found_in ts tid ≡ None → (x.tid == tid) ≡ true → found_in (ts ++ x ∷ more) tid ≡ Some x
+found_there [] more x tid none own = rw own refl
+found_there (y ∷ ys) more x tid none own = go (y.tid == tid) none (found_there ys more x tid)
+  where
+    go : (b : Bool) → cond b (Some y) (found_in ys tid) ≡ None → (found_in ys tid ≡ None → (x.tid == tid) ≡ true → found_in (ys ++ x ∷ more) tid ≡ Some x) → cond b (Some y) (found_in (ys ++ x ∷ more) tid) ≡ Some x
+    go true e deeper = absurd cc
+    go false e deeper = deeper e own
+
+-- none of those before the place has the id
+pub record Sought (told : Told) (known : Known) (place tid : ℕ) : Type 0 where
   pub ts : List Transaction
-  pub walked : WalkedTo (content told) course ts
-  pub found : option_map transaction_in wanted ≡ found_in ts tid
+  pub walked : WalkedTo told known place ts
+  pub none : found_in ts tid ≡ None
 
-pub sought_none : (told : Told) (course : Course) (tid : ℕ) → course ≡ begun → Sought told course tid None
-sought_none told course tid new = record { ts = []; walked = walked_none (content told) course new; found = refl }
+pub sought_none : (told : Told) (known : Known) (tid : ℕ) → Knows told known → Sought told known 4 tid
+sought_none told known tid k = record { ts = []; walked = walked_none told known k; none = refl }
 
-pub sought_more : (told : Told) (course next : Course) (tid : ℕ) (wanted more : Option Whole) (whole : Whole) → Sought told course tid wanted → Passes (content told) course next whole → option_map transaction_in more ≡ first_with (option_map transaction_in wanted) (transaction_in whole) tid → Sought told next tid more
-sought_more told course next tid wanted more whole s passes is = record {
-  ts = s.ts ++ transaction_in whole ∷ [];
-  walked = walked_more (content told) course next s.ts whole s.walked passes;
-  found = is ∙ ap (λ (f : Option Transaction). first_with f (transaction_in whole) tid) s.found ∙ sym (found_more s.ts (transaction_in whole) tid);
-}
+-- by whether the block counts, what its front says behind it
+skipped_said : (front : Front) (b : Block) (i : Inside) → FitsInside b.status i → (b.status == 117) ≡ true → (after_in front b i).history.transactions ≡ front.history.transactions
+unfolding after_in
+skipped_said front b (Skipped bytes) fits undone = refl
+skipped_said front b (Records ds) fits undone = absurd (false≢true (sym fits.0 ∙ undone))
 
-pub sought_all : (told : Told) (end : ℕ) (course next : Course) (tid : ℕ) (wanted : Option Whole) → EndsThere told end → Sought told course tid wanted → Ends (content told) course next → option_map transaction_in wanted ≡ transaction (history_at told end) tid
-sought_all told end course next tid wanted there s ends = s.found ∙ ap (λ (ts : List Transaction). found_in ts tid) (sym (walked_all told end course next s.ts there s.walked ends))
+counted_said : (front : Front) (b : Block) (i : Inside) → FitsInside b.status i → (b.status == 117) ≡ false → (ds : List Data) × (i ≡ Records ds) × ((after_in front b i).history.transactions ≡ front.history.transactions ++ transaction_of front.records b ds ∷ [])
+unfolding after_in
+counted_said front b (Skipped bytes) fits counted = absurd (false≢true (sym counted ∙ fits))
+counted_said front b (Records ds) fits counted = (ds, refl, refl)
+
+pub sought_more : (told : Told) (known : Known) (place tid next : ℕ) (head : TxnHead) → known.end < 2 ^ 64 → Sought told known place tid → place < known.end → Tells told place (Some head) → is_with tid head ≡ false → next ≡ behind place head → Sought told known next tid
+sought_more told known place tid next head lt64 s lt tells other is =
+    let n = next_is told known place s.ts s.walked lt in
+    let b = n.1 in
+    let h : head ≡ txn_head_of b = head_is b head (tells b (rest told known place s.ts n.0 b n.2) (stands told known place s.ts n.0 b n.2)) in
+    let at : next ≡ place + (long_of b + 8) = is ∙ next_place told known place b head lt64 (ends told known place s.ts n.0 b n.2) h in
+    go n.0 b n.2 at (sym (ap (is_with tid) h) ∙ other) (b.status == 117) refl
+  where
+    go : (later : List Block) (b : Block) (n : NextIs told known place s.ts later b) → next ≡ place + (long_of b + 8) → is_with tid (txn_head_of b) ≡ false → (t : Bool) → (b.status == 117) ≡ t → Sought told known next tid
+    go later b n at miss true undone = record {
+      ts = s.ts;
+      walked = walked_on told known place s.ts later b n next s.ts at (skipped_said (front_of n.gone) b b.inside (rights told known place s.ts later b n).0.fits.inside undone ∙ n.said);
+      none = s.none;
+    }
+    go later b n at miss false counted =
+        let c = counted_said (front_of n.gone) b b.inside (rights told known place s.ts later b n).0.fits.inside counted in
+        let x = transaction_of (front_of n.gone).records b c.0 in
+        let tid_not : (b.tid == tid) ≡ false = ap (λ (u : Bool). cond u false (b.tid == tid)) (sym counted) ∙ miss in
+        record {
+          ts = s.ts ++ x ∷ [];
+          walked = walked_on told known place s.ts later b n next (s.ts ++ x ∷ []) at (c.2 ∙ ap (λ (z : List Transaction). z ++ x ∷ []) n.said);
+          none = none_more s.ts x tid s.none tid_not;
+        }
+
+pub sought_all : (told : Told) (known : Known) (place tid : ℕ) → Sought told known place tid → known.end ≤ place → None ≡ option_map records_of (transaction (history_at told known.end) tid)
+sought_all told known place tid s le = sym (ap (option_map records_of) (ap (λ (ts : List Transaction). found_in ts tid) (walked_all told known place s.ts s.walked le) ∙ s.none))
+
+right_bodies : (place t : ℕ) (rs : List Row) (b : Block) (ds : List Data) → fault_in place t rs b (Records ds) ≡ None → list_all (has_body rs) ds ≡ true
+unfolding fault_in
+right_bodies place t rs b ds e = (passed _ _ BadBack (passed _ _ BadPrev (passed _ _ BadTid e).1).1).0
+
+-- what is said of the values that were read behind this head
+abbrev pub GivesValues : Told → ℕ → TxnHead → Option (List OidValue) → Type 0
+GivesValues told place head found = (b : Block) (ds : List Data) (more : List ℕ) (records : List Earlier) → Stands b (drop place (content told)) more → b.inside ≡ Records ds → head ≡ txn_head_of b → AllStand (content told) records → list_all (has_body (rows records)) ds ≡ true → option_map records_in found ≡ Some (values_of records ds)
+
+pub sought_here : (told : Told) (known : Known) (place tid : ℕ) (head : TxnHead) (found : Option (List OidValue)) → Sought told known place tid → place < known.end → Tells told place (Some head) → is_with tid head ≡ true → GivesValues told place head found → option_map records_in found ≡ option_map records_of (transaction (history_at told known.end) tid)
+sought_here told known place tid head found s lt tells own gives =
+    let n = next_is told known place s.ts s.walked lt in
+    let b = n.1 in
+    let h : head ≡ txn_head_of b = head_is b head (tells b (rest told known place s.ts n.0 b n.2) (stands told known place s.ts n.0 b n.2)) in
+    go n.0 b n.2 h (sym (ap (is_with tid) h) ∙ own) (b.status == 117) refl
+  where
+    go : (later : List Block) (b : Block) (n : NextIs told known place s.ts later b) → head ≡ txn_head_of b → is_with tid (txn_head_of b) ≡ true → (t : Bool) → (b.status == 117) ≡ t → option_map records_in found ≡ option_map records_of (transaction (history_at told known.end) tid)
+    go later b n h hit true undone = absurd (false≢true (ap (λ (u : Bool). cond u false (b.tid == tid)) (sym undone) ∙ hit))
+    go later b n h hit false counted =
+        let right = (rights told known place s.ts later b n).0 in
+        let front = front_of n.gone in
+        let c = counted_said front b b.inside right.fits.inside counted in
+        let x = transaction_of front.records b c.0 in
+        let tid_is : (b.tid == tid) ≡ true = ap (λ (u : Bool). cond u false (b.tid == tid)) (sym counted) ∙ hit in
+        let bodies = right_bodies front.place (last front.history) (rows front.records) b c.0 (subst (λ (i : Inside). fault_in front.place (last front.history) (rows front.records) b i ≡ None) c.1 right.right) in
+        let more = said_part later (b ∷ n.gone) in
+        let ts : (history_at told known.end).transactions ≡ s.ts ++ x ∷ more.0 =
+        ap (λ (f : Front). f.history.transactions) n.knows.file.said ∙ ap (λ (z : List Block). (front_of z).history.transactions) n.all ∙ more.1 ∙ ap (λ (z : List Transaction). z ++ more.0) (c.2 ∙ ap (λ (z : List Transaction). z ++ x ∷ []) n.said) ∙ append_assoc s.ts (x ∷ []) more.0 in
+        gives b c.0 (rest told known place s.ts later b n) front.records (stands told known place s.ts later b n) c.1 h (all_stand told known place s.ts later b n) bodies
+        ∙ sym (ap (option_map records_of) (ap (λ (z : List Transaction). found_in z tid) ts ∙ found_there s.ts more.0 x tid s.none tid_is))
 
 -- ---- the log
 
-abbrev rows_of : List Transaction → ℕ → List LogRow
+abbrev pub rows_of : List Transaction → ℕ → List LogRow
 rows_of ts at = map log_row (filter (λ (x : Transaction). nat_le x.tid at) ts)
 
-pub record Logged (told : Told) (course : Course) (at : ℕ) (rows : List LogRow) : Type 0 where
+pub record Logged (told : Told) (known : Known) (place at : ℕ) (rows : List LogRow) : Type 0 where
   pub ts : List Transaction
-  pub walked : WalkedTo (content told) course ts
+  pub walked : WalkedTo told known place ts
   pub rows_are : rows ≡ rows_of ts at
 
-pub logged_none : (told : Told) (course : Course) (at : ℕ) (rows : List LogRow) → course ≡ begun → rows ≡ [] → Logged told course at rows
-logged_none told course at rows new none = record { ts = []; walked = walked_none (content told) course new; rows_are = none }
+pub logged_none : (told : Told) (known : Known) (at : ℕ) (rows : List LogRow) → Knows told known → rows ≡ [] → Logged told known 4 at rows
+logged_none told known at rows k none = record { ts = []; walked = walked_none told known k; rows_are = none }
 
 rows_more : (ts : List Transaction) (x : Transaction) (at : ℕ) → rows_of (ts ++ x ∷ []) at ≡ rows_of ts at ++ rows_of (x ∷ []) at
 rows_more ts x at = ap (map log_row) (filter-append (λ (y : Transaction). nat_le y.tid at) ts (x ∷ [])) ∙ map-append log_row (filter (λ (y : Transaction). nat_le y.tid at) ts) (filter (λ (y : Transaction). nat_le y.tid at) (x ∷ []))
@@ -100,14 +292,48 @@ one_row : (x : Transaction) (b : Bool) → cond b (log_row x ∷ []) [] ≡ map 
 one_row x true = refl
 one_row x false = refl
 
-pub logged_more : (told : Told) (course next : Course) (at : ℕ) (rows more : List LogRow) (whole : Whole) → Logged told course at rows → Passes (content told) course next whole → more ≡ rows ++ cond (nat_le whole.tid at) (log_row (transaction_in whole) ∷ []) [] → Logged told next at more
-logged_more told course next at rows more whole l passes is =
-    let x = transaction_in whole in
-    record {
-      ts = l.ts ++ x ∷ [];
-      walked = walked_more (content told) course next l.ts whole l.walked passes;
-      rows_are = is ∙ ap₂ (λ (a b : List LogRow). a ++ b) l.rows_are (one_row x (nat_le x.tid at)) ∙ sym (rows_more l.ts x at);
-    }
+-- what is said of the rows behind a transaction
+abbrev pub AddsRow : Told → ℕ → TxnHead → ℕ → List LogRow → List LogRow → Type 0
+AddsRow told place head at old new = (b : Block) (more : List ℕ) → Stands b (drop place (content told)) more → head ≡ txn_head_of b → new ≡ old ++ cond (counts_upto at head) (row_of b ∷ []) []
 
-pub logged_all : (told : Told) (end : ℕ) (course next : Course) (at : ℕ) (rows : List LogRow) → EndsThere told end → Logged told course at rows → Ends (content told) course next → rows ≡ map log_row (upto (history_at told end) at).transactions
-logged_all told end course next at rows there l ends = l.rows_are ∙ ap (λ (ts : List Transaction). rows_of ts at) (sym (walked_all told end course next l.ts there l.walked ends))
+pub adds_none : (rows : List LogRow) (u : Bool) (r : LogRow) → u ≡ false → rows ≡ rows ++ cond u (r ∷ []) []
+adds_none rows u r e = rw e (sym (append-nil rows))
+
+pub adds_one : (rows new : List LogRow) (u : Bool) (r : LogRow) → u ≡ true → new ≡ rows ++ r ∷ [] → new ≡ rows ++ cond u (r ∷ []) []
+adds_one rows new u r e added = rw e added
+
+pub the_row : (b : Block) (head : TxnHead) (texts : TxnTexts) → head ≡ txn_head_of b → Some texts ≡ Some b.texts → (let r : LogRow = record { tid = head.tid; user = texts.user; description = texts.description } in r) ≡ row_of b
+the_row b head texts is e =
+    let same : texts ≡ b.texts = cc in
+    ap₂ (λ (h : TxnHead) (t : TxnTexts). let r : LogRow = record { tid = h.tid; user = t.user; description = t.description } in r) is same
+
+pub no_texts : {X : Type 0} (b : Block) → None ≡ Some b.texts → X
+no_texts b e = absurd cc
+
+pub logged_more : (told : Told) (known : Known) (place at next : ℕ) (rows more : List LogRow) (head : TxnHead) → known.end < 2 ^ 64 → Logged told known place at rows → place < known.end → Tells told place (Some head) → AddsRow told place head at rows more → next ≡ behind place head → Logged told known next at more
+logged_more told known place at next rows more head lt64 l lt tells adds is =
+    let n = next_is told known place l.ts l.walked lt in
+    let b = n.1 in
+    let there = stands told known place l.ts n.0 b n.2 in
+    let h : head ≡ txn_head_of b = head_is b head (tells b (rest told known place l.ts n.0 b n.2) there) in
+    let to : next ≡ place + (long_of b + 8) = is ∙ next_place told known place b head lt64 (ends told known place l.ts n.0 b n.2) h in
+    let added : more ≡ rows ++ cond (counts_upto at (txn_head_of b)) (row_of b ∷ []) [] = adds b (rest told known place l.ts n.0 b n.2) there h ∙ ap (λ (g : TxnHead). rows ++ cond (counts_upto at g) (row_of b ∷ []) []) h in
+    go n.0 b n.2 to added (b.status == 117) refl
+  where
+    go : (later : List Block) (b : Block) (n : NextIs told known place l.ts later b) → next ≡ place + (long_of b + 8) → more ≡ rows ++ cond (counts_upto at (txn_head_of b)) (row_of b ∷ []) [] → (t : Bool) → (b.status == 117) ≡ t → Logged told known next at more
+    go later b n to added true undone = record {
+      ts = l.ts;
+      walked = walked_on told known place l.ts later b n next l.ts to (skipped_said (front_of n.gone) b b.inside (rights told known place l.ts later b n).0.fits.inside undone ∙ n.said);
+      rows_are = added ∙ ap (λ (u : Bool). rows ++ cond (cond u false (nat_le b.tid at)) (row_of b ∷ []) []) undone ∙ append-nil rows ∙ l.rows_are;
+    }
+    go later b n to added false counted =
+        let c = counted_said (front_of n.gone) b b.inside (rights told known place l.ts later b n).0.fits.inside counted in
+        let x = transaction_of (front_of n.gone).records b c.0 in
+        record {
+          ts = l.ts ++ x ∷ [];
+          walked = walked_on told known place l.ts later b n next (l.ts ++ x ∷ []) to (c.2 ∙ ap (λ (z : List Transaction). z ++ x ∷ []) n.said);
+          rows_are = added ∙ ap (λ (u : Bool). rows ++ cond (cond u false (nat_le b.tid at)) (row_of b ∷ []) []) counted ∙ ap₂ (λ (p q : List LogRow). p ++ q) l.rows_are (one_row x (nat_le b.tid at)) ∙ sym (rows_more l.ts x at);
+        }
+
+pub logged_all : (told : Told) (known : Known) (place at : ℕ) (rows : List LogRow) → Logged told known place at rows → known.end ≤ place → rows ≡ map log_row (upto (history_at told known.end) at).transactions
+logged_all told known place at rows l le = l.rows_are ∙ ap (λ (ts : List Transaction). rows_of ts at) (sym (walked_all told known place l.ts l.walked le))

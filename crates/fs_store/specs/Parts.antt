@@ -1,15 +1,29 @@
--- Where a walk over a store's bytes ends.
-use Rattle.std.specs.Prelude.{ℕ, ◌==◌, if◌then◌else◌, Option, Some, None}
-use Rattle.zbase.specs.History.{Transaction}
-use Rattle.zdisk.specs.Disk.{Told, content}
-use Rattle.fs_record.specs.Opening.{Cut}
-use Rattle.fs_store.specs.Fronts.{front_at}
+-- What the head of a transaction tells, and what is looked for by it.
+--
+-- FileStorage format notes: a transaction's length is written in its head and once more, in eight bytes, at its end. One
+-- undone in the old manner, of status `u`, doesn't count.
+use Rattle.std.specs.Prelude.{ℕ, ◌+◌, Bool, false, ◌==◌, List, min, nat_le, if◌then◌else◌}
+use Rattle.zbase.specs.History.{Transaction, Value}
+use Rattle.zbase.specs.Limits.{greatest_number}
+use Rattle.evaluator.specs.declared.fact.LogRow.{LogRow}
+use Rattle.fs_record.specs.declared.heads.TxnHead.{TxnHead}
+use Rattle.fs_record.specs.Spelling.{Block}
 
--- the bytes open to the file that ends there: a vote that is out counts as a torn rest
-abbrev pub EndsThere : Told → ℕ → Type 0
-EndsThere told end = Cut (content told) (front_at told end) end
+-- where the transaction behind it begins; a place stays at its last value
+abbrev pub behind : ℕ → TxnHead → ℕ
+behind place head = min (min (place + head.length) greatest_number + 8) greatest_number
 
--- the transaction that was found, or else this one where it has the id
-abbrev pub first_with : Option Transaction → Transaction → ℕ → Option Transaction
-first_with (Some y) x tid = Some y
-first_with None x tid = if x.tid == tid then Some x else None
+-- it counts, and has this id
+abbrev pub is_with : ℕ → TxnHead → Bool
+is_with tid head = if head.status == 117 then false else (head.tid == tid)
+
+-- it counts, and is one up to this id
+abbrev pub counts_upto : ℕ → TxnHead → Bool
+counts_upto at head = if head.status == 117 then false else nat_le head.tid at
+
+-- its row in the log
+abbrev pub row_of : Block → LogRow
+row_of b = record { tid = b.tid; user = b.texts.user; description = b.texts.description }
+
+abbrev pub records_of : Transaction → List (ℕ × Value)
+records_of x = x.records

@@ -1,6 +1,6 @@
 ghost use Rattle.std.specs.Prelude.{◌≡◌, ◌+◌, ◌≤◌, IfOk, IfSome, IsErr, nat_le};
-ghost use Rattle.zbase.specs.Faults.{Counts};
 ghost use Rattle.fs_record.specs.Walks.{later_than};
+ghost use Rattle.fs_scan.specs.OnlyReads.{OnlyReads};
 ghost use Rattle.fs_store.specs.Finding.{FoundIn};
 ghost use Rattle.fs_store.specs.Fronts.{history_at};
 ghost use Rattle.fs_store.specs.Knowing.{IsKnown};
@@ -38,10 +38,8 @@ pub(crate) fn find<D: Disk>(
 ) -> Result<Option<Record>, Failed>
     requires { IsKnown (D.told disk.old) known.now len }
     ensures found { IfOk result (λ found. IfSome (D.told disk.old) (λ told. FoundIn told known.now.end oid at found)) }
-    ensures same { D.told disk.new ≡ D.told disk.old }
-    ensures spare { (D.spare_calls disk.new ≡ D.spare_calls disk.old) × (D.spare_bytes disk.new ≡ D.spare_bytes disk.old) }
     ensures reads { IfSome (D.told disk.old) (λ told. (D.counter disk.new).calls ≤ (D.counter disk.old).calls + 1 + later_than (history_at told known.now.end) at oid) }
-    ensures counts { Counts (D.counter disk.old) (D.counter disk.new) (IsErr result) }
+    ensures only_reads { OnlyReads D.Disk disk.old disk.new (IsErr result) }
 {
     let mut place = known.place(oid);
     'back: while place > 0 {

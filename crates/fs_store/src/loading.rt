@@ -1,10 +1,10 @@
 ghost use Rattle.std.specs.Prelude.{◌≡◌, ℕ, IfOk, IfSome, IsErrOf, length};
 ghost use Rattle.std.specs.Option.{ForSome};
-ghost use Rattle.zbase.specs.Faults.{Counts};
 ghost use Rattle.zdisk.specs.Disk.{content};
 ghost use Rattle.fs_record.specs.File.{value_at};
 ghost use Rattle.fs_record.specs.Standing.{IsPlace};
 ghost use Rattle.fs_scan.specs.Backs.{CostsBacks};
+ghost use Rattle.fs_scan.specs.OnlyReads.{OnlyReads};
 ghost use Rattle.fs_scan.specs.Present.{AllStand};
 ghost use Rattle.fs_store.specs.Finding.{CostsLoad, HasHead};
 ghost use Rattle.fs_store.specs.Fronts.{records_at};
@@ -32,10 +32,8 @@ fn value_of<D: Disk>(
     requires known { IsKnown (D.told disk.old) known.now len }
     requires head { IfSome (D.told disk.old) (λ told. HasHead (content told) place head.now) }
     ensures value { IfOk result (λ value. IfSome (D.told disk.old) (λ told. (oid : ℕ) → IsPlace (records_at told known.now.end) oid place → value ≡ value_at place (records_at told known.now.end))) }
-    ensures same { D.told disk.new ≡ D.told disk.old }
-    ensures spare { (D.spare_calls disk.new ≡ D.spare_calls disk.old) × (D.spare_bytes disk.new ≡ D.spare_bytes disk.old) }
     ensures reads { IfSome (D.told disk.old) (λ told. (oid : ℕ) → IsPlace (records_at told known.now.end) oid place → CostsBacks (content told) place (D.counter disk.old).calls (D.counter disk.new).calls) }
-    ensures counts { Counts (D.counter disk.old) (D.counter disk.new) (IsErrOf result LoadRefusal.Disk) }
+    ensures only_reads { OnlyReads D.Disk disk.old disk.new (IsErrOf result LoadRefusal.Disk) }
 {
     match follow_from(alloc, disk, len, place, head) {
         Ok(value) => Ok(value),
@@ -57,10 +55,8 @@ pub(crate) fn load<D: Disk>(
 ) -> Result<Loaded, LoadRefusal>
     requires { IsKnown (D.told disk.old) known.now len }
     ensures loaded { IfOk result (λ loaded. IfSome (D.told disk.old) (λ told. IsLoaded told known.now.end oid at loaded)) }
-    ensures same { D.told disk.new ≡ D.told disk.old }
-    ensures spare { (D.spare_calls disk.new ≡ D.spare_calls disk.old) × (D.spare_bytes disk.new ≡ D.spare_bytes disk.old) }
     ensures reads { IfSome (D.told disk.old) (λ told. CostsLoad told known.now.end oid at (D.counter disk.old).calls (D.counter disk.new).calls) }
-    ensures counts { Counts (D.counter disk.old) (D.counter disk.new) (IsErrOf result LoadRefusal.Disk) }
+    ensures only_reads { OnlyReads D.Disk disk.old disk.new (IsErrOf result LoadRefusal.Disk) }
 {
     match find(disk, known, len, oid, at)? {
         None => Ok(Loaded {

@@ -7,6 +7,7 @@ ghost use Rattle.fs_record.specs.declared.damage.Damage.{Damage as Kind};
 ghost use Rattle.fs_record.specs.Opening.{Damaged};
 ghost use Rattle.fs_record.specs.File.{last_place};
 ghost use Rattle.fs_scan.specs.Newest.{place_in};
+ghost use Rattle.fs_scan.specs.OnlyReads.{OnlyReads};
 ghost use Rattle.fs_scan.specs.Scanned.{CostsScan};
 ghost use Rattle.fs_index.specs.Places.{place_of};
 ghost use Rattle.fs_store.specs.Opened.{BringsNot, CostsOpening, CutOffFailed, CutsOff, IsRefusedFor, LeavesDisk, MayNotStay, Readies, StaysTorn, Tidies, waiting_from};
@@ -107,10 +108,8 @@ fn read_file<D: Disk>(alloc: Global, disk: &mut D) -> Result<FileRead, ScanRefus
     ensures reads { IfOk result (λ read. IfSome (D.told disk.old) (λ told. Reads (content told) read)) }
     ensures bound { IfOk result (λ read. read.known.next ≤ 2 ^ 64) }
     ensures damaged { (kind : Kind) (place : ℕ) → IsErrOf result (ScanRefusal.Damaged kind place) → IfSome (D.told disk.old) (λ told. Damaged (content told) place kind) }
-    ensures same { D.told disk.new ≡ D.told disk.old }
-    ensures spare { (D.spare_calls disk.new ≡ D.spare_calls disk.old) × (D.spare_bytes disk.new ≡ D.spare_bytes disk.old) }
     ensures costs { IfSome (D.told disk.old) (λ told. CostsScan (content told) (D.counter disk.old).calls (D.counter disk.new).calls) }
-    ensures counts { Counts (D.counter disk.old) (D.counter disk.new) (IsErrOf result ScanRefusal.Disk) }
+    ensures only_reads { OnlyReads D.Disk disk.old disk.new (IsErrOf result ScanRefusal.Disk) }
 {
     let Scanned {
         end,
@@ -140,10 +139,8 @@ fn stays_torn<D: Disk>(disk: &mut D, end: u64, torn: u64) -> Result<bool, Failed
     requires rest { ForSome (D.told disk.old) (λ told. (end + torn ≡ length (content told)) × (length (content told) ≤ most_length)) }
     ensures stays { IfOk result (λ stays. IfSome (D.told disk.old) (λ told. (stays ≡ true) ↔ StaysTorn (drop end (content told)))) }
     ensures long { IfOk result (λ stays. (stays ≡ false) → TXN_HEAD_LEN ≤ torn) }
-    ensures same { D.told disk.new ≡ D.told disk.old }
-    ensures spare { (D.spare_calls disk.new ≡ D.spare_calls disk.old) × (D.spare_bytes disk.new ≡ D.spare_bytes disk.old) }
     ensures costs { (D.counter disk.new).calls ≤ (D.counter disk.old).calls + 1 }
-    ensures counts { Counts (D.counter disk.old) (D.counter disk.new) (IsErr result) }
+    ensures only_reads { OnlyReads D.Disk disk.old disk.new (IsErr result) }
 {
     if torn < TXN_HEAD_LEN as u64 {
         return Ok(true);

@@ -1,20 +1,22 @@
-ghost use Rattle.std.specs.Prelude.{◌≡◌, ◌++◌, ◌∷◌, ◌<◌, ◌^◌, [], if◌then◌else◌, nat_le, ℕ, OnOk, IfOk, IfSome, IsErrOf, List, Some, map};
-ghost use Rattle.std.specs.Option.{option_map};
-ghost use Rattle.zbase.specs.Faults.{Counts};
+ghost use Rattle.std.specs.Prelude.{◌≡◌, ◌++◌, ◌∷◌, ◌<◌, [], if◌then◌else◌, ℕ, List, OnOk, IfOk, IfSome, IsErrOf, drop, length, map};
+ghost use Rattle.std.specs.Option.{ForSome, option_map};
 ghost use Rattle.zbase.specs.Values.{before, transaction, upto};
 ghost use Rattle.zdisk.specs.Disk.{content};
 ghost use Rattle.evaluator.specs.Facts.{last_records, log_row, part_of, parts_of};
-ghost use Rattle.fs_scan.specs.Walked.{IsOn, Walks, place_on};
-ghost use Rattle.fs_scan.specs.Wholes.{records_in, transaction_in};
+ghost use Rattle.fs_record.specs.Opening.{Stands};
+ghost use Rattle.fs_record.specs.Spelling.{Block, txn_head_of};
+ghost use Rattle.fs_scan.specs.OnlyReads.{OnlyReads};
+ghost use Rattle.fs_scan.specs.Wholes.{records_in};
 ghost use Rattle.fs_store.specs.Fronts.{history_at};
 ghost use Rattle.fs_store.specs.Knowing.{IsKnown};
-ghost use Rattle.fs_store.specs.Parts.{EndsThere, first_with};
+ghost use Rattle.fs_store.specs.Parts.{behind, counts_upto, is_with, records_of, row_of};
 
 use crate::known::Known;
 use crate::loading::load;
 use crate::{LoadRefusal, Loaded};
 use evaluator::{LogRow, LogRows, Part, Parts};
-use fs_scan::{OidValue, ScanRefusal, Walk, Whole};
+use fs_record::{MAGIC_LEN, STATUS_UNDONE, TAIL_LEN, TxnHead, TxnTexts};
+use fs_scan::{OidValue, OidValues, read_txn, texts_at, values_at};
 use std::alloc::Global;
 use std::collections::BTreeSet;
 use zbase::{Memory, Tid, Value};
@@ -30,71 +32,61 @@ fn copy_of(value: &Value) -> Result<Value, Memory>
     }
 }
 
-// The next transaction of the file. A file that was opened has no damage: only a disk that tells nothing may show one,
-// and there the file ends for this walk.
-pub(crate) fn next_whole<D: Disk>(
-    walk: &mut Walk,
-    disk: &mut D,
-    known: &Known,
-    len: u64,
-) -> Result<Option<Whole>, LoadRefusal>
-    requires known { IsKnown (D.told disk.old) known.now len }
-    requires ends { IfSome (D.told disk.old) (λ told. EndsThere told known.now.end) }
-    requires on { IfSome (D.told disk.old) (λ told. IsOn (content told) walk.old) }
-    ensures walked { IfOk result (λ found. IfSome (D.told disk.old) (λ told. Walks (content told) walk.old walk.new found)) }
-    ensures on { IfSome (D.told disk.old) (λ told. IsOn (content told) walk.new) }
-    ensures rises { IfOk result (λ found. IfSome found (λ _. (place_on walk.old.place < place_on walk.new.place) × (place_on walk.new.place < 2 ^ 64))) }
-    ensures same { D.told disk.new ≡ D.told disk.old }
-    ensures spare { (D.spare_calls disk.new ≡ D.spare_calls disk.old) × (D.spare_bytes disk.new ≡ D.spare_bytes disk.old) }
-    ensures counts { Counts (D.counter disk.old) (D.counter disk.new) (IsErrOf result LoadRefusal.Disk) }
+// Where the transaction begins that stands behind one with this head.
+fn behind(place: u64, head: &TxnHead) -> u64
+    ensures { result ≡ behind place head.now }
 {
-    match walk.next(disk) {
-        Ok(found) => Ok(found),
-        Err(ScanRefusal::Disk) => Err(LoadRefusal::Disk),
-        Err(ScanRefusal::Memory) => Err(LoadRefusal::Memory),
-        Err(ScanRefusal::Damaged(_, _)) => Ok(None),
-    }
+    place
+        .saturating_add(head.length)
+        .saturating_add(TAIL_LEN as u64)
 }
 
-// The one that was found, or else this one where it has the id.
-fn first_with(found: Option<Whole>, whole: Whole, tid: u64) -> Option<Whole>
-    ensures { option_map transaction_in result ≡ first_with (option_map transaction_in found) (transaction_in whole) tid }
+// Whether the transaction counts and has this id.
+fn is_with(head: &TxnHead, tid: u64) -> bool
+    ensures { result ≡ is_with tid head.now }
 {
-    match found {
-        Some(found) => Some(found),
-        None => {
-            if whole.tid.0 == tid {
-                Some(whole)
-            } else {
-                None
-            }
-        }
+    if head.status == STATUS_UNDONE {
+        return false;
     }
+    head.tid.0 == tid
 }
 
-// The transaction with this id.
-fn whole_of<D: Disk>(
+// Whether the transaction counts and is one up to that id.
+fn counts_upto(head: &TxnHead, at: u64) -> bool
+    ensures { result ≡ counts_upto at head.now }
+{
+    if head.status == STATUS_UNDONE {
+        return false;
+    }
+    head.tid.0 <= at
+}
+
+// The values that the transaction with this id gives. Of those before it the heads alone are read.
+fn values_with<D: Disk>(
     alloc: Global,
     disk: &mut D,
     known: &Known,
     len: u64,
     tid: u64,
-) -> Result<Option<Whole>, LoadRefusal>
-    requires known { IsKnown (D.told disk.old) known.now len }
-    requires ends { IfSome (D.told disk.old) (λ told. EndsThere told known.now.end) }
-    ensures found { IfOk result (λ found. IfSome (D.told disk.old) (λ told. option_map transaction_in found ≡ transaction (history_at told known.now.end) tid)) }
-    ensures same { D.told disk.new ≡ D.told disk.old }
-    ensures spare { (D.spare_calls disk.new ≡ D.spare_calls disk.old) × (D.spare_bytes disk.new ≡ D.spare_bytes disk.old) }
-    ensures counts { Counts (D.counter disk.old) (D.counter disk.new) (IsErrOf result LoadRefusal.Disk) }
+) -> Result<Option<OidValues>, LoadRefusal>
+    requires { IsKnown (D.told disk.old) known.now len }
+    ensures found { IfOk result (λ found. IfSome (D.told disk.old) (λ told. option_map records_in found ≡ option_map records_of (transaction (history_at told known.now.end) tid))) }
+    ensures only_reads { OnlyReads D.Disk disk.old disk.new (IsErrOf result LoadRefusal.Disk) }
 {
-    let mut walk = Walk::new(alloc);
-    let mut wanted = None;
-    'each: loop {
-        match next_whole(&mut walk, disk, known, len)? {
-            Some(whole) => wanted = first_with(wanted, whole, tid),
-            None => return Ok(wanted),
+    let end = known.end;
+    let mut place = MAGIC_LEN as u64;
+    'each: while place < end {
+        let Some(head) = read_txn(disk, len, place)? else {
+            // only where the disk tells nothing
+            return Ok(None);
+        };
+        if is_with(&head, tid) {
+            let values = values_at(alloc, disk, len, place, &head)?;
+            return Ok(values);
         }
+        place = behind(place, &head);
     }
+    Ok(None)
 }
 
 // What a record of a transaction did to its object.
@@ -109,9 +101,7 @@ fn part_of<D: Disk>(
     requires known { IsKnown (D.told disk.old) known.now len }
     requires positive { 0 < tid }
     ensures part { IfOk result (λ part. IfSome (D.told disk.old) (λ told. part ≡ part_of (before (history_at told known.now.end) tid) (written.now.oid, written.now.value))) }
-    ensures same { D.told disk.new ≡ D.told disk.old }
-    ensures spare { (D.spare_calls disk.new ≡ D.spare_calls disk.old) × (D.spare_bytes disk.new ≡ D.spare_bytes disk.old) }
-    ensures counts { Counts (D.counter disk.old) (D.counter disk.new) (IsErrOf result LoadRefusal.Disk) }
+    ensures only_reads { OnlyReads D.Disk disk.old disk.new (IsErrOf result LoadRefusal.Disk) }
 {
     let after = copy_of(&written.value)?;
     let Loaded {
@@ -140,9 +130,7 @@ fn parts_of<D: Disk>(
     requires known { IsKnown (D.told disk.old) known.now len }
     requires positive { 0 < tid }
     ensures parts { IfOk result (λ parts. IfSome (D.told disk.old) (λ told. parts ≡ map (part_of (before (history_at told known.now.end) tid)) (last_records (records_in values.now)))) }
-    ensures same { D.told disk.new ≡ D.told disk.old }
-    ensures spare { (D.spare_calls disk.new ≡ D.spare_calls disk.old) × (D.spare_bytes disk.new ≡ D.spare_bytes disk.old) }
-    ensures counts { Counts (D.counter disk.old) (D.counter disk.new) (IsErrOf result LoadRefusal.Disk) }
+    ensures only_reads { OnlyReads D.Disk disk.old disk.new (IsErrOf result LoadRefusal.Disk) }
 {
     let mut parts = Vec::new(alloc);
     let mut seen = BTreeSet::new(alloc);
@@ -158,7 +146,8 @@ fn parts_of<D: Disk>(
     Ok(Parts::from_vec(parts))
 }
 
-/// What the transaction with this id did, where there is one up to another. The file is walked over for it.
+/// What the transaction with this id did, where there is one up to another. Of the file's other transactions no value is
+/// read, but those that the parts say.
 pub(crate) fn transaction<D: Disk>(
     alloc: Global,
     disk: &mut D,
@@ -167,12 +156,9 @@ pub(crate) fn transaction<D: Disk>(
     tid: u64,
     at: u64,
 ) -> Result<Option<Parts>, LoadRefusal>
-    requires known { IsKnown (D.told disk.old) known.now len }
-    requires ends { IfSome (D.told disk.old) (λ told. EndsThere told known.now.end) }
+    requires { IsKnown (D.told disk.old) known.now len }
     ensures parts { IfOk result (λ parts. IfSome (D.told disk.old) (λ told. parts ≡ option_map (parts_of (upto (history_at told known.now.end) at)) (transaction (upto (history_at told known.now.end) at) tid))) }
-    ensures same { D.told disk.new ≡ D.told disk.old }
-    ensures spare { (D.spare_calls disk.new ≡ D.spare_calls disk.old) × (D.spare_bytes disk.new ≡ D.spare_bytes disk.old) }
-    ensures counts { Counts (D.counter disk.old) (D.counter disk.new) (IsErrOf result LoadRefusal.Disk) }
+    ensures only_reads { OnlyReads D.Disk disk.old disk.new (IsErrOf result LoadRefusal.Disk) }
 {
     if at < tid {
         return Ok(None);
@@ -181,34 +167,47 @@ pub(crate) fn transaction<D: Disk>(
     if tid == 0 {
         return Ok(None);
     }
-    match whole_of(alloc, disk, known, len, tid)? {
+    match values_with(alloc, disk, known, len, tid)? {
         None => Ok(None),
-        Some(whole) => Ok(Some(parts_of(alloc, disk, known, len, whole.values.as_slice(), tid)?)),
+        Some(values) => Ok(Some(parts_of(alloc, disk, known, len, values.as_slice(), tid)?)),
     }
 }
 
-// A row of the log.
-fn row_of(whole: &Whole) -> Result<LogRow, Memory>
-    ensures { IfOk result (λ row. row ≡ log_row (transaction_in whole.now)) }
+// Adds the row of the transaction with this head at a place, where it counts up to that one.
+fn add_row<D: Disk>(
+    alloc: Global,
+    disk: &mut D,
+    len: u64,
+    place: u64,
+    head: &TxnHead,
+    at: u64,
+    rows: &mut LogRows,
+) -> Result<(), LoadRefusal>
+    requires { ForSome (D.told disk.old) (λ told. len ≡ length (content told)) }
+    ensures added { OnOk result (IfSome (D.told disk.old) (λ told. (b : Block) (more : List ℕ) → Stands b (drop place (content told)) more → head.now ≡ txn_head_of b → rows.new ≡ rows.old ++ (if counts_upto at head.now then row_of b ∷ [] else []))) }
+    ensures only_reads { OnlyReads D.Disk disk.old disk.new (IsErrOf result LoadRefusal.Disk) }
 {
-    Ok(LogRow {
-        tid: whole.tid,
-        user: whole.texts.user.copy()?,
-        description: whole.texts.description.copy()?,
-    })
-}
-
-// Adds the row of a transaction up to that one.
-fn add_row(rows: &mut LogRows, whole: &Whole, at: u64) -> Result<(), Memory>
-    ensures { OnOk result (rows.new ≡ rows.old ++ (if nat_le whole.now.tid at then log_row (transaction_in whole.now) ∷ [] else [])) }
-{
-    if whole.tid.0 <= at {
-        rows.push(row_of(whole)?)?;
+    if !counts_upto(head, at) {
+        return Ok(());
     }
+    let Some(texts) = texts_at(alloc, disk, len, place, head)? else {
+        // only where the disk tells nothing
+        return Ok(());
+    };
+    let TxnTexts {
+        user,
+        description,
+        extension: _,
+    } = texts;
+    rows.push(LogRow {
+        tid: head.tid,
+        user,
+        description,
+    })?;
     Ok(())
 }
 
-/// The log of the transactions up to one. The file is walked over for it.
+/// The log of the transactions up to one, by their heads and texts: no value is read for it.
 pub(crate) fn log<D: Disk>(
     alloc: Global,
     disk: &mut D,
@@ -216,19 +215,20 @@ pub(crate) fn log<D: Disk>(
     len: u64,
     at: u64,
 ) -> Result<LogRows, LoadRefusal>
-    requires known { IsKnown (D.told disk.old) known.now len }
-    requires ends { IfSome (D.told disk.old) (λ told. EndsThere told known.now.end) }
+    requires { IsKnown (D.told disk.old) known.now len }
     ensures rows { IfOk result (λ rows. IfSome (D.told disk.old) (λ told. rows ≡ map log_row (upto (history_at told known.now.end) at).transactions)) }
-    ensures same { D.told disk.new ≡ D.told disk.old }
-    ensures spare { (D.spare_calls disk.new ≡ D.spare_calls disk.old) × (D.spare_bytes disk.new ≡ D.spare_bytes disk.old) }
-    ensures counts { Counts (D.counter disk.old) (D.counter disk.new) (IsErrOf result LoadRefusal.Disk) }
+    ensures only_reads { OnlyReads D.Disk disk.old disk.new (IsErrOf result LoadRefusal.Disk) }
 {
     let mut rows = LogRows::new(alloc);
-    let mut walk = Walk::new(alloc);
-    'each: loop {
-        match next_whole(&mut walk, disk, known, len)? {
-            Some(whole) => add_row(&mut rows, &whole, at)?,
-            None => return Ok(rows),
-        }
+    let end = known.end;
+    let mut place = MAGIC_LEN as u64;
+    'each: while place < end {
+        let Some(head) = read_txn(disk, len, place)? else {
+            // only where the disk tells nothing
+            return Ok(rows);
+        };
+        add_row(alloc, disk, len, place, &head, at, &mut rows)?;
+        place = behind(place, &head);
     }
+    Ok(rows)
 }

@@ -1,7 +1,6 @@
 ghost use Rattle.std.specs.Prelude.{◌≡◌, ◌+◌, ◌++◌, ◌^◌, ◌<◌, ◌≤◌, [], true, All, drop, length, take, IfOk, IfSome, IsErr, IsErrOf};
 ghost use Rattle.std.specs.Int.{to_be_bytes, w64};
 ghost use Rattle.std.specs.List.{AllByRecursion};
-ghost use Rattle.zbase.specs.Faults.{Counts};
 ghost use Rattle.zbase.specs.History.{History};
 ghost use Rattle.zbase.specs.Values.{next, upto, value};
 ghost use Rattle.evaluator.specs.Settle.{filled, oid_of, record_of, size_of_entry};
@@ -12,6 +11,7 @@ ghost use Rattle.fs_record.specs.Written.{HasBody, IsBody};
 ghost use Rattle.fs_store.specs.Drafts.{FitsEntries, FitsEntry, FitsHole, FitsName, LooksForNothing, NeedsNoLook, sizes_of};
 ghost use Rattle.fs_store.specs.Fronts.{history_at, records_at};
 ghost use Rattle.zdisk.specs.Disk.{content};
+ghost use Rattle.fs_scan.specs.OnlyReads.{OnlyReads};
 ghost use Rattle.fs_store.specs.Knowing.{IsKnown};
 ghost use Rattle.fs_store.specs.Pointing.{IsDirect};
 ghost use Rattle.fs_store.specs.Settled.{AreOf, IsRight, IsSettled, SettlesAs, in_order, says};
@@ -75,9 +75,7 @@ fn place_of<D: Disk>(disk: &mut D, known: &Known, oid: Oid, to: Tid) -> Result<u
     ensures right { IfOk result (λ place. IfSome (D.told disk.old) (λ told. is_right_body (rows (records_at told known.now.end)) oid (Body.Back place) ≡ true)) }
     ensures direct { IfOk result (λ place. IfSome (D.told disk.old) (λ told. IsDirect (content told) (Body.Back place))) }
     ensures calls { to ≡ 0 → (D.counter disk.new).calls ≡ (D.counter disk.old).calls }
-    ensures same { D.told disk.new ≡ D.told disk.old }
-    ensures spare { (D.spare_calls disk.new ≡ D.spare_calls disk.old) × (D.spare_bytes disk.new ≡ D.spare_bytes disk.old) }
-    ensures counts { Counts (D.counter disk.old) (D.counter disk.new) (IsErr result) }
+    ensures only_reads { OnlyReads D.Disk disk.old disk.new (IsErr result) }
 {
     if to.0 == 0 {
         return Ok(0);
@@ -103,9 +101,7 @@ fn item_of<D: Disk>(
     ensures body { IfOk result HasBody }
     ensures size { IfOk result (λ item. record_size item ≡ size_of_entry entry.now) }
     ensures calls { NeedsNoLook entry.now → (D.counter disk.new).calls ≡ (D.counter disk.old).calls }
-    ensures same { D.told disk.new ≡ D.told disk.old }
-    ensures spare { (D.spare_calls disk.new ≡ D.spare_calls disk.old) × (D.spare_bytes disk.new ≡ D.spare_bytes disk.old) }
-    ensures counts { Counts (D.counter disk.old) (D.counter disk.new) (IsErrOf result LoadRefusal.Disk) }
+    ensures only_reads { OnlyReads D.Disk disk.old disk.new (IsErrOf result LoadRefusal.Disk) }
 {
     match entry {
         Entry::Write { name, bytes, holes } => {
@@ -142,9 +138,7 @@ fn items_of<D: Disk>(
     ensures bodies { IfOk result (λ items. All HasBody items.items) }
     ensures size { IfOk result (λ items. records_size items.items ≡ sizes_of entries.now) }
     ensures calls { AllByRecursion NeedsNoLook entries.now → (D.counter disk.new).calls ≡ (D.counter disk.old).calls }
-    ensures same { D.told disk.new ≡ D.told disk.old }
-    ensures spare { (D.spare_calls disk.new ≡ D.spare_calls disk.old) × (D.spare_bytes disk.new ≡ D.spare_bytes disk.old) }
-    ensures counts { Counts (D.counter disk.old) (D.counter disk.new) (IsErrOf result LoadRefusal.Disk) }
+    ensures only_reads { OnlyReads D.Disk disk.old disk.new (IsErrOf result LoadRefusal.Disk) }
 {
     let mut items = Vec::new(alloc);
     for entry in entries {
@@ -186,9 +180,7 @@ pub(crate) fn settle<D: Disk>(
     ensures settles { IfOk result (λ settled. IfSome (D.told disk.old) (λ told. SettlesAs told known.now.end draft.now settled)) }
     ensures settled { IfOk result (λ settled. IsSettled draft.now settled) }
     ensures calls { LooksForNothing draft.now → (D.counter disk.new).calls ≡ (D.counter disk.old).calls }
-    ensures same { D.told disk.new ≡ D.told disk.old }
-    ensures spare { (D.spare_calls disk.new ≡ D.spare_calls disk.old) × (D.spare_bytes disk.new ≡ D.spare_bytes disk.old) }
-    ensures counts { Counts (D.counter disk.old) (D.counter disk.new) (IsErrOf result LoadRefusal.Disk) }
+    ensures only_reads { OnlyReads D.Disk disk.old disk.new (IsErrOf result LoadRefusal.Disk) }
 {
     let items = items_of(alloc, disk, known, draft.entries.as_slice())?;
     let items = by_oid(items)?;

@@ -1,8 +1,8 @@
 ghost use Rattle.std.specs.Prelude.{◌≡◌, ◌<◌, ◌≤◌, ◌^◌, ◌==◌, All, ℕ, false, min, IfOk, IfSome, IsErr, None, Some};
-ghost use Rattle.zbase.specs.Faults.{Counts};
 ghost use Rattle.zbase.specs.Limits.{greatest_number};
 ghost use Rattle.evaluator.specs.Change.{is_new, made, named};
 ghost use Rattle.evaluator.specs.Settle.{size, size_of_entry};
+ghost use Rattle.fs_scan.specs.OnlyReads.{OnlyReads};
 ghost use Rattle.fs_store.specs.Fronts.{history_at};
 ghost use Rattle.fs_store.specs.Knowing.{IsKnown};
 ghost use Rattle.fs_store.specs.Seeing.{SeenOn};
@@ -37,9 +37,7 @@ fn clash_at<D: Disk>(disk: &mut D, known: &Known, seen: &Seen) -> Result<Option<
     requires seen { SeenOn (D.told disk.old) known.now.end seen.now }
     ensures calls { IfOk result (λ clash. clash ≡ None → (D.counter disk.new).calls ≡ (D.counter disk.old).calls) }
     ensures clash { IfOk result (λ clash. IfSome (D.told disk.old) (λ told. clash ≡ clash_at (history_at told known.now.end) seen.now)) }
-    ensures same { D.told disk.new ≡ D.told disk.old }
-    ensures spare { (D.spare_calls disk.new ≡ D.spare_calls disk.old) × (D.spare_bytes disk.new ≡ D.spare_bytes disk.old) }
-    ensures counts { Counts (D.counter disk.old) (D.counter disk.new) (IsErr result) }
+    ensures only_reads { OnlyReads D.Disk disk.old disk.new (IsErr result) }
 {
     let place = known.place(seen.oid);
     if place == seen.place {
@@ -63,9 +61,7 @@ fn clash_among<D: Disk>(
     requires seen { All (SeenOn (D.told disk.old) known.now.end) reads.now }
     ensures calls { IfOk result (λ clash. clash ≡ None → (D.counter disk.new).calls ≡ (D.counter disk.old).calls) }
     ensures clash { IfOk result (λ clash. IfSome (D.told disk.old) (λ told. clash ≡ clash_among (history_at told known.now.end) reads.now)) }
-    ensures same { D.told disk.new ≡ D.told disk.old }
-    ensures spare { (D.spare_calls disk.new ≡ D.spare_calls disk.old) × (D.spare_bytes disk.new ≡ D.spare_bytes disk.old) }
-    ensures counts { Counts (D.counter disk.old) (D.counter disk.new) (IsErr result) }
+    ensures only_reads { OnlyReads D.Disk disk.old disk.new (IsErr result) }
 {
     for seen in reads {
         if let Some(clash) = clash_at(disk, known, seen)? {
@@ -175,9 +171,7 @@ pub(crate) fn refusal<D: Disk>(
     ensures free { IfOk result (λ refusal. refusal ≡ None → IsFree known.now.last known.now.next known.now.end limit draft.now) }
     ensures calls { IfOk result (λ refusal. refusal ≡ None → (D.counter disk.new).calls ≡ (D.counter disk.old).calls) }
     ensures own { IfOk result (λ refusal. (refusal ≡ Some VoteRefusal.Memory → ⊥) × (refusal ≡ Some VoteRefusal.Disk → ⊥) × ((w : ℕ) → refusal ≡ Some (VoteRefusal.Busy w) → ⊥)) }
-    ensures same { D.told disk.new ≡ D.told disk.old }
-    ensures spare { (D.spare_calls disk.new ≡ D.spare_calls disk.old) × (D.spare_bytes disk.new ≡ D.spare_bytes disk.old) }
-    ensures counts { Counts (D.counter disk.old) (D.counter disk.new) (IsErr result) }
+    ensures only_reads { OnlyReads D.Disk disk.old disk.new (IsErr result) }
 {
     match clash_among(disk, known, reads)? {
         Some(clash) => Ok(Some(VoteRefusal::Conflict(clash))),

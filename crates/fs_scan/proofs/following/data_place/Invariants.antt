@@ -1,5 +1,4 @@
 use Rattle.std.proofs.Common.{◌≡◌, ◌<◌, ◌++◌, ℕ, List, IfSome, drop}
-use Rattle.zbase.specs.Faults.{Counts}
 use Rattle.zdisk.specs.Disk.{content}
 use Rattle.fs_record.specs.File.{Earlier, value_at}
 use Rattle.fs_record.specs.Fits.{FitsData}
@@ -7,6 +6,7 @@ use Rattle.fs_record.specs.Spelling.{Data, data_spelling, head_of}
 use Rattle.fs_record.specs.Standing.{IsPlace}
 use Rattle.fs_scan.specs.Present.{AllStand}
 use Rattle.fs_scan.proofs.Backwards.{Came}
+use Rattle.fs_scan.specs.OnlyReads.{OnlyReads}
 use Rattle.fs_scan.proofs.following.data_place.Given as goal
 
 -- the record that was come to has this head and means what the first one means, and nothing was changed
@@ -16,9 +16,7 @@ invariant-back g l = record {
   leads : IfSome (g.D.Disk.told l.fn.disk) (λ told. (records : List Earlier) (oid : ℕ) → AllStand (content told) records → IsPlace records oid l.place → IsPlace records oid l.at × (value_at l.at records ≡ value_at l.place records));
   above : 0 < l.place → 0 < l.at;
   came : IfSome (g.D.Disk.told l.fn.disk) (λ told. (records : List Earlier) (oid : ℕ) → AllStand (content told) records → IsPlace records oid l.place → Came (content told) l.place l.at (g.D.Disk.counter l.fn.disk).calls (g.D.Disk.counter l.disk).calls);
-  same : g.D.Disk.told l.disk ≡ g.D.Disk.told l.fn.disk;
-  spare : (g.D.Disk.spare_calls l.disk ≡ g.D.Disk.spare_calls l.fn.disk) × (g.D.Disk.spare_bytes l.disk ≡ g.D.Disk.spare_bytes l.fn.disk);
-  counts : Counts (g.D.Disk.counter l.fn.disk) (g.D.Disk.counter l.disk) ⊥;
+  only : OnlyReads g.D.Disk l.fn.disk l.disk ⊥;
 }
 
 abbrev pub decreases-back : goal.decreases-back

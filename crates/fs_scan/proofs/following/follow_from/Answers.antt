@@ -1,7 +1,7 @@
 use Rattle.std.proofs.Common.{Some, ap, subst, ◌∙◌, arith}
-use Rattle.zbase.specs.Faults.{counts_as, counts_then}
 use Rattle.fs_record.specs.declared.body.Body.{Body}
 use Rattle.std.specs.declared.option.Option.{Option}
+use Rattle.fs_scan.specs.OnlyReads.{reads_as, reads_then}
 use Rattle.fs_scan.proofs.Backwards.{costs, further, headed_on, leads_on}
 use Rattle.fs_scan.proofs.BodiesRead.{HasBody}
 use Rattle.fs_scan.proofs.following.follow_from.Goals as goal
@@ -16,7 +16,7 @@ returns-in_err-earlier-in-Some-Back-clause-reads g c =
     let calls = (g.D.Disk.counter c.args.disk.now).calls in
     let now = (g.D.Disk.counter c.back.disk).calls in
     let more = (g.D.Disk.counter c.read_head.new.disk).calls in
-    costs o c.args.place c.in-Some-Back.back calls more more (further o _ c.args.place c.back.at c.in-Some-Back.back calls now more c.back.head i.same i.came i.leads i.head body c.if-back-eq0.false (omega (arith, b.reads, e.reads))) (omega arith)
+    costs o c.args.place c.in-Some-Back.back calls more more (further o _ c.args.place c.back.at c.in-Some-Back.back calls now more c.back.head i.only.same i.came i.leads i.head body c.if-back-eq0.false (omega (arith, b.reads, e.reads))) (omega arith)
 
 pub back-preserved : goal.back-preserved
 back-preserved g c =
@@ -29,10 +29,8 @@ back-preserved g c =
     let now = (g.D.Disk.counter c.back.disk).calls in
     let more = (g.D.Disk.counter c.read_head.new.disk).calls in
     record {
-      head = headed_on o _ c.in-Some-Back.back c.in_ok-earlier-in-Some-Back.field-0 c.in-Some.earlier (b.same ∙ i.same) e.head c.in-Some.is;
-      leads = leads_on o _ c.args.place c.back.at c.in-Some-Back.back c.back.head i.same i.leads i.head body c.if-back-eq0.false;
-      came = further o _ c.args.place c.back.at c.in-Some-Back.back calls now more c.back.head i.same i.came i.leads i.head body c.if-back-eq0.false (omega (arith, b.reads, e.reads));
-      same = e.same ∙ b.same ∙ i.same;
-      spare = (e.spare.0 ∙ b.spare.0 ∙ i.spare.0, e.spare.1 ∙ b.spare.1 ∙ i.spare.1);
-      counts = counts_then i.counts (λ none. none) (counts_then (counts_as b.counts (λ x. cc) (λ none. absurd none)) (λ none. none) (counts_as e.counts (λ x. cc) (λ none. absurd none)));
+      head = headed_on o _ c.in-Some-Back.back c.in_ok-earlier-in-Some-Back.field-0 c.in-Some.earlier (b.only_reads.same ∙ i.only.same) e.head c.in-Some.is;
+      leads = leads_on o _ c.args.place c.back.at c.in-Some-Back.back c.back.head i.only.same i.leads i.head body c.if-back-eq0.false;
+      came = further o _ c.args.place c.back.at c.in-Some-Back.back calls now more c.back.head i.only.same i.came i.leads i.head body c.if-back-eq0.false (omega (arith, b.reads, e.reads));
+      only = reads_then i.only (λ none. none) (reads_then (reads_as b.only_reads (λ x. cc) (λ none. absurd none)) (λ none. none) (reads_as e.only_reads (λ x. cc) (λ none. absurd none)));
     }

@@ -1,9 +1,10 @@
 use Rattle.std.proofs.Common.{◌≡◌, Option, Some, Result, Err, IfSome, drop, sym, ap, ◌∙◌, subst, arith}
 use Rattle.std.specs.Prelude.{IsErrOf}
 use Rattle.std.proofs.lemmas.Result.{err_from_is_err_and}
-use Rattle.zbase.specs.Faults.{Counter, Counts, counts_as, counts_then}
 use Rattle.zdisk.specs.Disk.{Told, content}
+use Rattle.zdisk.specs.declared.disk.Disk.{Ghosts}
 use Rattle.fs_scan.specs.declared.opening.ScanRefusal.{ScanRefusal}
+use Rattle.fs_scan.specs.OnlyReads.{OnlyReads, reads_as, reads_then}
 use Rattle.fs_scan.specs.Walked.{Course}
 use Rattle.fs_scan.specs.Windows.{Shows}
 use Rattle.fs_scan.proofs.ScanSteps.{came_to, costs, costs_begin, scan_breaks, scan_ends, scans_on}
@@ -13,13 +14,13 @@ one_refusal : {T : Type 0} (x y : ScanRefusal) → IsErrOf {T = T} (Err x) y →
 one_refusal x y e = cc
 
 -- the same refusal, as another call's
-same_refusal : {a b : Counter} {T U : Type 0} (r : Result T ScanRefusal) (e : ScanRefusal) → r ≡ Err e → Counts a b (IsErrOf {T = U} (Err e) ScanRefusal.Disk) → Counts a b (IsErrOf r ScanRefusal.Disk)
-same_refusal {a} {b} {T} {U} r e is counts = counts_as counts (λ f. is ∙ ap (λ k. Err k) (one_refusal {T = U} e ScanRefusal.Disk f)) (λ f. ap (λ k. Err k) (one_refusal {T = T} e ScanRefusal.Disk (sym is ∙ f)))
+same_refusal : {S : Type 0} {D : Ghosts S} {a b : S} {T U : Type 0} (r : Result T ScanRefusal) (e : ScanRefusal) → r ≡ Err e → OnlyReads D a b (IsErrOf {T = U} (Err e) ScanRefusal.Disk) → OnlyReads D a b (IsErrOf r ScanRefusal.Disk)
+same_refusal {S} {D} {a} {b} {T} {U} r e is only = reads_as only (λ f. is ∙ ap (λ k. Err k) (one_refusal {T = U} e ScanRefusal.Disk f)) (λ f. ap (λ k. Err k) (one_refusal {T = T} e ScanRefusal.Disk (sym is ∙ f)))
 
 pub returns-in-Damaged-clause-damaged : goal.returns-in-Damaged-clause-damaged
 returns-in-Damaged-clause-damaged g c = λ kind place is.
     let i = c.each.invariant in
-    let shows = subst (λ (d : Option Told). IfSome d (λ told. Shows c.in_ok-window.window.items (drop c.each.tally.at (content told)))) i.same c.in_ok-window.ensures.shows in
+    let shows = subst (λ (d : Option Told). IfSome d (λ told. Shows c.in_ok-window.window.items (drop c.each.tally.at (content told)))) i.only.same c.in_ok-window.ensures.shows in
     let says = rw c.deref.ensures.value at (rw c.in-Damaged.is at c.in_ok-step.ensures.ok) in
     let k : c.in-Damaged.kind ≡ kind = cc in
     let p : c.each.tally.at ≡ place = cc in
@@ -31,7 +32,7 @@ each-preserved g c =
     let w = c.in_ok-window.ensures in
     let e = c.in-Right.extent in
     let b = c.behind-tally.ensures in
-    let shows = subst (λ (d : Option Told). IfSome d (λ told. Shows c.in_ok-window.window.items (drop c.each.tally.at (content told)))) i.same w.shows in
+    let shows = subst (λ (d : Option Told). IfSome d (λ told. Shows c.in_ok-window.window.items (drop c.each.tally.at (content told)))) i.only.same w.shows in
     let says = rw i.last at (rw c.deref.ensures.value at (rw c.in-Right.is at c.in_ok-step.ensures.ok)) in
     record {
       came = scans_on (g.D.Disk.told c.args.disk.now) c.each.tally.at c.each.tally.last c.each.tally.floor c.each.tally.count c.in_ok-window.window.items c.each.walk.records c.step.new.self.records (came_to _ _ _ _ _ _ _ _ i.came) shows e _ _ _ _ _ _ _ i.came w.reads says.0 b.at b.last b.floor b.count;
@@ -39,20 +40,18 @@ each-preserved g c =
       here = ap (λ (course : Course). course.place) says.1 ∙ ap Some (sym b.at);
       last = ap (λ (course : Course). course.last) says.1 ∙ sym b.last;
       few = b.few;
-      same = w.same ∙ i.same;
-      spare = (w.spare.0 ∙ i.spare.0, w.spare.1 ∙ i.spare.1);
-      counts = counts_then i.counts (λ none. none) (counts_as w.counts (λ e. cc) (λ none. absurd none));
+      only = reads_then i.only (λ none. none) (reads_as w.only_reads (λ e. cc) (λ none. absurd none));
     }
 
-pub returns-in_err-window-clause-counts : goal.returns-in_err-window-clause-counts
-returns-in_err-window-clause-counts g c =
+pub returns-in_err-window-clause-only_reads : goal.returns-in_err-window-clause-only_reads
+returns-in_err-window-clause-only_reads g c =
     let p = err_from_is_err_and c.from_residual-in_err-window.result c.from_residual-in_err-window.ensures.1 in
-    same_refusal c.from_residual-in_err-window.result c.in_err-window.field-0.0 (p.1 ∙ ap (λ k. Err k) p.2) (counts_then c.each.invariant.counts (λ none. none) c.in_err-window.ensures.counts)
+    same_refusal c.from_residual-in_err-window.result c.in_err-window.field-0.0 (p.1 ∙ ap (λ k. Err k) p.2) (reads_then c.each.invariant.only (λ none. none) c.in_err-window.ensures.only_reads)
 
 pub returns-in-End-clause-told : goal.returns-in-End-clause-told
 returns-in-End-clause-told g c =
     let i = c.each.invariant in
-    let shows = subst (λ (d : Option Told). IfSome d (λ told. Shows c.in_ok-window.window.items (drop c.each.tally.at (content told)))) i.same c.in_ok-window.ensures.shows in
+    let shows = subst (λ (d : Option Told). IfSome d (λ told. Shows c.in_ok-window.window.items (drop c.each.tally.at (content told)))) i.only.same c.in_ok-window.ensures.shows in
     let says = rw c.deref.ensures.value at (rw c.in-End.is at c.in_ok-step.ensures.ok) in
     scan_ends (g.D.Disk.told c.args.disk.now) c.each.tally.at c.each.tally.last c.each.tally.floor c.each.tally.count c.in_ok-window.window.items c.each.walk.records c.step.new.self.records (came_to _ _ _ _ _ _ _ _ i.came) shows c.in_ok-len.len c.saturating_sub.result c.greatest.result c.in_ok-rows-in-End.rows c.told.result says.0 i.length (omega (arith, c.saturating_sub.ensures)) c.greatest.ensures c.in_ok-rows-in-End.ensures c.told.ensures
 

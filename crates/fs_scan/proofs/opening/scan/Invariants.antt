@@ -1,7 +1,7 @@
 use Rattle.std.proofs.Common.{◌≡◌, ◌≤◌, ◌-◌, length, Some, IfSome}
-use Rattle.zbase.specs.Faults.{Counts}
 use Rattle.zdisk.specs.Disk.{content}
 use Rattle.fs_scan.proofs.Scanning.{ScansBy}
+use Rattle.fs_scan.specs.OnlyReads.{OnlyReads}
 use Rattle.fs_scan.proofs.opening.scan.Given as goal
 
 -- the scan came to the place, and nothing was changed
@@ -12,9 +12,7 @@ invariant-each g l = record {
   here : l.walk.place ≡ Some l.tally.at;
   last : l.walk.last ≡ l.tally.last;
   few : l.tally.count ≤ l.tally.at;
-  same : g.D.Disk.told l.disk ≡ g.D.Disk.told l.fn.disk;
-  spare : (g.D.Disk.spare_calls l.disk ≡ g.D.Disk.spare_calls l.fn.disk) × (g.D.Disk.spare_bytes l.disk ≡ g.D.Disk.spare_bytes l.fn.disk);
-  counts : Counts (g.D.Disk.counter l.fn.disk) (g.D.Disk.counter l.disk) ⊥;
+  only : OnlyReads g.D.Disk l.fn.disk l.disk ⊥;
 }
 
 abbrev pub decreases-each : goal.decreases-each

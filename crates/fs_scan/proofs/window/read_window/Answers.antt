@@ -6,7 +6,7 @@ use Rattle.fs_scan.proofs.window.read_window.Goals as goal
 pub returns-in-Some-clause-shows : goal.returns-in-Some-clause-shows
 returns-in-Some-clause-shows g c =
     IfOk-weaker c.read_range-in-Some.result _ _ (λ window read.
-    shows_size (g.D.Disk.told c.args.disk.now) _ c.args.len c.args.at c.saturating_sub-left.result c.in-Some.size c.in_ok-head.head.items window.items c.in_ok-head.ensures.same c.requires (omega (arith, c.saturating_sub-left.ensures)) c.in_ok-head.ensures.bytes read
+    shows_size (g.D.Disk.told c.args.disk.now) _ c.args.len c.args.at c.saturating_sub-left.result c.in-Some.size c.in_ok-head.head.items window.items c.in_ok-head.ensures.only_reads.same c.requires (omega (arith, c.saturating_sub-left.ensures)) c.in_ok-head.ensures.bytes read
     c.in-Some.ensures.within.0 c.in-Some.ensures.within.1 (rw c.deref.ensures.value at c.in-Some.ensures.whole)) c.read_range-in-Some.ensures.bytes
 
 pub returns-in-None-clause-shows : goal.returns-in-None-clause-shows

@@ -1,15 +1,13 @@
 use Rattle.std.proofs.Common.{◌≡◌, IfSome}
-use Rattle.zbase.specs.Faults.{Counts}
 use Rattle.fs_store.specs.Finding.{WayBack}
+use Rattle.fs_scan.specs.OnlyReads.{OnlyReads}
 use Rattle.fs_store.proofs.finding.find.Given as goal
 
 -- the place is one on the way back, and nothing was changed
 abbrev pub invariant-back : goal.invariant-back
 invariant-back g l = record {
   way : IfSome (g.D.Disk.told l.fn.disk) (λ told. WayBack told l.fn.known.end l.fn.oid l.fn.at l.place (g.D.Disk.counter l.fn.disk).calls (g.D.Disk.counter l.disk).calls);
-  same : g.D.Disk.told l.disk ≡ g.D.Disk.told l.fn.disk;
-  spare : (g.D.Disk.spare_calls l.disk ≡ g.D.Disk.spare_calls l.fn.disk) × (g.D.Disk.spare_bytes l.disk ≡ g.D.Disk.spare_bytes l.fn.disk);
-  counts : Counts (g.D.Disk.counter l.fn.disk) (g.D.Disk.counter l.disk) ⊥;
+  only : OnlyReads g.D.Disk l.fn.disk l.disk ⊥;
 }
 
 abbrev pub decreases-back : goal.decreases-back

@@ -15,4 +15,4 @@ returns-in_ok-value-in-Some-clause-reads g c =
     let found = subst (λ (x : Option Record). IfSome o (λ told. FoundIn told end c.args.oid c.args.at x)) c.in-Some.is c.in_ok-find.ensures.found in
     on_three o _ _ _ (λ told. CostsLoad told end c.args.oid c.args.at calls more)
     (λ told le f costs. costs_value told end c.args.oid c.args.at calls now more c.in-Some.found le f (costs c.args.oid f.is_place))
-    c.in_ok-find.ensures.reads found (moved _ o _ (sym c.in_ok-find.ensures.same) c.in_ok-value-in-Some.ensures.reads)
+    c.in_ok-find.ensures.reads found (moved _ o _ (sym c.in_ok-find.ensures.only_reads.same) c.in_ok-value-in-Some.ensures.reads)

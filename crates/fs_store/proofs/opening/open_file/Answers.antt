@@ -18,13 +18,13 @@ returns-in_err-read-clause-refused g c =
 pub returns-then-read-eq0-clause-tidies : goal.returns-then-read-eq0-clause-tidies
 returns-then-read-eq0-clause-tidies g c =
     synced_alone (g.D.Disk.told c.args.disk.now) (g.D.Disk.told c.reserve.new.self) (g.D.Disk.told c.sync.new.self) (g.D.Disk.told c.read_file.new.disk) c.in_ok-read.read.known.end c.in_ok-read.read.torn
-    (c.in_ok-reserve.ensures.same ∙ c.in_ok-len.ensures.same) c.in_ok-sync.ensures.held c.in_ok-read.ensures.same c.if-read-eq0.true
+    (c.in_ok-reserve.ensures.same ∙ c.in_ok-len.ensures.same) c.in_ok-sync.ensures.held c.in_ok-read.ensures.only_reads.same c.if-read-eq0.true
 
 pub returns-in_err-cut_off-clause-left : goal.returns-in_err-cut_off-clause-left
 returns-in_err-cut_off-clause-left g c =
     let p = err_from_is_err_and c.from_residual-in_err-cut_off.result c.from_residual-in_err-cut_off.ensures.1 in
     rest_stayed (g.D.Disk.told c.args.disk.now) (g.D.Disk.told c.reserve.new.self) (g.D.Disk.told c.sync.new.self) (g.D.Disk.told c.read_file.new.disk) (g.D.Disk.told c.cut_off.new.disk) c.in_ok-read.read c.from_residual-in_err-cut_off.result
-    (c.in_ok-reserve.ensures.same ∙ c.in_ok-len.ensures.same) c.in_ok-sync.ensures.held c.in_ok-read.ensures.same c.in_ok-read.ensures.reads c.in_err-cut_off.ensures.failed (p.1 ∙ ap (λ k. Err k) p.2)
+    (c.in_ok-reserve.ensures.same ∙ c.in_ok-len.ensures.same) c.in_ok-sync.ensures.held c.in_ok-read.ensures.only_reads.same c.in_ok-read.ensures.reads c.in_err-cut_off.ensures.failed (p.1 ∙ ap (λ k. Err k) p.2)
 
 pub returns-in_err-len-clause-costs : goal.returns-in_err-len-clause-costs
 returns-in_err-len-clause-costs g c = costs_begin (g.D.Disk.told c.args.disk.now) _ _ (omega (arith, c.in_err-len.ensures.call))

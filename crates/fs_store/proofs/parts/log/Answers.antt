@@ -1,41 +1,35 @@
-use Rattle.std.proofs.Common.{◌∙◌, refl, sym, arith}
-use Rattle.zbase.specs.Faults.{counts_as, counts_none, counts_then}
-use Rattle.zdisk.specs.Disk.{content}
-use Rattle.fs_scan.specs.Walked.{IsOn}
-use Rattle.fs_store.proofs.Tellings.{always, moved, on_both, on_three}
-use Rattle.fs_store.proofs.Walking.{Logged, logged_all, logged_more, logged_none}
+use Rattle.std.proofs.Common.{None, Some, sym, ◌∙◌, arith}
+use Rattle.fs_scan.specs.OnlyReads.{reads_as, reads_none, reads_then}
+use Rattle.fs_store.proofs.Tellings.{moved, on_both, on_four, on_told}
+use Rattle.fs_store.proofs.Walking.{AddsRow, Logged, Tells, logged_all, logged_more, logged_none, no_head}
 use Rattle.fs_store.proofs.parts.log.Goals as goal
 
 pub each-init : goal.each-init
-each-init g c =
-    let told = g.D.Disk.told c.args.disk.now in
-    record {
-      logged = always told (λ t. Logged t c.new-walk.result c.args.at c.new-rows.result) (λ t. logged_none t c.new-walk.result c.args.at c.new-rows.result c.new-walk.ensures.begun c.new-rows.ensures);
-      on = always told (λ t. IsOn (content t) c.new-walk.result) (λ t. c.new-walk.ensures.on (content t));
-      place = rw c.new-walk.ensures.begun (omega arith);
-      same = refl;
-      spare = (refl, refl);
-      counts = counts_none _ _ (λ none. none);
-    }
+each-init g c = record {
+  logged = on_told (g.D.Disk.told c.args.disk.now) _ (λ told. Logged told c.args.known.now 4 c.args.at c.new-rows.result) (λ told k. logged_none told c.args.known.now c.args.at c.new-rows.result k.0 c.new-rows.ensures) c.requires;
+  only = reads_none g.D.Disk c.args.disk.now;
+}
+
+pub returns-in_default-clause-rows : goal.returns-in_default-clause-rows
+returns-in_default-clause-rows g c =
+    let o = g.D.Disk.told c.args.disk.now in
+    let i = c.each.invariant in
+    on_both o (λ told. Logged told c.args.known.now c.each.place c.args.at c.each.rows) (λ told. Tells told c.each.place None) _
+    (λ told l t. no_head told c.args.known.now c.each.place l.ts l.walked c.each-test.true t) i.logged (moved _ o _ (sym i.only.same) (rw c.in_default.is at c.in_ok-head.ensures.head))
 
 pub each-preserved : goal.each-preserved
 each-preserved g c =
+    let o = g.D.Disk.told c.args.disk.now in
     let i = c.each.invariant in
-    let w = c.in_ok-whole.ensures in
-    let told = g.D.Disk.told c.args.disk.now in
-    let passes = moved _ told _ (sym i.same) (rw c.in-Some.is at w.walked) in
+    let e = c.in_ok-head.ensures in
+    let a = c.in_ok-add_row.ensures in
     record {
-      logged = on_both told _ _ (λ t. Logged t c.next_whole.new.walk c.args.at c.add_row.new.rows) (λ t l p. logged_more t c.each.walk c.next_whole.new.walk c.args.at c.each.rows c.add_row.new.rows c.in-Some.whole l p c.in_ok-add_row-in-Some.ensures) i.logged passes;
-      on = moved _ told _ (sym i.same) w.on;
-      place = (rw c.in-Some.is at w.rises).1;
-      same = w.same ∙ i.same;
-      spare = (w.spare.0 ∙ i.spare.0, w.spare.1 ∙ i.spare.1);
-      counts = counts_then i.counts (λ none. none) (counts_as w.counts (λ e. cc) (λ none. absurd none));
+      logged = on_four o _ (λ told. Logged told c.args.known.now c.each.place c.args.at c.each.rows) (λ told. Tells told c.each.place (Some c.in-Some.head)) (λ told. AddsRow told c.each.place c.in-Some.head c.args.at c.each.rows c.add_row.new.rows) (λ told. Logged told c.args.known.now c.behind-place.result c.args.at c.add_row.new.rows)
+          (λ told k l t s. logged_more told c.args.known.now c.each.place c.args.at c.behind-place.result c.each.rows c.add_row.new.rows c.in-Some.head (omega (arith, k.1, k.0.within)) l c.each-test.true t s c.behind-place.ensures) c.requires i.logged (moved _ o _ (sym i.only.same) (rw c.in-Some.is at e.head))
+          (moved _ o _ (sym (e.only_reads.same ∙ i.only.same)) a.added);
+      only = reads_then i.only (λ none. none) (reads_then (reads_as e.only_reads (λ x. cc) (λ none. absurd none)) (λ none. none) (reads_as a.only_reads (λ x. cc) (λ none. absurd none)));
     }
 
-pub returns-in-None-clause-rows : goal.returns-in-None-clause-rows
-returns-in-None-clause-rows g c =
-    let i = c.each.invariant in
-    let told = g.D.Disk.told c.args.disk.now in
-    let ends = moved _ told _ (sym i.same) (rw c.in-None.is at c.in_ok-whole.ensures.walked) in
-    on_three told _ _ _ _ (λ t there l e. logged_all t c.args.known.now.end c.each.walk c.next_whole.new.walk c.args.at c.each.rows there l e) c.requires.ends i.logged ends
+pub returns-clause-rows : goal.returns-clause-rows
+returns-clause-rows g c =
+    on_told (g.D.Disk.told c.args.disk.now) (λ told. Logged told c.args.known.now c.each.place c.args.at c.each.rows) _ (λ told l. logged_all told c.args.known.now c.each.place c.args.at c.each.rows l c.each-test.false) c.each.invariant.logged

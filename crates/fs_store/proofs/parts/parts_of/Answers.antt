@@ -2,8 +2,8 @@ use Rattle.std.proofs.Common.{◌≡◌, ◌+◌, ◌<◌, length, arith, ap, sy
 use Rattle.std.specs.Prelude.{◌-◌}
 use Rattle.std.specs.Ordering.{nat_cmp}
 use Rattle.std.specs.BTreeSet.{contains}
-use Rattle.zbase.specs.Faults.{counts_as, counts_then}
 use Rattle.zbase.specs.Values.{before}
+use Rattle.fs_scan.specs.OnlyReads.{reads_as, reads_then}
 use Rattle.fs_scan.specs.declared.wholes.OidValue.{OidValue}
 use Rattle.fs_store.specs.Fronts.{history_at}
 use Rattle.fs_store.proofs.PartSteps.{seen_next, part_new, part_old}
@@ -24,11 +24,9 @@ loop-left-preserved-in_ok-push g c =
     record {
       within = omega (arith, kept.within);
       parts = on_both o _ _ _ (λ told so part. part_new (before (history_at told c.args.known.now.end) c.args.tid) vs left (left - 1) _ v _ _ _ (contains nat_cmp c.loop-left.seen) one lt c.index-values-left.is own (sym c.in_ok-insert.ensures.added ∙ c.if-branch.true) kept.seen part c.in_ok-push.ensures.items so)
-          kept.parts (moved _ o _ (sym kept.same) e.part);
+          kept.parts (moved _ o _ (sym kept.only.same) e.part);
       seen = seen_next (contains nat_cmp c.loop-left.seen) (contains nat_cmp c.insert.new.self) vs left (left - 1) _ v one lt c.index-values-left.is own c.in_ok-insert.ensures.updates.0 kept.seen;
-      same = e.same ∙ kept.same;
-      spare = (e.spare.0 ∙ kept.spare.0, e.spare.1 ∙ kept.spare.1);
-      counts = counts_then kept.counts (λ none. none) (counts_as e.counts (λ x. cc) (λ none. absurd none));
+      only = reads_then kept.only (λ none. none) (reads_as e.only_reads (λ x. cc) (λ none. absurd none));
     }
 
 pub loop-left-preserved : goal.loop-left-preserved
@@ -45,7 +43,5 @@ loop-left-preserved g c =
       parts = on_told (g.D.Disk.told c.args.disk.now) _ _ (λ told so. part_old (before (history_at told c.args.known.now.end) c.args.tid) vs left (left - 1) _ v c.loop-left.parts.items (contains nat_cmp c.loop-left.seen) one lt c.index-values-left.is own (sym c.in_ok-insert.ensures.added ∙ c.if-branch.false) kept.seen so)
           kept.parts;
       seen = seen_next (contains nat_cmp c.loop-left.seen) (contains nat_cmp c.insert.new.self) vs left (left - 1) _ v one lt c.index-values-left.is own c.in_ok-insert.ensures.updates.0 kept.seen;
-      same = kept.same;
-      spare = kept.spare;
-      counts = kept.counts;
+      only = kept.only;
     }

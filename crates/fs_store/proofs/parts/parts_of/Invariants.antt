@@ -2,11 +2,11 @@ use Rattle.std.proofs.Common.{◌≡◌, ◌≤◌, ◌==◌, ℕ, IfSome, drop,
 use Rattle.std.specs.List.{list_any}
 use Rattle.std.specs.Ordering.{nat_cmp}
 use Rattle.std.specs.BTreeSet.{contains}
-use Rattle.zbase.specs.Faults.{Counts}
 use Rattle.zbase.specs.Values.{before}
 use Rattle.evaluator.specs.Facts.{last_records, part_of}
 use Rattle.fs_scan.specs.Wholes.{records_in}
 use Rattle.fs_store.specs.Fronts.{history_at}
+use Rattle.fs_scan.specs.OnlyReads.{OnlyReads}
 use Rattle.fs_store.proofs.parts.parts_of.Given as goal
 
 -- the parts of the records behind, from the last, and their objects; nothing was changed
@@ -15,9 +15,7 @@ invariant-loop-left g l = record {
   within : l.left ≤ length l.values;
   parts : IfSome (g.D.Disk.told l.fn.disk) (λ told. reverse l.parts.items ≡ map (part_of (before (history_at told l.known.end) l.tid)) (last_records (records_in (drop l.left l.values))));
   seen : (o : ℕ) → contains nat_cmp l.seen o ≡ list_any (λ s. s.0 == o) (records_in (drop l.left l.values));
-  same : g.D.Disk.told l.disk ≡ g.D.Disk.told l.fn.disk;
-  spare : (g.D.Disk.spare_calls l.disk ≡ g.D.Disk.spare_calls l.fn.disk) × (g.D.Disk.spare_bytes l.disk ≡ g.D.Disk.spare_bytes l.fn.disk);
-  counts : Counts (g.D.Disk.counter l.fn.disk) (g.D.Disk.counter l.disk) ⊥;
+  only : OnlyReads g.D.Disk l.fn.disk l.disk ⊥;
 }
 
 abbrev pub decreases-loop-left : goal.decreases-loop-left

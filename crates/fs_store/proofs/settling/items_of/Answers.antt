@@ -9,6 +9,7 @@ use Rattle.evaluator.specs.declared.draft.Entry.{Entry}
 use Rattle.evaluator.specs.Settle.{record_of, size_of_entry}
 use Rattle.fs_record.specs.declared.body.Item.{Item}
 use Rattle.fs_record.specs.Sizes.{record_size, records_size}
+use Rattle.fs_scan.specs.OnlyReads.{reads_as, reads_then}
 use Rattle.fs_store.specs.Drafts.{FitsEntry, NeedsNoLook, sizes_of}
 use Rattle.fs_store.specs.Fronts.{history_at, records_at}
 use Rattle.fs_store.specs.Pointing.{IsDirect}
@@ -53,14 +54,12 @@ loop-entry-preserved g c =
     let pushed : c.push.new.self.items ≡ items ++ item ∷ [] = c.in_ok-push.ensures.items in
     record {
       are = rw (is, pushed) (on_three o (λ told. AreOf told end before items) (λ told. says (records_at told end) item ≡ record_of (history_at told end) entry) (λ told. IsRight (records_at told end) item) (λ told. AreOf told end (before ++ entry ∷ []) (items ++ item ∷ []))
-          (λ told are said right. are_more told end before entry items item are said right) i.are (moved _ o _ (sym i.same) e.said) (moved _ o _ (sym i.same) e.right));
+          (λ told are said right. are_more told end before entry items item are said right) i.are (moved _ o _ (sym i.only.same) e.said) (moved _ o _ (sym i.only.same) e.right));
       direct = rw pushed (on_both o (λ told. All (λ x. IsDirect (content told) x.body) items) (λ told. IsDirect (content told) item.body) (λ told. All (λ x. IsDirect (content told) x.body) (items ++ item ∷ []))
-          (λ told all one. All-push (λ x. IsDirect (content told) x.body) items item all one) i.direct (moved _ o _ (sym i.same) e.direct));
+          (λ told all one. All-push (λ x. IsDirect (content told) x.body) items item all one) i.direct (moved _ o _ (sym i.only.same) e.direct));
       bodies = search rules;
       size = rw (is, pushed) (size_more before entry items item i.size e.size);
       fits = fits_left c.args.known.now.next entries n entry lt i.fits;
       calls = λ none. let parts = all_last NeedsNoLook before entry (subst (AllByRecursion NeedsNoLook) is none) in e.calls parts.1 ∙ i.calls parts.0;
-      same = search rules;
-      spare = search rules;
-      counts = search rules;
+      only = reads_then i.only (λ none. none) (reads_as e.only_reads (λ x. cc) (λ none. absurd none));
     }

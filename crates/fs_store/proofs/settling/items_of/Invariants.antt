@@ -1,13 +1,13 @@
 use Rattle.std.proofs.Common.{◌≡◌, IfSome, drop, take}
 use Rattle.std.specs.Prelude.{All}
 use Rattle.std.specs.List.{AllByRecursion}
-use Rattle.zbase.specs.Faults.{Counts}
 use Rattle.fs_record.specs.Sizes.{records_size}
 use Rattle.fs_record.specs.Written.{HasBody}
 use Rattle.fs_store.specs.Drafts.{FitsEntry, NeedsNoLook, sizes_of}
 use Rattle.zdisk.specs.Disk.{content}
 use Rattle.fs_store.specs.Pointing.{IsDirect}
 use Rattle.fs_store.specs.Settled.{AreOf}
+use Rattle.fs_scan.specs.OnlyReads.{OnlyReads}
 use Rattle.fs_store.proofs.settling.items_of.Given as goal
 
 -- the items of the entries so far, and the entries that are left fit
@@ -19,7 +19,5 @@ invariant-loop-entry g l = record {
   size : records_size l.items.items ≡ sizes_of (take l.entry-index l.entries);
   fits : AllByRecursion (FitsEntry l.known.next) (drop l.entry-index l.entries);
   calls : AllByRecursion NeedsNoLook (take l.entry-index l.entries) → (g.D.Disk.counter l.disk).calls ≡ (g.D.Disk.counter l.fn.disk).calls;
-  same : g.D.Disk.told l.disk ≡ g.D.Disk.told l.fn.disk;
-  spare : (g.D.Disk.spare_calls l.disk ≡ g.D.Disk.spare_calls l.fn.disk) × (g.D.Disk.spare_bytes l.disk ≡ g.D.Disk.spare_bytes l.fn.disk);
-  counts : Counts (g.D.Disk.counter l.fn.disk) (g.D.Disk.counter l.disk) ⊥;
+  only : OnlyReads g.D.Disk l.fn.disk l.disk ⊥;
 }

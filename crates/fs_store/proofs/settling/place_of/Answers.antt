@@ -20,7 +20,7 @@ returns-in-Some-clause-value g c =
     let end = c.args.known.now.end in
     let found = subst (λ (x : Option Record). IfSome o (λ told. FoundIn told end c.args.oid c.args.to x)) c.in-Some.is c.in_ok-find.ensures.found in
     data_there o (g.D.Disk.told c.find.new.disk) c.args.known.now end c.args.oid c.args.to c.in-Some.found c.data_place.result (λ told at. value_of (records_at told end) (Back at) ≡ value (upto (history_at told end) c.args.to) c.args.oid)
-    c.in_ok-find.ensures.same c.requires found c.data_place.ensures.data_stands (λ told at f has. back_data told end c.args.oid c.args.to at c.in-Some.found f has)
+    c.in_ok-find.ensures.only_reads.same c.requires found c.data_place.ensures.data_stands (λ told at f has. back_data told end c.args.oid c.args.to at c.in-Some.found f has)
 
 pub returns-in-Some-clause-right : goal.returns-in-Some-clause-right
 returns-in-Some-clause-right g c =
@@ -28,7 +28,7 @@ returns-in-Some-clause-right g c =
     let end = c.args.known.now.end in
     let found = subst (λ (x : Option Record). IfSome o (λ told. FoundIn told end c.args.oid c.args.to x)) c.in-Some.is c.in_ok-find.ensures.found in
     data_there o (g.D.Disk.told c.find.new.disk) c.args.known.now end c.args.oid c.args.to c.in-Some.found c.data_place.result (λ told at. is_right_body (rows (records_at told end)) c.args.oid (Back at) ≡ true)
-    c.in_ok-find.ensures.same c.requires found c.data_place.ensures.data_stands (λ told at f has. right_data told end c.args.oid at c.in-Some.found has)
+    c.in_ok-find.ensures.only_reads.same c.requires found c.data_place.ensures.data_stands (λ told at f has. right_data told end c.args.oid at c.in-Some.found has)
 
 pub returns-in-Some-clause-direct : goal.returns-in-Some-clause-direct
 returns-in-Some-clause-direct g c =
@@ -36,4 +36,4 @@ returns-in-Some-clause-direct g c =
     let end = c.args.known.now.end in
     let found = subst (λ (x : Option Record). IfSome o (λ told. FoundIn told end c.args.oid c.args.to x)) c.in-Some.is c.in_ok-find.ensures.found in
     data_there o (g.D.Disk.told c.find.new.disk) c.args.known.now end c.args.oid c.args.to c.in-Some.found c.data_place.result (λ told at. IsDirect (content told) (Back at))
-    c.in_ok-find.ensures.same c.requires found c.data_place.ensures.data_stands (λ told at f has. direct_data told end c.args.oid at c.in-Some.found has)
+    c.in_ok-find.ensures.only_reads.same c.requires found c.data_place.ensures.data_stands (λ told at f has. direct_data told end c.args.oid at c.in-Some.found has)

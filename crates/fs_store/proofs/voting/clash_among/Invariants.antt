@@ -1,7 +1,7 @@
 use Rattle.std.proofs.Common.{◌≡◌, IfSome, drop}
-use Rattle.zbase.specs.Faults.{Counts}
 use Rattle.fs_store.specs.Fronts.{history_at}
 use Rattle.fs_store.specs.Verdicts.{clash_among}
+use Rattle.fs_scan.specs.OnlyReads.{OnlyReads}
 use Rattle.fs_store.proofs.voting.clash_among.Given as goal
 
 -- the first clash is among the reads that are left, and no call was made
@@ -9,7 +9,5 @@ abbrev pub invariant-loop-seen : goal.invariant-loop-seen
 invariant-loop-seen g l = record {
   left : IfSome (g.D.Disk.told l.fn.disk) (λ told. clash_among (history_at told l.known.end) (drop l.seen-index l.reads) ≡ clash_among (history_at told l.known.end) l.reads);
   calls : (g.D.Disk.counter l.disk).calls ≡ (g.D.Disk.counter l.fn.disk).calls;
-  same : g.D.Disk.told l.disk ≡ g.D.Disk.told l.fn.disk;
-  spare : (g.D.Disk.spare_calls l.disk ≡ g.D.Disk.spare_calls l.fn.disk) × (g.D.Disk.spare_bytes l.disk ≡ g.D.Disk.spare_bytes l.fn.disk);
-  counts : Counts (g.D.Disk.counter l.fn.disk) (g.D.Disk.counter l.disk) ⊥;
+  only : OnlyReads g.D.Disk l.fn.disk l.disk ⊥;
 }

@@ -20,8 +20,8 @@ each-init g c =
       printed = printed_first told c.in_ok-count.field-0.count c.new-walk.result _ _ c.new-walk.ensures.begun c.in_ok-put_line.ensures.ok;
       on = fresh_on told c.new-walk.result c.new-walk.ensures.begun;
       place = rw c.new-walk.ensures.begun (omega arith);
-      same = c.in_ok-count.ensures.same;
-      disk = counts_as c.in_ok-count.ensures.counts (λ e. cc) (λ none. absurd none);
+      same = c.in_ok-count.ensures.only_reads.same;
+      disk = counts_as c.in_ok-count.ensures.only_reads.counts (λ e. cc) (λ none. absurd none);
       sink = counts_as c.in_ok-put_line.ensures.counts (λ e. cc) (λ none. absurd none);
     }
 
@@ -38,8 +38,8 @@ each-preserved g c =
       printed = printed_next (g.D.Disk.told c.args.disk.now) (g.D.Disk.told c.each.disk) c.in_ok-count.field-0.count c.each.walk c.next.new.self c.in-Some.whole _ _ _ i.same i.printed (rw c.in-Some.is at w.walked) c.in_ok-put_transaction-in-Some.ensures.ok;
       on = subst (λ (d : Option Told). IfSome d (λ told. IsOn (content told) c.next.new.self)) i.same w.on;
       place = (rw c.in-Some.is at w.rises).1;
-      same = w.same ∙ i.same;
-      disk = counts_then i.disk (λ none. none) (counts_as w.counts (λ e. cc) (λ none. absurd none));
+      same = w.only_reads.same ∙ i.same;
+      disk = counts_then i.disk (λ none. none) (counts_as w.only_reads.counts (λ e. cc) (λ none. absurd none));
       sink = counts_then i.sink (λ none. none) (counts_as c.in_ok-put_transaction-in-Some.ensures.counts (λ e. cc) (λ none. absurd none));
     }
 

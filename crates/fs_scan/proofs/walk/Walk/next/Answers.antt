@@ -1,7 +1,8 @@
 use Rattle.std.proofs.Common.{Option, Some, IfSome, drop, ap, ◌∙◌, ◌≡◌, ◌++◌, subst, arith}
-use Rattle.zbase.specs.Faults.{counts_as, counts_then}
+use Rattle.zbase.specs.Faults.{counts_as}
 use Rattle.zdisk.specs.Disk.{Told, content}
 use Rattle.fs_record.specs.File.{magic}
+use Rattle.fs_scan.specs.OnlyReads.{reads_as, reads_then}
 use Rattle.fs_scan.specs.Walked.{Course}
 use Rattle.fs_scan.specs.Windows.{Shows}
 use Rattle.fs_scan.proofs.Walking.{entered, anew, breaks, goes_on, goes_over, passes, walks_over, on_either, records_there, same_last, found_later}
@@ -17,9 +18,7 @@ undone-init g c =
       here = ap (λ (course : Course). course.place) i.entered.1;
       last = ap (λ (course : Course). course.last) i.entered.1;
       rises = omega (arith, i.entered.0);
-      same = i.same ∙ n.same;
-      spare = (i.spare.0 ∙ n.spare.0, i.spare.1 ∙ n.spare.1);
-      counts = counts_then (counts_as n.counts (λ e. cc) (λ none. absurd none)) (λ none. none) (counts_as i.counts (λ e. cc) (λ none. absurd none));
+      only = reads_then (record { same = n.same; spare = n.spare; counts = counts_as n.counts (λ e. cc) (λ none. absurd none) }) (λ none. none) (reads_as i.only_reads (λ e. cc) (λ none. absurd none));
     }
 
 pub returns-in_err-step-clause-on : goal.returns-in_err-step-clause-on
@@ -28,7 +27,7 @@ returns-in_err-step-clause-on g c = anew (g.D.Disk.told c.args.disk.now) c.step.
 pub returns-in-Damaged-clause-damaged : goal.returns-in-Damaged-clause-damaged
 returns-in-Damaged-clause-damaged g c = λ kind place is.
     let i = c.undone.invariant in
-    let shows = subst (λ (d : Option Told). IfSome d (λ told. Shows c.in_ok-window.window.items (drop c.undone.at (content told)))) i.same c.in_ok-window.ensures.shows in
+    let shows = subst (λ (d : Option Told). IfSome d (λ told. Shows c.in_ok-window.window.items (drop c.undone.at (content told)))) i.only.same c.in_ok-window.ensures.shows in
     let says = rw c.deref.ensures.value at (rw c.in-Damaged.is at c.in_ok-step.ensures.ok) in
     let k : c.in-Damaged.kind ≡ kind = cc in
     let p : c.undone.at ≡ place = cc in
@@ -42,15 +41,15 @@ whole_in-requires-clause-records g c =
 pub returns-then-extent-ne-STATUS_UNDONE-clause-walked : goal.returns-then-extent-ne-STATUS_UNDONE-clause-walked
 returns-then-extent-ne-STATUS_UNDONE-clause-walked g c =
     let i = c.undone.invariant in
-    let shows = subst (λ (d : Option Told). IfSome d (λ told. Shows c.in_ok-window.window.items (drop c.undone.at (content told)))) i.same c.in_ok-window.ensures.shows in
+    let shows = subst (λ (d : Option Told). IfSome d (λ told. Shows c.in_ok-window.window.items (drop c.undone.at (content told)))) i.only.same c.in_ok-window.ensures.shows in
     let says = rw c.deref.ensures.value at (rw c.in-Right.is at c.in_ok-step.ensures.ok) in
     walks_over (g.D.Disk.told c.args.disk.now) _ c.args.self.now c.step.new.self c.whole_in.new.self c.in_ok-window.window.items c.undone.at c.in-Right.extent c.whole_in.result (rw c.deref-then-extent-ne-STATUS_UNDONE.ensures.value at c.whole_in.ensures.means) c.whole_in.ensures.ok
-    (λ whole same means. passes (g.D.Disk.told c.args.disk.now) c.args.self.now c.undone.self c.step.new.self c.undone.at c.in_ok-window.window.items i.underway shows c.in-Right.extent says _ c.whole_in.new.self whole (c.in_ok-window.ensures.same ∙ i.same) same c.if-extent-ne-STATUS_UNDONE.true means)
+    (λ whole same means. passes (g.D.Disk.told c.args.disk.now) c.args.self.now c.undone.self c.step.new.self c.undone.at c.in_ok-window.window.items i.underway shows c.in-Right.extent says _ c.whole_in.new.self whole (c.in_ok-window.ensures.only_reads.same ∙ i.only.same) same c.if-extent-ne-STATUS_UNDONE.true means)
 
 pub returns-then-extent-ne-STATUS_UNDONE-clause-on : goal.returns-then-extent-ne-STATUS_UNDONE-clause-on
 returns-then-extent-ne-STATUS_UNDONE-clause-on g c =
     let i = c.undone.invariant in
-    let shows = subst (λ (d : Option Told). IfSome d (λ told. Shows c.in_ok-window.window.items (drop c.undone.at (content told)))) i.same c.in_ok-window.ensures.shows in
+    let shows = subst (λ (d : Option Told). IfSome d (λ told. Shows c.in_ok-window.window.items (drop c.undone.at (content told)))) i.only.same c.in_ok-window.ensures.shows in
     let says = rw c.deref.ensures.value at (rw c.in-Right.is at c.in_ok-step.ensures.ok) in
     on_either (g.D.Disk.told c.args.disk.now) c.step.new.self c.whole_in.new.self c.whole_in.result c.whole_in.ensures.ok c.whole_in.ensures.err
     (goes_on (g.D.Disk.told c.args.disk.now) c.args.self.now c.undone.self c.step.new.self c.undone.at c.in_ok-window.window.items i.underway shows c.in-Right.extent says)
@@ -64,7 +63,7 @@ pub undone-preserved : goal.undone-preserved
 undone-preserved g c =
     let i = c.undone.invariant in
     let w = c.in_ok-window.ensures in
-    let shows = subst (λ (d : Option Told). IfSome d (λ told. Shows c.in_ok-window.window.items (drop c.undone.at (content told)))) i.same w.shows in
+    let shows = subst (λ (d : Option Told). IfSome d (λ told. Shows c.in_ok-window.window.items (drop c.undone.at (content told)))) i.only.same w.shows in
     let says = rw c.deref.ensures.value at (rw c.in-Right.is at c.in_ok-step.ensures.ok) in
     record {
       underway = goes_over (g.D.Disk.told c.args.disk.now) c.args.self.now c.undone.self c.step.new.self c.undone.at c.in_ok-window.window.items i.underway shows c.in-Right.extent says _ (omega arith) c.if-extent-ne-STATUS_UNDONE.false;
@@ -72,7 +71,5 @@ undone-preserved g c =
       here = ap (λ (course : Course). course.place) says.1 ∙ ap Some (omega arith);
       last = same_last c.undone.self.last c.in-Right.extent c.if-extent-ne-STATUS_UNDONE.false (ap (λ (course : Course). course.last) says.1) ∙ i.last;
       rises = omega (arith, i.rises);
-      same = w.same ∙ i.same;
-      spare = (w.spare.0 ∙ i.spare.0, w.spare.1 ∙ i.spare.1);
-      counts = counts_then i.counts (λ none. none) (counts_as w.counts (λ e. cc) (λ none. absurd none));
+      only = reads_then i.only (λ none. none) (reads_as w.only_reads (λ e. cc) (λ none. absurd none));
     }

@@ -1,8 +1,8 @@
 use Rattle.std.proofs.Common.{◌≡◌, ◌≤◌, ◌-◌, length, Some, IfSome}
-use Rattle.zbase.specs.Faults.{Counts}
 use Rattle.zdisk.specs.Disk.{content}
 use Rattle.fs_scan.specs.Walked.{place_on}
 use Rattle.fs_scan.proofs.Walking.{Underway}
+use Rattle.fs_scan.specs.OnlyReads.{OnlyReads}
 use Rattle.fs_scan.proofs.walk.Walk.next.Given as goal
 
 -- the walk went over undone transactions alone, and nothing was changed
@@ -13,9 +13,7 @@ invariant-undone g l = record {
   here : l.self.place ≡ Some l.at;
   last : l.self.last ≡ l.fn.self.last;
   rises : place_on l.fn.self.place ≤ l.at;
-  same : g.D.Disk.told l.disk ≡ g.D.Disk.told l.fn.disk;
-  spare : (g.D.Disk.spare_calls l.disk ≡ g.D.Disk.spare_calls l.fn.disk) × (g.D.Disk.spare_bytes l.disk ≡ g.D.Disk.spare_bytes l.fn.disk);
-  counts : Counts (g.D.Disk.counter l.fn.disk) (g.D.Disk.counter l.disk) ⊥;
+  only : OnlyReads g.D.Disk l.fn.disk l.disk ⊥;
 }
 
 abbrev pub decreases-undone : goal.decreases-undone
