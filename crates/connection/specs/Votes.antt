@@ -1,5 +1,5 @@
 -- What a vote makes of an attempt whose change is ready.
-use Rattle.std.specs.Prelude.{ℕ, ◌≡◌, ◌<◌, ◌⊎◌, false, List, [], ◌∷◌, ◌++◌, length, Option, Some, None}
+use Rattle.std.specs.Prelude.{ℕ, ◌≡◌, ◌<◌, ◌⊎◌, false, [], ◌∷◌, ◌++◌, length, Option, Some, None}
 use Rattle.zbase.specs.declared.ids.Clash.{Clash}
 use Rattle.evaluator.specs.declared.draft.Draft.{Draft}
 use Rattle.evaluator.specs.declared.reply.Reply.{Reply}
@@ -9,7 +9,7 @@ use Rattle.fs_store.specs.declared.refusal.VoteRefusal.{VoteRefusal}
 use Rattle.fs_store.specs.Stores.{IsTold, Loses, Out, Settles, Stands, StoreView, idle}
 use Rattle.fs_store.specs.Verdicts.{validation, tid_at, voted_out}
 use Rattle.connection.specs.declared.refusal.CommitRefusal.{CommitRefusal}
-use Rattle.connection.specs.States.{ActiveView, FreshView, PendingView, clashes_of}
+use Rattle.connection.specs.States.{ActiveView, PendingView, clashes_of}
 
 -- the refusal that applies to an attempt, by its facts: every object that it fetched is validated
 abbrev pub ruling_of : Option Out → StoreView → Option Clash → Draft → Option VoteRefusal

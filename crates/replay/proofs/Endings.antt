@@ -7,9 +7,8 @@ use Rattle.zdisk.specs.Disk.{Told}
 use Rattle.evaluator.specs.Exec.{Eval}
 use Rattle.schedule.specs.declared.line.Line.{Line}
 use Rattle.schedule.specs.Explained.{history_lines}
-use Rattle.schedule.specs.Moments.{lost_lines}
 use Rattle.fs_store.specs.Arming.{disarming}
-use Rattle.fs_store.specs.Stores.{DiskView, IsTold, Out, Settles, StoreView, on_disk, settled}
+use Rattle.fs_store.specs.Stores.{DiskView, IsTold, Settles, StoreView, on_disk, settled}
 use Rattle.connection.specs.Telling.{TellsOn, tells_forth}
 use Rattle.txn_core.specs.Cores.{CoreView, is_taken}
 use Rattle.txn_core.specs.Slots.{Closes, Possible, moment_of}

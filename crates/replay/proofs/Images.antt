@@ -1,9 +1,9 @@
 -- The images of a disk that is opened, once or again behind a stop.
-use Rattle.std.proofs.Common.{◌≡◌, ◌⊎◌, ℕ, ◌≤◌, List, [], length, get_or, Option, Some, None, IfSome, IsSome, refl, sym, ap, subst, ◌∙◌, inl, inr, arith}
+use Rattle.std.proofs.Common.{◌≡◌, ◌⊎◌, ℕ, ◌≤◌, List, length, Option, Some, None, IfSome, IsSome, refl, sym, ap, subst, inl, inr, arith}
 use Rattle.std.proofs.lemmas.List.{ext_get_or}
 use Rattle.std.specs.Option.{option_map}
 use Rattle.zbase.specs.Faults.{Counter, Counts, Spends, no_arms}
-use Rattle.zbase.specs.History.{History, added}
+use Rattle.zbase.specs.History.{History}
 use Rattle.zdisk.specs.Arming.{counter_of, last_seed}
 use Rattle.zdisk.specs.Crashes.{LeavesFrom, Piles}
 use Rattle.zdisk.specs.Disk.{Held, Told, content, synced}
@@ -16,7 +16,7 @@ use Rattle.fs_store.specs.declared.opening.OpenRefusal.{OpenRefusal}
 use Rattle.fs_store.specs.Moments.{EachOpensTo, KeepsGiven, OpensAsKnown, OpensTo}
 use Rattle.fs_store.specs.Opened.{IsRefusedFor, Opens, OpensAs, WhereTold}
 use Rattle.fs_store.specs.StaleLaws.{not_damaged, opened_history}
-use Rattle.fs_store.specs.Stores.{IsTold, Out, StoreView, most_length, settled}
+use Rattle.fs_store.specs.Stores.{IsTold, StoreView, most_length, settled}
 use Rattle.connection.specs.Telling.{tells_forth}
 use Rattle.txn_core.specs.Slots.{IsLeft, Possible}
 use Rattle.replay.specs.Replayed.{Runs}

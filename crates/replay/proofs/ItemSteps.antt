@@ -1,11 +1,11 @@
 -- Items that are run: what was kept before one is kept behind it, with the lines that it printed.
-use Rattle.std.proofs.Common.{◌≡◌, ◌⊎◌, ◌≢◌, ℕ, ◌<◌, true, false, List, [], ◌∷◌, ◌++◌, length, map, Option, Some, None, IfSome, refl, sym, ap, subst, ◌∙◌, inl, inr, slice_get, slice_set, arith}
+use Rattle.std.proofs.Common.{◌≡◌, ◌⊎◌, ◌≢◌, ℕ, ◌<◌, true, false, List, [], ◌∷◌, length, map, Option, Some, IfSome, refl, sym, ap, subst, ◌∙◌, inl, inr, slice_get, slice_set, arith}
 use Rattle.zbase.specs.declared.faults.Arm.{Arm}
 use Rattle.zbase.specs.Faults.{Counter, Counts, IsFaultless, IsWaiting, Spends, Twice}
-use Rattle.zbase.specs.History.{History, IsHistory}
+use Rattle.zbase.specs.History.{IsHistory}
 use Rattle.zdisk.specs.Arming.{armed, left_with}
 use Rattle.zdisk.specs.Crashes.{IsSynced}
-use Rattle.zdisk.specs.Disk.{Told, content}
+use Rattle.zdisk.specs.Disk.{content}
 use Rattle.evaluator.specs.Exec.{Eval}
 use Rattle.http_out.specs.Replies.{answer}
 use Rattle.schedule.specs.declared.item.Item2.{Item2}
@@ -17,7 +17,7 @@ use Rattle.schedule.specs.Stepping.{Opening}
 use Rattle.schedule.specs.StoppedSteps.{is_plain}
 use Rattle.fs_store.specs.Arming.{arming}
 use Rattle.fs_store.specs.Moments.{OpensAsBefore}
-use Rattle.fs_store.specs.Stores.{DiskView, IsTold, Out, StoreView, on_disk, settled}
+use Rattle.fs_store.specs.Stores.{DiskView, IsTold, StoreView, on_disk, settled}
 use Rattle.connection.specs.Telling.{TellsOn, tells_forth}
 use Rattle.txn_core.specs.declared.step_line.StepLine.{StepLine}
 use Rattle.txn_core.specs.Counting.{Lowers, left}
@@ -25,7 +25,7 @@ use Rattle.txn_core.specs.Cores.{CoreView, MayBe, is_taken}
 use Rattle.txn_core.specs.Slots.{Possible, moment_of}
 use Rattle.txn_core.specs.StepLines.{IsCommitLine, IsFaultLine, IsVoteLine, step_lines}
 use Rattle.replay.specs.Handed.{HoldsWhereTold}
-use Rattle.replay.specs.Kept.{GoesOn, Kept}
+use Rattle.replay.specs.Kept.{GoesOn}
 use Rattle.replay.specs.Losing.{lost_marks}
 use Rattle.replay.specs.Printed.{Prints, terms_of}
 use Rattle.replay.specs.Restarts.{Restarts, restart_lines}

@@ -1,5 +1,5 @@
 -- A core that was made anew over what a stop left.
-use Rattle.std.proofs.Common.{◌≡◌, ℕ, false, List, [], ◌∷◌, ◌++◌, length, map, None, Option, Some, refl, sym, ap, subst, ◌∙◌}
+use Rattle.std.proofs.Common.{◌≡◌, ℕ, false, List, [], ◌∷◌, ◌++◌, length, map, None, Option, Some, sym, ap, subst, ◌∙◌}
 use Rattle.zbase.specs.History.{History, IsHistory}
 use Rattle.zbase.specs.Values.{last}
 use Rattle.zdisk.specs.Crashes.{Piles}

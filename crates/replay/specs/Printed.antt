@@ -5,9 +5,8 @@ use Rattle.zbase.specs.History.{History}
 use Rattle.zbase.specs.Values.{last}
 use Rattle.evaluator.specs.Exec.{Eval}
 use Rattle.http_out.specs.Replies.{answer}
-use Rattle.schedule.specs.declared.item.Item2.{Item2}
 use Rattle.schedule.specs.declared.line.Line.{Line}
-use Rattle.schedule.specs.Explained.{Explained, history_lines}
+use Rattle.schedule.specs.Explained.{history_lines}
 use Rattle.schedule.specs.Lines.{report_text}
 use Rattle.schedule.specs.Moments.{Terms, Moment, lost_lines}
 
@@ -18,13 +17,6 @@ Prints old new lines = new ≡ append_known old (report_text lines)
 -- what the reports of an evaluator rest on, over a file that ends there and may have so many bytes
 abbrev pub terms_of : {R : Type 0} → (List ℕ → Option R) → Eval R → ℕ → ℕ → Terms R
 terms_of takes eval limit end = record { takes = takes; eval = eval; answer = answer; limit = limit; opened = end }
-
--- the sink grew by a report that the schedule may have, and that ends in this history
-pub record PrintsReport {R : Type 0} (terms : Terms R) (h0 : History) (items : List Item2) (last : History) (old new : Option (List ℕ)) : Type 0 where
-  pub report : List Line
-  pub explained : Explained terms h0 items report
-  pub ends : explained.end.standing ≡ last
-  pub printed : Prints old new report
 
 -- what opens a report
 abbrev pub opening : History → List Line

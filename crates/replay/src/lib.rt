@@ -13,6 +13,7 @@ mod dumping;
 mod ending;
 mod history_out;
 mod item;
+mod laws;
 mod losing;
 mod printing;
 mod refusal;
@@ -21,5 +22,6 @@ mod restarting;
 mod running;
 
 pub use dumping::{DumpRefusal, dump};
+pub use laws::replayed_requests_keep_pace;
 pub use refusal::RunRefusal;
 pub use running::replay;

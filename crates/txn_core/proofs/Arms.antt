@@ -1,7 +1,7 @@
 -- The arms of a step, whole: what each makes of the worker's slot, whether the store tells or not.
 use Rattle.std.proofs.lemmas.List.{length-append}
-use Rattle.std.proofs.Common.{◌≡◌, ℕ, ◌+◌, ◌<◌, ◌≤◌, List, [], ◌∷◌, ◌++◌, map, length, Option, Some, None, refl, sym, ap, ◌∙◌, subst, arith, slice_get, lit<}
-use Rattle.zbase.specs.History.{History, IsHistory}
+use Rattle.std.proofs.Common.{◌≡◌, ℕ, ◌+◌, ◌<◌, ◌≤◌, List, [], ◌∷◌, ◌++◌, length, Some, None, refl, sym, ap, ◌∙◌, subst, arith, lit<}
+use Rattle.zbase.specs.History.{History}
 use Rattle.zbase.specs.Values.{last, upto}
 use Rattle.zbase.specs.declared.ids.Clash.{Clash}
 use Rattle.evaluator.specs.declared.ask.Ask.{Ask}
@@ -14,16 +14,16 @@ use Rattle.evaluator.specs.Facts.{TrueOf, ask_of, fact}
 use Rattle.schedule.specs.Moments.{Attempt}
 use Rattle.fs_store.specs.declared.refusal.Spent.{Spent}
 use Rattle.fs_store.specs.declared.refusal.VoteRefusal.{VoteRefusal}
-use Rattle.fs_store.specs.Stores.{IsTold, Out, Settles, StoreView, finished, idle, unsettled}
+use Rattle.fs_store.specs.Stores.{IsTold, Settles, StoreView, finished, idle, unsettled}
 use Rattle.connection.specs.Asked.{HasAsked}
 use Rattle.connection.specs.States.{ActiveView, AreSeen, FreshView, PendingView, begun, clashes_of}
-use Rattle.connection.specs.Turns.{IsFactOf, Learns, comes_to, knowing}
+use Rattle.connection.specs.Turns.{Learns, comes_to, knowing}
 use Rattle.connection.specs.Votes.{IsHeldBy, IsRuled, IsVoted}
 use Rattle.txn_core.specs.declared.slot.Slot.{Slot}
 use Rattle.txn_core.specs.declared.step_line.StepLine.{StepLine}
 use Rattle.txn_core.specs.Counting.{IsFinishLine, Lowers, Paces, further_steps, left_of}
 use Rattle.txn_core.specs.Passing.{Passes}
-use Rattle.txn_core.specs.Slots.{ActiveStands, Advances, AsksStand, ChangeStands, ComputedStands, CoreStands, FactsStand, Moves, PendingStands, RestsOn, SlotStands, Waits}
+use Rattle.txn_core.specs.Slots.{ActiveStands, Advances, AsksStand, ChangeStands, ComputedStands, CoreStands, FactsStand, Moves, PendingStands, RestsOn, Waits}
 use Rattle.txn_core.proofs.Lists.{set_same}
 use Rattle.txn_core.proofs.QuietArms.{active_left, after, begin_lowers, begin_moves, computed_lowers, computed_moves, ends_none, fetch_lowers, fetch_moves, idle_moves, one_fact_more, read_moves, stands_quiet}
 use Rattle.txn_core.proofs.Steadiness.{Carries, IsPending, facts_carried, reads_keep, rests_same, settles_none, slot_over}

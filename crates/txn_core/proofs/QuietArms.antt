@@ -11,19 +11,19 @@ use Rattle.evaluator.specs.declared.reply.Reply.{Reply}
 use Rattle.evaluator.specs.Exec.{Eval, most_asks}
 use Rattle.evaluator.specs.Facts.{fact, look}
 use Rattle.schedule.specs.declared.line.Line.{Line}
-use Rattle.schedule.specs.Moments.{Terms, Attempt, Doing, Free, Asking, Vote, Moment, doing, turned, clocked}
-use Rattle.schedule.specs.Stepping.{Told, told, from_doing, from_asking, fails, has_request, held_by, Disk_fails, Trouble, Wants_memory, Steps}
-use Rattle.fs_store.specs.Stores.{Loses, Settles, Stands, StoreView, Out, on_disk}
+use Rattle.schedule.specs.Moments.{Terms, Attempt, Doing, Free, Vote, Moment, doing, turned, clocked}
+use Rattle.schedule.specs.Stepping.{told, from_doing, from_asking, fails, has_request, held_by, Disk_fails, Trouble, Wants_memory, Steps}
+use Rattle.fs_store.specs.Stores.{Loses, Settles, Stands, StoreView, Out}
 use Rattle.connection.specs.declared.conflicts.Conflicts.{Conflicts}
 use Rattle.connection.specs.States.{FreshView, ActiveView, begun, clashes_of}
-use Rattle.connection.specs.Turns.{IsFactOf, Learns, comes_to, knowing}
+use Rattle.connection.specs.Turns.{Learns, comes_to, knowing}
 use Rattle.txn_core.specs.declared.slot.Slot.{Slot}
 use Rattle.txn_core.specs.declared.step_line.StepLine.{StepLine}
 use Rattle.txn_core.specs.Counting.{EndsVote, IsFinishLine, attempt_steps, further_steps}
 use Rattle.txn_core.specs.StepLines.{step_lines}
 use Rattle.txn_core.specs.Slots.{doing_of, reply_at, vote_of, moment_of, SlotStands, CoreStands, HasVoter, Moves, Possible}
 use Rattle.txn_core.proofs.Lists.{get_map, map_set, set_same, get_set, set_other}
-use Rattle.txn_core.proofs.Steadiness.{Carries, IsPending, Rests, alike_self, moment_alike, only, possible_rests, possible_same, possible_settles, rests_here, rests_over, settles_limit, settles_none, settles_out, slot_over}
+use Rattle.txn_core.proofs.Steadiness.{Carries, IsPending, Rests, moment_alike, only, possible_rests, possible_same, possible_settles, rests_here, rests_over, settles_limit, settles_none, settles_out, slot_over}
 
 pub differ : (a b : ℕ) → a ≢ b → (a == b) ≡ false
 differ a b n = go (a == b) refl

@@ -1,20 +1,20 @@
 -- What of the slots keeps standing while the store is called, and what may stand behind a store.
-use Rattle.std.proofs.Common.{◌≡◌, ℕ, ◌+◌, ◌<◌, ◌≤◌, ◌⊎◌, inl, inr, List, [], ◌∷◌, map, Option, None, Some, Bool, true, false, refl, sym, ap, ◌∙◌, subst, arith}
+use Rattle.std.proofs.Common.{◌≡◌, ℕ, ◌+◌, ◌<◌, ◌≤◌, inl, inr, List, Option, None, Some, Bool, true, false, refl, sym, ap, ◌∙◌, subst, arith}
 use Rattle.std.specs.Prelude.{IsSome}
 use Rattle.zbase.specs.Faults.{no_arms}
 use Rattle.zbase.specs.History.{History, IsHistory, added}
-use Rattle.zbase.specs.HistoryLaws.{added_history, last_after-append, last_grows, prefix_added, upto_stays}
+use Rattle.zbase.specs.HistoryLaws.{added_history, last_grows, prefix_added, upto_stays}
 use Rattle.zbase.specs.Values.{last, upto}
 use Rattle.evaluator.specs.Exec.{Eval}
-use Rattle.evaluator.specs.Facts.{TrueOf, ask_of}
+use Rattle.evaluator.specs.Facts.{TrueOf}
 use Rattle.schedule.specs.Moments.{Attempt, Moment}
 use Rattle.fs_store.specs.declared.reads.Seen.{Seen}
 use Rattle.fs_store.specs.Seeing.{IsSeen, SeenOn}
-use Rattle.fs_store.specs.Stores.{IsTold, Loses, Out, Settles, Stands, StoreView, finished, on_disk, settled, staled, unsettled}
+use Rattle.fs_store.specs.Stores.{IsTold, Loses, Out, Settles, Stands, StoreView, finished, on_disk, settled}
 use Rattle.schedule.specs.Asks.{asks_at}
 use Rattle.connection.specs.States.{AreSeen}
 use Rattle.txn_core.specs.declared.slot.Slot.{Slot}
-use Rattle.txn_core.specs.Slots.{AsksStand, CoreStands, FactsStand, HasVoter, Possible, SlotStands, doing_of, moment_of, vote_of}
+use Rattle.txn_core.specs.Slots.{AsksStand, CoreStands, FactsStand, Possible, SlotStands, moment_of}
 
 -- what the one history said up to a transaction, the other says too
 abbrev pub Grows : History → History → Type 0

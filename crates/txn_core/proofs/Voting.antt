@@ -1,9 +1,7 @@
 -- The arms of a worker whose change is ready: what the store's ruling says is what the table says.
-use Rattle.std.proofs.Common.{◌≡◌, ◌≢◌, ℕ, ◌+◌, ◌-◌, ◌*◌, ◌<◌, ◌≤◌, ◌==◌, ◌&&◌, Bool, true, false, cond, List, [], ◌∷◌, ◌++◌, Option, Some, None, refl, sym, ap, ◌∙◌, subst, inl, inr, map, length, slice_get, slice_set, arith, nat_lt}
+use Rattle.std.proofs.Common.{◌≡◌, ◌≢◌, ℕ, ◌+◌, ◌-◌, ◌*◌, ◌<◌, ◌==◌, ◌&&◌, Bool, true, false, cond, List, [], ◌∷◌, ◌++◌, Option, Some, None, refl, sym, ap, ◌∙◌, subst, inl, inr, map, length, slice_get, slice_set, arith, nat_lt}
 use Rattle.std.proofs.lemmas.Bool.Decides.{nat_tests}
-use Rattle.std.proofs.lemmas.List.{length-set, length-append}
-use Rattle.zbase.specs.History.{added}
-use Rattle.zbase.specs.HistoryLaws.{last_after-append}
+use Rattle.std.proofs.lemmas.List.{length-set}
 use Rattle.zbase.specs.Limits.{greatest_number}
 use Rattle.zbase.specs.Values.{last, next}
 use Rattle.zbase.specs.declared.ids.Clash.{Clash}
@@ -14,7 +12,7 @@ use Rattle.evaluator.specs.declared.reply.Reply.{Reply}
 use Rattle.evaluator.specs.declared.ask.Ask.{Ask}
 use Rattle.evaluator.specs.declared.fact.Fact.{Fact}
 use Rattle.evaluator.specs.Change.{IsChange, IsReply, made}
-use Rattle.evaluator.specs.Exec.{Eval, most_asks}
+use Rattle.evaluator.specs.Exec.{Eval}
 use Rattle.evaluator.specs.Facts.{look}
 use Rattle.evaluator.specs.Settle.{settle, size}
 use Rattle.schedule.specs.declared.line.Line.{Line}
@@ -31,9 +29,9 @@ use Rattle.connection.specs.Turns.{comes_to}
 use Rattle.connection.specs.Votes.{ruling, ruling_of}
 use Rattle.txn_core.specs.declared.slot.Slot.{Slot}
 use Rattle.txn_core.specs.declared.step_line.StepLine.{StepLine}
-use Rattle.txn_core.specs.Counting.{attempt_steps, further_steps, left_of}
+use Rattle.txn_core.specs.Counting.{attempt_steps, further_steps}
 use Rattle.txn_core.specs.StepLines.{latest_of, spent_line, spent_reply, step_lines}
-use Rattle.txn_core.specs.Slots.{draft_of, computed_of, doing_of, reply_at, vote_of, moment_of, AsksStand, ChangeStands, ComputedStands, PendingStands, Possible, SlotStands, CoreStands, HasVoter, Moves}
+use Rattle.txn_core.specs.Slots.{draft_of, computed_of, doing_of, reply_at, vote_of, moment_of, AsksStand, ChangeStands, ComputedStands, PendingStands, Possible, SlotStands, CoreStands, Moves}
 use Rattle.txn_core.proofs.Lists.{get_map, map_set, set_same, get_set, get_set_same}
 use Rattle.txn_core.proofs.Steadiness.{Carries, IsPending, asks_carried, only, slot_free}
 use Rattle.txn_core.proofs.QuietArms.{HoldsNone, differ, holds_none, parts, told_at, quiet_fresh}

@@ -1,5 +1,5 @@
 -- In which order the answers of a worker come: what each answer makes of the worker's slot, whatever the disk tells.
-use Rattle.std.specs.Prelude.{◌≡◌, ◌<◌, List, [], ◌∷◌, ◌++◌, length, Some}
+use Rattle.std.specs.Prelude.{◌≡◌, ◌<◌, [], ◌∷◌, ◌++◌, length, Some}
 use Rattle.zbase.specs.declared.ids.Clash.{Clash}
 use Rattle.evaluator.specs.declared.draft.Draft.{Draft}
 use Rattle.evaluator.specs.declared.fact.Fact.{Fact}

@@ -1,4 +1,3 @@
-use Rattle.std.proofs.Common.{◌∙◌, Err, ap}
 use Rattle.replay.specs.Replayed.{Breaks}
 use Rattle.replay.proofs.Flushing.{flushed, none_due}
 use Rattle.replay.proofs.OpenedRuns.{flushed_replays}

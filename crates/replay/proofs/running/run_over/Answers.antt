@@ -1,4 +1,4 @@
-use Rattle.std.proofs.Common.{◌≡◌, subst, sym}
+use Rattle.std.proofs.Common.{subst, sym}
 use Rattle.zbase.specs.Faults.{counts_as, counts_then}
 use Rattle.zbase.specs.History.{IsHistory}
 use Rattle.fs_store.specs.Moments.{OpensTo}

@@ -1,5 +1,4 @@
-use Rattle.std.proofs.Common.{◌≡◌, List, ◌∷◌, ◌++◌, [], length, refl}
-use Rattle.zbase.specs.declared.ids.Clash.{Clash}
+use Rattle.std.proofs.Common.{◌≡◌, ◌∷◌, ◌++◌, [], length, refl}
 use Rattle.connection.specs.States.{ActiveView}
 use Rattle.connection.proofs.active.Active.again.Goals as goal
 

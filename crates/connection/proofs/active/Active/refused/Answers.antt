@@ -1,5 +1,4 @@
 use Rattle.std.proofs.Common.{refl, inl, inr}
-use Rattle.schedule.specs.Moments.{Attempt}
 use Rattle.connection.specs.States.{ActiveView}
 use Rattle.fs_store.specs.declared.refusal.VoteRefusal.{VoteRefusal}
 use Rattle.connection.proofs.Validating.{ruled_as}

@@ -1,4 +1,4 @@
-use Rattle.std.proofs.Common.{◌≡◌, List, map, sym, ◌∙◌, refl, ap, Some, subst}
+use Rattle.std.proofs.Common.{map, sym, ◌∙◌, refl, ap, Some, subst}
 use Rattle.std.proofs.lemmas.List.Elements.{All-same}
 use Rattle.zbase.specs.Faults.{counts_as}
 use Rattle.schedule.specs.Moments.{Attempt}

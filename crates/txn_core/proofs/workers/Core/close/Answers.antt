@@ -1,4 +1,4 @@
-use Rattle.std.proofs.Common.{◌≡◌, Bool, true, false, subst}
+use Rattle.std.proofs.Common.{◌≡◌, true, false, subst}
 use Rattle.zbase.specs.Faults.{counts_as}
 use Rattle.txn_core.specs.Slots.{Closes}
 use Rattle.txn_core.proofs.Endings.{closing_all}

@@ -1,6 +1,3 @@
-use Rattle.std.proofs.Common.{◌≡◌, sym, subst}
-use Rattle.zbase.specs.Faults.{Counts}
-use Rattle.connection.specs.Telling.{TellsOn}
 use Rattle.txn_core.proofs.Endings.{closing_all, images_open}
 use Rattle.txn_core.proofs.workers.Core.lose.Goals as goal
 
