@@ -10,6 +10,7 @@ mod looks;
 mod naming;
 mod refusal;
 mod request;
+mod showing;
 mod stack;
 mod val;
 mod word;

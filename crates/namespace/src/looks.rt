@@ -1,5 +1,4 @@
-ghost use Rattle.std.specs.Prelude.{◌≡◌, ℕ, List, IfErr, IfOk, Ok, OnOk, Option, nat_eq};
-ghost use Rattle.std.specs.List.{list_any};
+ghost use Rattle.std.specs.Prelude.{◌≡◌, ℕ, List, IfErr, IfOk, Ok, Option};
 ghost use Rattle.zbase.specs.Query.{run, Answers, Told};
 ghost use Rattle.zobject.specs.declared.object.Object.{Object as ObjectValue};
 ghost use Rattle.zobject.specs.Shapes.{shape_of};
@@ -8,15 +7,14 @@ ghost use Rattle.evaluator.specs.declared.reply.Shown.{Shown as ShownObject};
 ghost use Rattle.acquisition.specs.Acquiring as acquiring;
 ghost use Rattle.permissions.specs.Verdicts.{verdict_on};
 ghost use Rattle.permissions.specs.declared.who.Verdict.TheVariants as verdicts;
-ghost use Rattle.permissions.specs.declared.who.Who.{Who as User};
 ghost use Rattle.namespace.specs.Looks as looks;
 ghost use Rattle.namespace.specs.Looks.{looked, outlined};
 ghost use Rattle.namespace.specs.Names as spec;
 ghost use Rattle.namespace.specs.Told.{told, OnlyAnswers, Shows};
 
 use crate::refusal::NameRefusal;
+use crate::showing::Showing;
 use acquisition::{Wrapped, here};
-use evaluator::{Shown, ShownList};
 use permissions::{Verdict, Who, verdict_on};
 use std::alloc::Global;
 use zbase::{Memory, Oid, Text};
@@ -63,23 +61,6 @@ pub(crate) fn reach(known: &Known, whole: &Wrapped, oid: Oid) -> Result<Wrapped,
     Ok(found)
 }
 
-fn is_shown(shown: &[Shown], oid: Oid) -> bool
-    ensures { result ≡ list_any (λ (s : ShownObject). nat_eq s.oid oid) shown.now }
-{
-    shown.iter().any(|object| object.oid == oid)
-}
-
-/// An object is shown by a role; its first use counts. For want of memory all stays as it was.
-pub(crate) fn take(shown: &mut ShownList, oid: Oid, role: Text) -> Result<(), Memory>
-    ensures taken { OnOk result ((who : User) → shown.new ≡ looks.taken who oid role shown.old) }
-    ensures shown { OnlyAnswers shown.old shown.new result }
-{
-    if is_shown(shown.as_slice(), oid) {
-        return Ok(());
-    }
-    shown.push(Shown { oid, role })
-}
-
 // What a verdict lets be entered.
 fn entered(oid: Oid, verdict: Verdict) -> Result<(), NameRefusal>
     ensures { (known : ℕ → Option (Seen ObjectValue)) (shown : List ShownObject) → Shows told (λ u. tt {0}) shown result (run known (looks.entered oid (looks.through looks.taken shown (looks.Done tt)) verdict)) }
@@ -123,7 +104,7 @@ pub(crate) fn view<'k>(
     alloc: Global,
     known: &'k Known,
     who: &Who,
-    shown: &mut ShownList,
+    shown: &mut Showing,
     oid: Oid,
 ) -> Result<&'k Object, NameRefusal>
     ensures is { Shows told (λ o. o.now) shown.new result (looked (objects known.now) shown.old (spec.viewing who.now oid)) }
@@ -131,23 +112,18 @@ pub(crate) fn view<'k>(
 {
     let role = view_role(alloc, known, who, oid)?;
     let object = here(known, oid)?;
-    take(shown, oid, role)?;
+    shown.take(oid, role)?;
     Ok(object)
 }
 
-fn offered(
-    who: &Who,
-    shown: &mut ShownList,
-    oid: Oid,
-    verdict: Verdict,
-) -> Result<bool, NameRefusal>
+fn offered(who: &Who, shown: &mut Showing, oid: Oid, verdict: Verdict) -> Result<bool, NameRefusal>
     ensures is { (known : ℕ → Option (Seen ObjectValue)) → Shows told (λ b. b) shown.new result (run known (looks.offered looks.taken who.now shown.old oid (λ s granted. looks.through looks.taken s (looks.Done granted)) verdict)) }
     ensures shown { OnlyAnswers shown.old shown.new result }
 {
     match verdict {
         Verdict::Denied(_) => Ok(false),
         Verdict::Granted(role) => {
-            take(shown, oid, role)?;
+            shown.take(oid, role)?;
             Ok(true)
         }
     }
@@ -159,7 +135,7 @@ pub(crate) fn offer(
     alloc: Global,
     known: &Known,
     who: &Who,
-    shown: &mut ShownList,
+    shown: &mut Showing,
     oid: Oid,
 ) -> Result<bool, NameRefusal>
     ensures is { Shows told (λ b. b) shown.new result (looked (objects known.now) shown.old (spec.offering who.now oid)) }

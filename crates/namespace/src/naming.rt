@@ -10,12 +10,12 @@ ghost use Rattle.namespace.specs.Looks.{looked};
 ghost use Rattle.namespace.specs.Names as spec;
 ghost use Rattle.namespace.specs.Told.{told, OnlyHits, Shows};
 
-use crate::looks::{enter, reach, see, take, view_role};
+use crate::looks::{enter, reach, see, view_role};
 use crate::refusal::NameRefusal;
+use crate::showing::Showing;
 use crate::val::{Single, Singles, Val};
 use crate::word::{Word, word_of};
 use acquisition::Wrapped;
-use evaluator::ShownList;
 use permissions::Who;
 use std::alloc::Global;
 use zbase::{Items, Memory, Oid, Text};
@@ -44,7 +44,7 @@ fn title(
     alloc: Global,
     known: &Known,
     who: &Who,
-    shown: &mut ShownList,
+    shown: &mut Showing,
     oid: Oid,
     object: &Object,
 ) -> Result<Option<Val>, NameRefusal>
@@ -54,7 +54,7 @@ fn title(
 {
     let role = view_role(alloc, known, who, oid)?;
     let title = text_value(&object.title)?;
-    take(shown, oid, role)?;
+    shown.take(oid, role)?;
     Ok(Some(title))
 }
 
@@ -64,7 +64,7 @@ fn title_or_else_id(
     alloc: Global,
     known: &Known,
     who: &Who,
-    shown: &mut ShownList,
+    shown: &mut Showing,
     oid: Oid,
     object: &Object,
 ) -> Result<Option<Val>, NameRefusal>
@@ -74,7 +74,7 @@ fn title_or_else_id(
 {
     let role = view_role(alloc, known, who, oid)?;
     let title = text_value(title_or_id(object))?;
-    take(shown, oid, role)?;
+    shown.take(oid, role)?;
     Ok(Some(title))
 }
 
@@ -195,7 +195,7 @@ fn viewed_property(
     alloc: Global,
     known: &Known,
     who: &Who,
-    shown: &mut ShownList,
+    shown: &mut Showing,
     name: &str,
     oid: Oid,
     object: &Object,
@@ -208,7 +208,7 @@ fn viewed_property(
 {
     let role = view_role(alloc, known, who, oid)?;
     let value = value_of(alloc, &property.value)?;
-    take(shown, oid, role)?;
+    shown.take(oid, role)?;
     Ok(Some(value))
 }
 
@@ -230,7 +230,7 @@ fn property_or_child(
     alloc: Global,
     known: &Known,
     who: &Who,
-    shown: &mut ShownList,
+    shown: &mut Showing,
     name: &str,
     whole: &Wrapped,
     oid: Oid,
@@ -251,7 +251,7 @@ fn by_word(
     alloc: Global,
     known: &Known,
     who: &Who,
-    shown: &mut ShownList,
+    shown: &mut Showing,
     name: &str,
     whole: &Wrapped,
     oid: Oid,
@@ -277,7 +277,7 @@ fn in_one(
     alloc: Global,
     known: &Known,
     who: &Who,
-    shown: &mut ShownList,
+    shown: &mut Showing,
     name: &str,
     whole: &Wrapped,
     oid: Oid,
@@ -295,7 +295,7 @@ fn search(
     alloc: Global,
     known: &Known,
     who: &Who,
-    shown: &mut ShownList,
+    shown: &mut Showing,
     name: &str,
     whole: &Wrapped,
 ) -> Result<Option<Val>, NameRefusal>
@@ -320,7 +320,7 @@ pub(crate) fn in_object(
     alloc: Global,
     known: &Known,
     who: &Who,
-    shown: &mut ShownList,
+    shown: &mut Showing,
     name: &str,
     whole: &Wrapped,
 ) -> Result<Option<Val>, NameRefusal>

@@ -11,6 +11,7 @@ ghost use Rattle.namespace.specs.declared.val.Layer.TheVariants as layer;
 use crate::looks::{offer, view};
 use crate::naming::in_object;
 use crate::refusal::NameRefusal;
+use crate::showing::Showing;
 use crate::val::{Layer, Named, Names, Val};
 use acquisition::Wrapped;
 use evaluator::ShownList;
@@ -34,7 +35,7 @@ pub struct Stack {
     layers: Vec<Layer>,
     client: Wrapped,
     request: Names,
-    shown: ShownList,
+    shown: Showing,
 }
 
 impl Model for Stack {
@@ -78,7 +79,7 @@ fn in_layer(
     alloc: Global,
     known: &Known,
     who: &Who,
-    shown: &mut ShownList,
+    shown: &mut Showing,
     name: &str,
     layer: &Layer,
 ) -> Result<Option<Val>, NameRefusal>
@@ -97,7 +98,7 @@ fn in_layers(
     alloc: Global,
     known: &Known,
     who: &Who,
-    shown: &mut ShownList,
+    shown: &mut Showing,
     name: &str,
     layers: &[Layer],
 ) -> Result<Option<Val>, NameRefusal>
@@ -121,7 +122,7 @@ fn in_base(
     alloc: Global,
     known: &Known,
     who: &Who,
-    shown: &mut ShownList,
+    shown: &mut Showing,
     name: &str,
     client: &Wrapped,
     request: &[Named],
@@ -142,7 +143,7 @@ fn find_in(
     alloc: Global,
     known: &Known,
     who: &Who,
-    shown: &mut ShownList,
+    shown: &mut Showing,
     name: &str,
     layers: &[Layer],
     client: &Wrapped,
@@ -170,7 +171,7 @@ impl Stack {
             layers: Vec::new(alloc),
             client,
             request,
-            shown: ShownList::new(alloc),
+            shown: Showing::new(alloc),
         }
     }
 
@@ -291,6 +292,6 @@ impl Stack {
     pub fn shown(&self) -> &ShownList
         ensures { result.now ≡ self.now.shown }
     {
-        &self.shown
+        self.shown.list()
     }
 }

@@ -15,5 +15,5 @@ returns-in_err-role-clause-is c =
 pub returns-clause-is : goal.returns-clause-is
 unfolding title_in
 returns-clause-is c =
-    view_goes (objects c.args.known.now) c.args.who.now c.args.oid c.in_ok-role.role c.args.object.now c.args.shown.now c.take.new.shown (λ object. Done (Some (text object.title))) (Some c.in_ok-title.title)
+    view_goes (objects c.args.known.now) c.args.who.now c.args.oid c.in_ok-role.role c.args.object.now c.args.shown.now c.take.new.self (λ object. Done (Some (text object.title))) (Some c.in_ok-title.title)
     c.in_ok-role.ensures.ok c.requires (ap (λ v. Done (Some v)) (sym (c.in_ok-title.ensures))) c.in_ok-take.ensures.taken

@@ -16,5 +16,5 @@ returns-in_err-role-clause-is c =
 pub returns-clause-is : goal.returns-clause-is
 unfolding property_in
 returns-clause-is c =
-    view_goes (objects c.args.known.now) c.args.who.now c.args.oid c.in_ok-role.role c.args.object.now c.args.shown.now c.take.new.shown (λ object. Done (property_value c.args.name.now object.properties)) (Some c.in_ok-value.value)
+    view_goes (objects c.args.known.now) c.args.who.now c.args.oid c.in_ok-role.role c.args.object.now c.args.shown.now c.take.new.self (λ object. Done (property_value c.args.name.now object.properties)) (Some c.in_ok-value.value)
     c.in_ok-role.ensures.ok c.requires.here (ap (λ found. Done (option_map (λ (p : Property). value_of p.value) found)) c.requires.found ∙ ap (λ v. Done (Some v)) (sym c.in_ok-value.ensures)) c.in_ok-take.ensures.taken

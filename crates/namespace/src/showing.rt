@@ -1,0 +1,83 @@
+ghost use Rattle.std.specs.Prelude.{◌≡◌, ◌++◌, ◌∷◌, [], false, nat_eq, OnOk, OnErr};
+ghost use Rattle.std.specs.List.{list_any};
+ghost use Rattle.evaluator.specs.declared.reply.Shown.{Shown as ShownObject};
+ghost use Rattle.permissions.specs.declared.who.Who.{Who as User};
+ghost use Rattle.namespace.specs.Looks as looks;
+ghost use Rattle.namespace.specs.Told.{OnlyAnswers};
+
+use evaluator::{Shown, ShownList};
+use std::alloc::Global;
+use std::collections::BTreeSet;
+use std::marker::Model;
+use zbase::{Memory, Oid, Text};
+
+/// The objects that a page shows, each once, in the order of their first uses. A set tells whether one is among them, so
+/// that a page of many objects doesn't look through all of them at each use.
+#[derive(Debug, Drop)]
+pub(crate) struct Showing {
+    list: ShownList,
+    oids: BTreeSet<u64>,
+}
+
+impl Model for Showing {
+    ghost use Rattle.std.specs.Prelude.{◌≡◌, ℕ, List, nat_eq};
+    ghost use Rattle.std.specs.List.{list_any};
+    ghost use Rattle.std.specs.Ordering.{nat_cmp};
+    ghost use Rattle.std.specs.BTreeSet.{contains};
+    ghost use Rattle.evaluator.specs.declared.reply.Shown.{Shown as ShownObject};
+
+    ghost Value = { List ShownObject };
+
+    ghost view = { λ s. s.list };
+
+    ghost invariant = { λ s. (o : ℕ) → contains nat_cmp s.oids o ≡ list_any (λ (x : ShownObject). nat_eq x.oid o) s.list };
+}
+
+impl Showing {
+    /// Nothing was shown. Takes no memory.
+    pub(crate) fn new(alloc: Global) -> Showing
+        ensures { result ≡ [] }
+    {
+        Showing {
+            list: ShownList::new(alloc),
+            oids: BTreeSet::new(alloc),
+        }
+    }
+
+    /// The objects. Takes no memory.
+    pub(crate) fn list(&self) -> &ShownList
+        ensures { result.now ≡ self.now }
+    {
+        &self.list
+    }
+
+    fn has(&self, oid: Oid) -> bool
+        ensures { result ≡ list_any (λ (s : ShownObject). nat_eq s.oid oid) self.now }
+    {
+        self.oids.contains(&oid.0)
+    }
+
+    fn add(&mut self, oid: Oid, role: Text) -> Result<(), Memory>
+        requires { list_any (λ (s : ShownObject). nat_eq s.oid oid) self.old ≡ false }
+        ensures added { OnOk result (self.new ≡ self.old ++ record { oid = oid; role = role } ∷ []) }
+        ensures kept { OnErr result (self.new ≡ self.old) }
+    {
+        self.oids.insert(oid.0)?;
+        let added = self.list.push(Shown { oid, role });
+        if added.is_err() {
+            self.oids.remove(&oid.0);
+        }
+        added
+    }
+
+    /// An object is shown by a role; its first use counts. For want of memory all stays as it was.
+    pub(crate) fn take(&mut self, oid: Oid, role: Text) -> Result<(), Memory>
+        ensures taken { OnOk result ((who : User) → self.new ≡ looks.taken who oid role self.old) }
+        ensures shown { OnlyAnswers self.old self.new result }
+    {
+        if self.has(oid) {
+            return Ok(());
+        }
+        self.add(oid, role)
+    }
+}
