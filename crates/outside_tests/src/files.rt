@@ -131,7 +131,9 @@ fn a_file_of_the_system_keeps_its_changes(rt: HostRuntime) -> Result<(), Fail> {
 /// The length of the file of that name.
 fn length_of<F: Shelf>(shelf: &mut F, name: &str) -> Result<u64, ShelfRefusal> {
     let mut disk = shelf.open(name)?;
-    Ok(disk.len()?)
+    let len = disk.len();
+    shelf.close(name, disk)?;
+    Ok(len?)
 }
 
 #[test]
@@ -177,8 +179,10 @@ fn called<S: Shelf>(
         return length_of(shelf, name);
     }
     let mut disk = shelf.create(name)?;
-    match make_change(&mut disk, Change::Write(0, b"12")) {
-        Ok(()) => Ok(disk.len()?),
+    let changed = make_change(&mut disk, Change::Write(0, b"12"));
+    shelf.close(name, disk)?;
+    match changed {
+        Ok(()) => length_of(shelf, name),
         Err(Unchanged::Memory) => Err(ShelfRefusal::Memory),
         Err(_) => Err(ShelfRefusal::Failed),
     }
@@ -220,6 +224,7 @@ fn a_shelf_in_memory_makes_and_replaces_files(rt: HostRuntime) -> Result<(), Fai
     })?;
     let mut shelf = MemoryShelf::new(alloc, files, FaultPlan::none(alloc));
     assert_eq!(rt; calls_answered(alloc, &mut shelf, "")?, 11);
+    assert_eq!(rt; length_of(&mut shelf, "a"), Ok(2));
     Ok(())
 }
 

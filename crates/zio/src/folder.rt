@@ -5,7 +5,7 @@ use crate::{Shelf, ShelfRefusal};
 use std::fs::{self, OpenFile, OpenOptions};
 use std::io::{self, ErrorKind};
 use std::rt::Files;
-use zbase::FaultCount;
+use zbase::{FaultCount, Memory};
 use zdisk::FileDisk;
 
 /// The files of the system, by their paths. It tells only how often it has failed.
@@ -53,6 +53,11 @@ impl<R: Files> Shelf for Folder<R> {
             Err(error) if error.kind() == ErrorKind::AlreadyExists => Err(ShelfRefusal::Exists),
             Err(_) => Err(self.faults.fault().into()),
         }
+    }
+
+    fn close(&mut self, _name: &str, _disk: FileDisk<R::File>) -> Result<(), Memory> {
+        // What was written stands in the file.
+        Ok(())
     }
 
     fn replace(&mut self, new: &str, main: &str) -> Result<(), ShelfRefusal> {

@@ -2,7 +2,9 @@ ghost use Rattle.std.specs.Prelude.{◌≡◌, [], IfOk, IfSome, None, Some, fil
 ghost use Rattle.std.specs.Option.{option_copied};
 ghost use Rattle.std.specs.declared.option.Option.{Option};
 ghost use Rattle.zbase.specs.Faults.{IsFaultless};
-ghost use Rattle.zdisk.specs.Disk.{synced};
+ghost use Rattle.std.specs.List.{position};
+ghost use Rattle.std.specs.Str.{bytes_eq};
+ghost use Rattle.zdisk.specs.Disk.{content, synced};
 ghost use Rattle.zio.specs.Shelves.{file_at, is_other};
 ghost use Rattle.zio.specs.MemoryShelves.{HaveSoundDisks, NeverFails, entries, entry};
 
@@ -25,8 +27,9 @@ pub struct MemoryFile {
 
 /// Files in memory, which it tells.
 ///
-/// A disk that it hands out has a copy of the file's bytes, and what is written on it isn't the shelf's. Each call about a
-/// file that is there, or that isn't there yet and is to be made, counts as one of the plan.
+/// A disk that it hands out has a copy of the file's bytes, and what is written on it is the shelf's once the disk is closed.
+/// Each call about a file that is there, or that isn't there yet and is to be made, counts as one of the plan; to close a
+/// disk counts as none. A disk that a stop has hit has nothing to read: its file stays, as for want of memory.
 #[derive(Drop)]
 pub struct MemoryShelf {
     files: Vec<MemoryFile>,
@@ -48,6 +51,13 @@ impl MemoryShelf {
             plan,
             alloc,
         }
+    }
+
+    /// The files, as the shelf tells them.
+    pub fn files(&self) -> &[MemoryFile]
+        ensures { ⟦<MemoryShelf as Shelf>⟧.files self.now ≡ Some (entries result.now) }
+    {
+        self.files.as_slice()
     }
 
     /// The same shelf, on which each new file has a disk whose call with this number is to fail.
@@ -98,6 +108,14 @@ impl Shelf for MemoryShelf {
             Ok(()) => Ok(disk),
             Err(_) => Err(ShelfRefusal::Memory),
         }
+    }
+
+    fn close(&mut self, name: &str, disk: MemoryDisk) -> Result<(), Memory> {
+        let bytes = bytes_on(self.alloc, disk)?;
+        if let Some(place) = place_of(&self.files, name) {
+            self.files[place].bytes = bytes;
+        }
+        Ok(())
     }
 
     fn replace(&mut self, new: &str, main: &str) -> Result<(), ShelfRefusal> {
@@ -179,6 +197,24 @@ fn find_file<'a>(files: &'a [MemoryFile], name: &str) -> Option<&'a MemoryFile>
         }
     }
     None
+}
+
+// The place of the first file of that name.
+fn place_of(files: &[MemoryFile], name: &str) -> Option<usize>
+    ensures { result ≡ position (λ file. bytes_eq file.name name.now) files.now }
+{
+    files.iter().position(|file| file.name.as_str() == name)
+}
+
+// What a disk reads, once nothing is armed on it.
+fn bytes_on(alloc: Global, mut disk: MemoryDisk) -> Result<Bytes, Memory>
+    ensures { IfOk result (λ bytes. IfSome (⟦<MemoryDisk as Disk>⟧.told disk) (λ told. bytes ≡ content told)) }
+{
+    disk.disarm();
+    let len = disk.len().map_err(|_| Memory)?;
+    let mut bytes = vec![in alloc; 0; len as usize]?;
+    disk.read_at(0, &mut bytes).map_err(|_| Memory)?;
+    Ok(Bytes::from_vec(bytes))
 }
 
 // A disk over a copy of a file.

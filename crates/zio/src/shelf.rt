@@ -1,15 +1,20 @@
 ghost use Rattle.std.specs.Prelude.{◌≡◌, ◌⊎◌, ◌++◌, ◌∷◌, [], List, ℕ, None, Some, IfOk, IfSome, IsErrOf, OnErr, OnOk, option_map};
+ghost use Rattle.std.specs.Option.{ForSome};
 ghost use Rattle.std.specs.declared.option.Option.{Option};
 ghost use Rattle.zbase.specs.Faults.{Counter, Counts, IsFaultless};
 ghost use Rattle.zdisk.specs.Disk.{synced};
-ghost use Rattle.zio.specs.Shelves.{Entry, Replaces, file_at};
+ghost use Rattle.zio.specs.Shelves.{Entry, Replaces, TakesBack, file_at};
 
 use crate::ShelfRefusal;
+use zbase::Memory;
 use zdisk::Disk;
 
 /// Where files stand under their names, as a folder of the system.
+///
+/// A disk that it hands out is given back by `close`: where the shelf tells, what was written on the disk is told from then
+/// on. So a caller that knows no more of a shelf than this can't let go of a disk, and what it leaves in the files is told.
 pub trait Shelf {
-    type D: Disk + Drop;
+    type D: Disk;
 
     /// The files, where the shelf tells.
     ghost files: { Self → Option (List Entry) };
@@ -34,12 +39,13 @@ pub trait Shelf {
         ensures same { files self.new ≡ files self.old }
         ensures counts { Counts (counter self.old) (counter self.new) (IsErrOf result ShelfRefusal.Failed) };
 
-    /// A disk over a new file of that name, which is empty. The name stands behind a stop at any later moment. The shelf
-    /// tells the file as it is handed out.
+    /// A disk over a new file of that name, which is empty. The name stands behind a stop at any later moment. Until the
+    /// disk is given back the shelf tells the file as it is handed out.
     ///
     /// `Exists` comes exactly where the shelf, if it tells, has a file of that name, want of memory aside.
     fn create(&mut self, name: &str) -> Result<Self::D, ShelfRefusal>
-        ensures empty { IfOk result (λ disk. IfSome (files self.old) (λ _. Self.D.told disk ≡ Some (synced []))) }
+        ensures empty { IfOk result (λ disk. ForSome (Self.D.told disk) (λ told. told ≡ synced [])) }
+        ensures told { IfOk result (λ disk. IfSome (files self.old) (λ _. Self.D.told disk ≡ Some (synced []))) }
         ensures new { OnOk result (IfSome (files self.old) (λ all. file_at all name.now ≡ None)) }
         ensures made { OnOk result (files self.new ≡ option_map (λ all. all ++ (name.now, []) ∷ []) (files self.old)) }
         ensures exists { IsErrOf result ShelfRefusal.Exists → IfSome (files self.old) (λ all. file_at all name.now ≡ None → ⊥) }
@@ -49,6 +55,14 @@ pub trait Shelf {
         ensures sound { sound_disks self.old → IfOk result (λ disk. IsFaultless (Self.D.counter disk)) }
         ensures stays_sound { sound_disks self.old → sound_disks self.new }
         ensures counts { Counts (counter self.old) (counter self.new) (IsErrOf result ShelfRefusal.Failed) };
+
+    /// Takes back a disk over the file of that name, for which it was handed out. Where the shelf tells, the file has from
+    /// then on the bytes that the disk reads; for want of memory it tells what it told.
+    fn close(&mut self, name: &str, disk: Self::D) -> Result<(), Memory>
+        ensures closed { OnOk result (TakesBack (files self.old) name.now (Self.D.told disk) (files self.new)) }
+        ensures kept { OnErr result (files self.new ≡ files self.old) }
+        ensures stays_sound { sound_disks self.old → sound_disks self.new }
+        ensures uncounted { counter self.new ≡ counter self.old };
 
     /// Puts the one file whole in the place of the other, whether or not there is such a one; from then on there is none
     /// under its own name. A stop leaves the place as it was, or with the new file, and a stop at any later moment leaves

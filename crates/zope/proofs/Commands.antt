@@ -1,15 +1,18 @@
 -- What a command over a file did is what its words ask for.
-use Rattle.std.proofs.Common.{ℕ, List, Result, Ok, Err, inl, inr}
+use Rattle.std.proofs.Common.{◌≡◌, ◌∙◌, ℕ, List, Option, Some, None, Result, Ok, Err, inl, inr, subst, sym}
+use Rattle.std.specs.Io.KnownBytes.{append_known}
 use Rattle.std.specs.Prelude.{IfErr, OnOk}
 use Rattle.zope.specs.declared.refusal.Refusal.{Refusal}
-use Rattle.zope.specs.Causes.{Cause, Did}
+use Rattle.zope.specs.Causes.{Cause, Did, Names, last_line}
 use Rattle.zope.specs.CheckCauses.{CheckCause}
 use Rattle.zope.specs.DumpCauses.{DumpCause, Dumped}
 use Rattle.zope.specs.Numbers.{NumbersPrinted}
+use Rattle.zope.specs.MakeCauses.{Made, MakeCause}
 use Rattle.zope.specs.Outside.{DiskFailed, OutsideView, SinkFailed, SourceFailed}
 use Rattle.zope.specs.ReplayCauses.{ReplayCause}
 use Rattle.zope.specs.Replayed.{Replayed}
-use Rattle.zope.specs.Words.{IsCheckOf, IsDumpOf, IsReplayWith}
+use Rattle.zope.specs.Words.{IsCheckOf, IsCommand, IsDumpOf, IsInitOf, IsOf, IsReplayWith, file_in}
+use Rattle.words.specs.Asking.{Asked, Check, Dump, Init, Replay, asked_of}
 
 pub replay_did : {T E : Type 0} (words : List (List ℕ)) (name : List ℕ) (limit : ℕ) (old new : OutsideView) (r : Result T E) → IsReplayWith words name limit → OnOk r (Replayed name limit old.files old.input old.written new.written) → OnOk r (Did words old new)
 replay_did words name limit old new (Ok x) is replayed = inl (name, limit, is, replayed)
@@ -28,9 +31,36 @@ check_caused words name old new (Ok x) is cause = tt
 check_caused words name old new (Err e) is cause = inr (inr (inl (name, is, cause)))
 
 pub dump_did : {T E : Type 0} (words : List (List ℕ)) (name : List ℕ) (old new : OutsideView) (r : Result T E) → IsDumpOf words name → OnOk r (Dumped name old.files old.written new.written) → OnOk r (Did words old new)
-dump_did words name old new (Ok x) is printed = inr (inr (name, is, printed))
+dump_did words name old new (Ok x) is printed = inr (inr (inl (name, is, printed)))
 dump_did words name old new (Err e) is printed = tt
 
 pub dump_caused : {T : Type 0} (words : List (List ℕ)) (name : List ℕ) (old new : OutsideView) (r : Result T Refusal) → IsDumpOf words name → IfErr r (DumpCause name old.files (SinkFailed old new) (DiskFailed old new) old.written new.written) → IfErr r (Cause words old new new.written)
 dump_caused words name old new (Ok x) is cause = tt
-dump_caused words name old new (Err e) is cause = inr (inr (inr (name, is, cause)))
+dump_caused words name old new (Err e) is cause = inr (inr (inr (inl (name, is, cause))))
+
+pub make_did : {T E : Type 0} (words : List (List ℕ)) (file name password : List ℕ) (old new : OutsideView) (r : Result T E) → IsInitOf words file name password → OnOk r (Made file name password old.files new.files old.ticks old.clock new.clock old.written new.written) → OnOk r (Did words old new)
+make_did words file name password old new (Ok x) is made = inr (inr (inr (file, name, password, is, made)))
+make_did words file name password old new (Err e) is made = tt
+
+pub make_caused : {T : Type 0} (words : List (List ℕ)) (file name password : List ℕ) (old new : OutsideView) (r : Result T Refusal) → IsInitOf words file name password → IfErr r (MakeCause file name password old.files (SinkFailed old new) (DiskFailed old new) old.written new.written) → IfErr r (Cause words old new new.written)
+make_caused words file name password old new (Ok x) is cause = tt
+make_caused words file name password old new (Err e) is cause = inr (inr (inr (inr (file, name, password, is, cause))))
+
+-- words that ask for nothing are no command
+pub no_command : (words : List (List ℕ)) → asked_of words ≡ None → IsCommand words → ⊥
+no_command words none (name, inl (limit, is)) = (let both = sym none ∙ is in cc)
+no_command words none (name, inr (inl is)) = (let both = sym none ∙ is in cc)
+no_command words none (name, inr (inr (inl is))) = (let both = sym none ∙ is in cc)
+no_command words none (name, inr (inr (inr (n, p, is)))) = (let both = sym none ∙ is in cc)
+
+-- words that ask for something are a command over its file
+pub is_over : (words : List (List ℕ)) (a : Asked) → asked_of words ≡ Some a → IsOf words (file_in a)
+is_over words (Init file name password) is = inr (inr (inr (name, password, is)))
+is_over words (Replay file limit) is = inl (limit, is)
+is_over words (Check file) is = inr (inl is)
+is_over words (Dump file) is = inr (inr (inl is))
+
+-- the last line names the file that the words are over
+pub names_it : {T E : Type 0} (words : List (List ℕ)) (a : Asked) (name : List ℕ) (e : Refusal) (old new : Option (List ℕ)) (r : Result T E) → asked_of words ≡ Some a → name ≡ file_in a → OnOk r (new ≡ append_known old (last_line name e)) → OnOk r (Names words e old new)
+names_it words a name e old new (Err x) asks is line = tt
+names_it words a name e old new (Ok x) asks is line = (name, inl (subst (IsOf words) (sym is) (is_over words a asks)), line)

@@ -10,18 +10,23 @@ use Rattle.zope.proofs.NoCauses.{NotBoth, NotDamaged, OneSchedule, only_memory, 
 
 -- a refusal for the sink has it that the sink failed
 sink_cause : (words : List (List ℕ)) (old mid : OutsideView) → Cause words old mid mid.written Refusal.Output → SinkFailed old mid
-sink_cause words old mid (inl usage) = (let is = usage.0 in absurd cc)
+sink_cause words old mid (inl cause) = absurd cause.0
 sink_cause words old mid (inr (inl (name, limit, is, inl input))) = absurd input.0
 sink_cause words old mid (inr (inl (name, limit, is, inr (inl file)))) = absurd file.2
 sink_cause words old mid (inr (inl (name, limit, is, inr (inr run)))) = run.4.0
 sink_cause words old mid (inr (inr (inl (name, is, inl scan)))) = absurd scan.0
 sink_cause words old mid (inr (inr (inl (name, is, inr print)))) = print.2.0
-sink_cause words old mid (inr (inr (inr (name, is, dump)))) = dump
+sink_cause words old mid (inr (inr (inr (inl (name, is, dump))))) = dump
+sink_cause words old mid (inr (inr (inr (inr (file, name, password, is, inl legible))))) = absurd legible.0
+sink_cause words old mid (inr (inr (inr (inr (file, name, password, is, inr (inl new)))))) = absurd new.1
+sink_cause words old mid (inr (inr (inr (inr (file, name, password, is, inr (inr print)))))) = print.3.0
 
 -- every other cause doesn't speak of the sink's count, which a last line may raise
 still_causes : (words : List (List ℕ)) (old mid : OutsideView) (line : Option (List ℕ)) (sink : Counter) (e : Refusal) → (e ≡ Refusal.Output → ⊥) → Cause words old mid mid.written e → Cause words old (told mid line sink) mid.written e
 still_causes words old mid line sink Refusal.Output other c = absurd (other refl)
 still_causes words old mid line sink Refusal.Usage other c = c
+still_causes words old mid line sink Refusal.NotLegible other c = c
+still_causes words old mid line sink Refusal.Exists other c = c
 still_causes words old mid line sink (Refusal.Damaged kind place) other c = c
 still_causes words old mid line sink (Refusal.BadLine n) other c = c
 still_causes words old mid line sink Refusal.Disk other c = c
@@ -54,6 +59,8 @@ other_ends words old mid line sink e status other c le (inr (inr seven)) = inr (
 pub refused_ends : (words : List (List ℕ)) (old mid : OutsideView) (line : Option (List ℕ)) (sink : Counter) (e : Refusal) (status : ℕ) → Cause words old mid mid.written e → old.sink.count ≤ mid.sink.count → mid.sink.count ≤ sink.count → (e ≡ Refusal.Output → status ≡ 6) → OtherRefused words mid line sink e status → Ends words old (told mid line sink) status
 refused_ends words old mid line sink Refusal.Output status c le later six named = inr (inr (inl (six refl, rose_after old.sink mid.sink sink later (sink_cause words old mid c))))
 refused_ends words old mid line sink Refusal.Usage status c le later six named = let other : Refusal.Usage ≡ Refusal.Output → ⊥ = λ is. let bad = is in cc in other_ends words old mid line sink Refusal.Usage status other c le (named other)
+refused_ends words old mid line sink Refusal.NotLegible status c le later six named = let other : Refusal.NotLegible ≡ Refusal.Output → ⊥ = λ is. let bad = is in cc in other_ends words old mid line sink Refusal.NotLegible status other c le (named other)
+refused_ends words old mid line sink Refusal.Exists status c le later six named = let other : Refusal.Exists ≡ Refusal.Output → ⊥ = λ is. let bad = is in cc in other_ends words old mid line sink Refusal.Exists status other c le (named other)
 refused_ends words old mid line sink (Refusal.Damaged kind place) status c le later six named = let other : (Refusal.Damaged kind place) ≡ Refusal.Output → ⊥ = λ is. let bad = is in cc in other_ends words old mid line sink (Refusal.Damaged kind place) status other c le (named other)
 refused_ends words old mid line sink (Refusal.BadLine n) status c le later six named = let other : (Refusal.BadLine n) ≡ Refusal.Output → ⊥ = λ is. let bad = is in cc in other_ends words old mid line sink (Refusal.BadLine n) status other c le (named other)
 refused_ends words old mid line sink Refusal.Disk status c le later six named = let other : Refusal.Disk ≡ Refusal.Output → ⊥ = λ is. let bad = is in cc in other_ends words old mid line sink Refusal.Disk status other c le (named other)

@@ -65,6 +65,8 @@ unscanned files name failed (Refusal.TooLong n) missing damaged long disk there 
 unscanned files name failed Refusal.Disk missing damaged long disk there others = (disk refl, there refl)
 unscanned files name failed Refusal.Memory missing damaged long disk there others = tt
 unscanned files name failed Refusal.Usage missing damaged long disk there others = absurd others
+unscanned files name failed Refusal.NotLegible missing damaged long disk there others = absurd others
+unscanned files name failed Refusal.Exists missing damaged long disk there others = absurd others
 unscanned files name failed (Refusal.BadLine n) missing damaged long disk there others = absurd others
 unscanned files name failed Refusal.Input missing damaged long disk there others = absurd others
 unscanned files name failed Refusal.Output missing damaged long disk there others = absurd others
@@ -111,6 +113,8 @@ module _ {T : Type 0} (files : Option (List Entry)) (name : List ℕ) (told : Op
   undumped (Err Refusal.Output) damaged long missing failed rose others = rose refl
   undumped (Err Refusal.Memory) damaged long missing failed rose others = tt
   undumped (Err Refusal.Usage) damaged long missing failed rose others = absurd others
+  undumped (Err Refusal.NotLegible) damaged long missing failed rose others = absurd others
+  undumped (Err Refusal.Exists) damaged long missing failed rose others = absurd others
   undumped (Err (Refusal.BadLine n)) damaged long missing failed rose others = absurd others
   undumped (Err Refusal.Input) damaged long missing failed rose others = absurd others
   undumped (Err Refusal.InputTooLarge) damaged long missing failed rose others = absurd others

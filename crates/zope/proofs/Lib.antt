@@ -1,9 +1,11 @@
 pub mod Pieces
-pub mod LimitWords
+pub mod Limits
 pub mod InputCauses
 pub mod FileCauses
 pub mod LastLines
 pub mod Refusing
+pub mod Closing
+pub mod Stamping
 pub mod Commands
 pub mod NoCauses
 pub mod Endings

@@ -1,5 +1,5 @@
 -- Where a command meets no cause, it ends well or for want of memory.
-use Rattle.std.proofs.Common.{◌≡◌, ℕ, ◌≤◌, ◌<◌, List, [], ◌∷◌, length, Option, None, Some, refl, sym, ap, subst, ◌∙◌, ◌⊎◌, arith, inl, inr}
+use Rattle.std.proofs.Common.{◌≡◌, ℕ, ◌≤◌, ◌<◌, List, length, Option, None, Some, refl, sym, ap, subst, arith, inl, inr}
 use Rattle.std.specs.Prelude.{IfSome}
 use Rattle.std.specs.Option.{option_map}
 use Rattle.zbase.specs.Faults.{Counter, Rose}
@@ -12,14 +12,16 @@ use Rattle.schedule.specs.BadLines.{IsBadAt}
 use Rattle.schedule.specs.Items.{IsSchedule}
 use Rattle.zope.specs.declared.refusal.Refusal.{Refusal}
 use Rattle.fs_store.specs.Stores.{most_length}
-use Rattle.zope.specs.Causes.{Cause, NoCause}
+use Rattle.zope.specs.Causes.{Cause, NoCause, WordsCause}
+use Rattle.zope.specs.MakeCauses.{LegibleCause, MakeCause, NewCause, NoMakeCause}
+use Rattle.words.specs.Asking.{Asked, Check, Dump, Init, Replay, asked_of}
 use Rattle.zope.specs.Outside.{DiskFailed, OutsideView, SinkFailed, SourceFailed, outside}
 use Rattle.zope.specs.CheckCauses.{CheckCause, PrintCause, ScanCause}
 use Rattle.zope.specs.DumpCauses.{DumpCause}
 use Rattle.zope.specs.Given.{IfKept, IsSound, most_file, most_input}
 use Rattle.zope.specs.ReplayCauses.{Broke, FileCause, InputCause, NoReplayCause, ReplayCause, RunCause}
-use Rattle.zope.specs.Shelved.{HasFile, IsLength, IsMissing}
-use Rattle.zope.specs.Words.{GivesLimit, IsCheckOf, IsDumpOf, IsReplayWith}
+use Rattle.zope.specs.Shelved.{HasFile, IsLength, IsMissing, IsPresent}
+use Rattle.zope.specs.Words.{IsCheckOf, IsCommand, IsDumpOf, IsInitOf, IsReplayWith}
 
 abbrev pub OneSchedule : Type 0
 OneSchedule = (text : List ℕ) (a b : List Item2) → IsSchedule text a → IsSchedule text b → a ≡ b
@@ -29,19 +31,6 @@ NotBoth = (text : List ℕ) (items : List Item2) (n : ℕ) → IsSchedule text i
 
 abbrev pub NotDamaged : Type 0
 NotDamaged = (bytes : List ℕ) (front : Front) (m n : ℕ) (kind : Damage) → Cut bytes front m → Damaged bytes n kind → ⊥
-
--- words give one limit
-same_limit : (rest : List (List ℕ)) (k l : ℕ) → GivesLimit rest k → GivesLimit rest l → k ≡ l
-same_limit [] k l p q = p ∙ sym q
-same_limit (option ∷ []) k l p q = absurd p
-same_limit (option ∷ text ∷ []) k l p q = sym p.1.value ∙ q.1.value
-same_limit (option ∷ text ∷ more ∷ rest) k l p q = absurd p
-
--- words name one file and one limit
-same_words : (words : List (List ℕ)) (a b : List ℕ) (k l : ℕ) → IsReplayWith words a k → IsReplayWith words b l → (a ≡ b) × (k ≡ l)
-same_words words a b k l p q =
-    let behind : p.0 ≡ q.0 = (let both = sym p.1 ∙ q.1 in cc) in
-    ((let both = sym p.1 ∙ q.1 in cc), same_limit q.0 k l (subst (λ rest. GivesLimit rest k) behind p.2) q.2)
 
 same_bytes : {X : Type 0} (o : Option X) (a b : X) → o ≡ Some a → o ≡ Some b → a ≡ b
 same_bytes o a b p q = cc
@@ -59,6 +48,8 @@ of_input input text failed items given within spells law calm (Refusal.BadLine n
     let bad : (length text ≤ most_input) × IsBadAt text n = subst (λ i. IfSome i (λ t. (length t ≤ most_input) × IsBadAt t n)) given cause in
     absurd (law text items n spells bad.1)
 of_input input text failed items given within spells law calm Refusal.Usage cause = absurd cause
+of_input input text failed items given within spells law calm Refusal.NotLegible cause = absurd cause
+of_input input text failed items given within spells law calm Refusal.Exists cause = absurd cause
 of_input input text failed items given within spells law calm (Refusal.Damaged kind place) cause = absurd cause
 of_input input text failed items given within spells law calm Refusal.Disk cause = absurd cause
 of_input input text failed items given within spells law calm Refusal.Output cause = absurd cause
@@ -79,6 +70,8 @@ of_file files entries name bytes failed shelf there fits calm (Refusal.FileTooLa
 of_file files entries name bytes failed shelf there fits calm Refusal.Disk cause = absurd (calm cause.0)
 of_file files entries name bytes failed shelf there fits calm (Refusal.Damaged kind place) cause = absurd cause
 of_file files entries name bytes failed shelf there fits calm Refusal.Usage cause = absurd cause
+of_file files entries name bytes failed shelf there fits calm Refusal.NotLegible cause = absurd cause
+of_file files entries name bytes failed shelf there fits calm Refusal.Exists cause = absurd cause
 of_file files entries name bytes failed shelf there fits calm (Refusal.BadLine n) cause = absurd cause
 of_file files entries name bytes failed shelf there fits calm Refusal.Input cause = absurd cause
 of_file files entries name bytes failed shelf there fits calm Refusal.Output cause = absurd cause
@@ -91,6 +84,8 @@ of_run limit bytes items failed old new front end opens law runs calm Refusal.Ou
 of_run limit bytes items failed old new front end opens law runs calm (Refusal.BadLine n) cause = absurd (runs n cause)
 of_run limit bytes items failed old new front end opens law runs calm (Refusal.Damaged kind place) cause = absurd (law bytes front end place kind opens cause.0)
 of_run limit bytes items failed old new front end opens law runs calm Refusal.Usage cause = absurd cause
+of_run limit bytes items failed old new front end opens law runs calm Refusal.NotLegible cause = absurd cause
+of_run limit bytes items failed old new front end opens law runs calm Refusal.Exists cause = absurd cause
 of_run limit bytes items failed old new front end opens law runs calm Refusal.Disk cause = absurd cause
 of_run limit bytes items failed old new front end opens law runs calm Refusal.Input cause = absurd cause
 of_run limit bytes items failed old new front end opens law runs calm Refusal.Missing cause = absurd cause
@@ -113,6 +108,8 @@ of_scan files entries name bytes front end failed shelf there fits opens law cal
 of_scan files entries name bytes front end failed shelf there fits opens law calm Refusal.Disk cause = absurd (calm cause.0)
 of_scan files entries name bytes front end failed shelf there fits opens law calm (Refusal.Damaged kind place) cause = absurd (law bytes front end place kind opens (kept_same files entries name bytes (λ b. Damaged b place kind) shelf there cause))
 of_scan files entries name bytes front end failed shelf there fits opens law calm Refusal.Usage cause = absurd cause
+of_scan files entries name bytes front end failed shelf there fits opens law calm Refusal.NotLegible cause = absurd cause
+of_scan files entries name bytes front end failed shelf there fits opens law calm Refusal.Exists cause = absurd cause
 of_scan files entries name bytes front end failed shelf there fits opens law calm (Refusal.BadLine n) cause = absurd cause
 of_scan files entries name bytes front end failed shelf there fits opens law calm Refusal.Input cause = absurd cause
 of_scan files entries name bytes front end failed shelf there fits opens law calm Refusal.Output cause = absurd cause
@@ -123,6 +120,8 @@ of_print : (failed : Type 0) (text : List ℕ) (old new : Option (List ℕ)) →
 of_print failed text old new calm Refusal.Memory cause = refl
 of_print failed text old new calm Refusal.Output cause = absurd (calm cause.0)
 of_print failed text old new calm Refusal.Usage cause = absurd cause
+of_print failed text old new calm Refusal.NotLegible cause = absurd cause
+of_print failed text old new calm Refusal.Exists cause = absurd cause
 of_print failed text old new calm (Refusal.Damaged kind place) cause = absurd cause
 of_print failed text old new calm (Refusal.BadLine n) cause = absurd cause
 of_print failed text old new calm Refusal.Disk cause = absurd cause
@@ -160,56 +159,148 @@ dump_memory name files sink more disk old new (Refusal.Damaged kind place) law w
     absurd (law meets.bytes meets.front meets.end place kind meets.opens (kept_same files meets.entries name meets.bytes (λ b. Damaged b place kind × (new ≡ old)) meets.shelf meets.there c).0)
 dump_memory name files sink more disk old new Refusal.Output law wider c meets = absurd (meets.sink_calm (wider c))
 dump_memory name files sink more disk old new Refusal.Usage law wider c meets = absurd c
+dump_memory name files sink more disk old new Refusal.NotLegible law wider c meets = absurd c
+dump_memory name files sink more disk old new Refusal.Exists law wider c meets = absurd c
 dump_memory name files sink more disk old new (Refusal.BadLine n) law wider c meets = absurd c
 dump_memory name files sink more disk old new Refusal.Input law wider c meets = absurd c
 dump_memory name files sink more disk old new Refusal.InputTooLarge law wider c meets = absurd c
 dump_memory name files sink more disk old new (Refusal.FileTooLarge n) law wider c meets = absurd c
 
--- the words of one command are none of another
+of_legible : (file name password : List ℕ) (files : Option (List Entry)) (sink disk : Type 0) → (e : Refusal) → LegibleCause name password e → NoMakeCause file name password files sink disk → e ≡ Refusal.Memory
+of_legible file name password files sink disk Refusal.NotLegible cause meets = absurd (cause meets.legible)
+of_legible file name password files sink disk Refusal.Usage cause meets = absurd cause
+of_legible file name password files sink disk (Refusal.Damaged kind place) cause meets = absurd cause
+of_legible file name password files sink disk (Refusal.BadLine n) cause meets = absurd cause
+of_legible file name password files sink disk Refusal.Disk cause meets = absurd cause
+of_legible file name password files sink disk Refusal.Input cause meets = absurd cause
+of_legible file name password files sink disk Refusal.Output cause meets = absurd cause
+of_legible file name password files sink disk Refusal.Memory cause meets = absurd cause
+of_legible file name password files sink disk Refusal.Missing cause meets = absurd cause
+of_legible file name password files sink disk Refusal.Exists cause meets = absurd cause
+of_legible file name password files sink disk Refusal.InputTooLarge cause meets = absurd cause
+of_legible file name password files sink disk (Refusal.FileTooLarge n) cause meets = absurd cause
+of_legible file name password files sink disk (Refusal.TooLong n) cause meets = absurd cause
 
-not_check : (words : List (List ℕ)) (a b : List ℕ) (k : ℕ) → IsReplayWith words a k → IsCheckOf words b → ⊥
-not_check words a b k replays checks = (let both = sym replays.1 ∙ checks in cc)
+of_new : (files : Option (List Entry)) (entries : List Entry) (file : List ℕ) (failed : Type 0) → files ≡ Some entries → file_at entries file ≡ None → (failed → ⊥) → (e : Refusal) → NewCause files file failed e → e ≡ Refusal.Memory
+of_new files entries file failed shelf absent calm Refusal.Memory cause = refl
+of_new files entries file failed shelf absent calm Refusal.Exists cause = absurd (subst (λ f. IsPresent f file) shelf cause absent)
+of_new files entries file failed shelf absent calm Refusal.Disk cause = absurd (calm cause.0)
+of_new files entries file failed shelf absent calm Refusal.NotLegible cause = absurd cause
+of_new files entries file failed shelf absent calm Refusal.Usage cause = absurd cause
+of_new files entries file failed shelf absent calm (Refusal.Damaged kind place) cause = absurd cause
+of_new files entries file failed shelf absent calm (Refusal.BadLine n) cause = absurd cause
+of_new files entries file failed shelf absent calm Refusal.Input cause = absurd cause
+of_new files entries file failed shelf absent calm Refusal.Output cause = absurd cause
+of_new files entries file failed shelf absent calm Refusal.Missing cause = absurd cause
+of_new files entries file failed shelf absent calm Refusal.InputTooLarge cause = absurd cause
+of_new files entries file failed shelf absent calm (Refusal.FileTooLarge n) cause = absurd cause
+of_new files entries file failed shelf absent calm (Refusal.TooLong n) cause = absurd cause
 
-not_dump : (words : List (List ℕ)) (a b : List ℕ) (k : ℕ) → IsReplayWith words a k → IsDumpOf words b → ⊥
-not_dump words a b k replays dumps = (let both = sym replays.1 ∙ dumps in cc)
+make_memory : (file name password : List ℕ) (files : Option (List Entry)) (sink more disk : Type 0) (old new : Option (List ℕ)) (e : Refusal) → (sink → more) → MakeCause file name password files sink disk old new e → NoMakeCause file name password files more disk → e ≡ Refusal.Memory
+make_memory file name password files sink more disk old new e wider (inl c) meets = of_legible file name password files more disk e c.0 meets
+make_memory file name password files sink more disk old new e wider (inr (inl c)) meets = of_new files meets.entries file disk meets.shelf meets.absent meets.disk_calm e c.1
+make_memory file name password files sink more disk old new e wider (inr (inr c)) meets = of_print sink _ old new (λ rose. meets.sink_calm (wider rose)) e c.3
 
-not_over : (words : List (List ℕ)) (a b : List ℕ) (k : ℕ) → IsReplayWith words a k → IsCheckOf words b ⊎ IsDumpOf words b → ⊥
-not_over words a b k replays (inl checks) = not_check words a b k replays checks
-not_over words a b k replays (inr dumps) = not_dump words a b k replays dumps
+of_words : (words : List (List ℕ)) (e : Refusal) → IsCommand words → WordsCause words e → e ≡ Refusal.Memory
+of_words words Refusal.Memory is cause = refl
+of_words words Refusal.Usage is cause = absurd (cause is)
+of_words words Refusal.NotLegible is cause = absurd cause
+of_words words (Refusal.Damaged kind place) is cause = absurd cause
+of_words words (Refusal.BadLine n) is cause = absurd cause
+of_words words Refusal.Disk is cause = absurd cause
+of_words words Refusal.Input is cause = absurd cause
+of_words words Refusal.Output is cause = absurd cause
+of_words words Refusal.Missing is cause = absurd cause
+of_words words Refusal.Exists is cause = absurd cause
+of_words words Refusal.InputTooLarge is cause = absurd cause
+of_words words (Refusal.FileTooLarge n) is cause = absurd cause
+of_words words (Refusal.TooLong n) is cause = absurd cause
 
--- words that are a command and one more name one file
-check_over : (words : List (List ℕ)) (a b : List ℕ) → IsCheckOf words a → IsCheckOf words b ⊎ IsDumpOf words b → a ≡ b
-check_over words a b p (inl q) = (let both = sym p ∙ q in cc)
-check_over words a b p (inr q) = (let both = sym p ∙ q in cc)
+-- ---- words ask for one thing
 
-dump_over : (words : List (List ℕ)) (a b : List ℕ) → IsDumpOf words a → IsCheckOf words b ⊎ IsDumpOf words b → a ≡ b
-dump_over words a b p (inl q) = (let both = sym p ∙ q in cc)
-dump_over words a b p (inr q) = (let both = sym p ∙ q in cc)
+asks_one : (o : Option Asked) (a b : Asked) → o ≡ Some a → o ≡ Some b → a ≡ b
+asks_one o a b p q = cc
+
+-- what is asked for, as a number
+abbrev kind : Asked → ℕ
+kind (Init file name password) = 0
+kind (Replay file limit) = 1
+kind (Check file) = 2
+kind (Dump file) = 3
+
+one_kind : (o : Option Asked) (a b : Asked) → o ≡ Some a → o ≡ Some b → kind a ≡ kind b
+one_kind o a b p q = ap kind (asks_one o a b p q)
+
+same_replay : (a b : List ℕ) (k l : ℕ) → Replay a k ≡ Replay b l → (a ≡ b) × (k ≡ l)
+same_replay a b k l e = (cc, cc)
+
+same_check : (a b : List ℕ) → Check a ≡ Check b → a ≡ b
+same_check a b e = cc
+
+same_dump : (a b : List ℕ) → Dump a ≡ Dump b → a ≡ b
+same_dump a b e = cc
+
+same_init : (a b c d e f : List ℕ) → Init a b c ≡ Init d e f → (a ≡ d) × (b ≡ e) × (c ≡ f)
+same_init a b c d e f is = (cc, cc, cc)
+
+is_command : (words : List (List ℕ)) (old new : OutsideView) → NoCause words old new → IsCommand words
+is_command words old new (inl meets) = (meets.0, inl (meets.1, meets.2))
+is_command words old new (inr (inl (name, inl checks, sound))) = (name, inr (inl checks))
+is_command words old new (inr (inl (name, inr dumps, sound))) = (name, inr (inr (inl dumps)))
+is_command words old new (inr (inr (file, name, password, is, meets))) = (file, inr (inr (inr (name, password, is))))
 
 -- a moment after which a last line was written
 abbrev pub told : OutsideView → Option (List ℕ) → Counter → OutsideView
-told at written sink = outside at.files at.sound_disks at.shelf at.input at.source written sink
+told at written sink = outside at.files at.sound_disks at.shelf at.input at.source written sink at.ticks at.clock
 
 rose_after : (a b c : Counter) → b.count ≤ c.count → Rose a b → Rose a c
 rose_after a b c le rose = omega (arith, rose)
 
+-- a replay was refused, a check, a dump, or the making of a site: no cause of its own is left
+module _ (words : List (List ℕ)) (old mid : OutsideView) (written line : Option (List ℕ)) (sink : Counter) (e : Refusal) (one : OneSchedule) (both : NotBoth) (law : NotDamaged) (later : mid.sink.count ≤ sink.count) where
+  replay_left : (name : List ℕ) (limit : ℕ) → IsReplayWith words name limit → ReplayCause name limit old.files old.input (SourceFailed old mid) (SinkFailed old mid) (DiskFailed old mid) old.written written e → NoCause words old (told mid line sink) → e ≡ Refusal.Memory
+  replay_left name limit is cause (inl (other, most, asks, meets)) =
+      let same = same_replay name other limit most (asks_one (asked_of words) (Replay name limit) (Replay other most) is asks) in
+      let Of : List ℕ → ℕ → Type 0 = λ n l. ReplayCause n l old.files old.input (SourceFailed old mid) (SinkFailed old mid) (DiskFailed old mid) old.written written e in
+      replay_memory other most old.files old.input (SourceFailed old mid) (SinkFailed old mid) (Rose old.sink sink) (DiskFailed old mid) old.written written e one both law (rose_after old.sink mid.sink sink later) (subst (Of other) same.1 (subst (λ (n : List ℕ). Of n limit) same.0 cause)) meets
+  replay_left name limit is cause (inr (inl (other, inl checks, meets))) = absurd (omega (arith, one_kind (asked_of words) (Replay name limit) (Check other) is checks))
+  replay_left name limit is cause (inr (inl (other, inr dumps, meets))) = absurd (omega (arith, one_kind (asked_of words) (Replay name limit) (Dump other) is dumps))
+  replay_left name limit is cause (inr (inr (file, other, password, asks, meets))) = absurd (omega (arith, one_kind (asked_of words) (Replay name limit) (Init file other password) is asks))
+
+  check_left : (name : List ℕ) → IsCheckOf words name → CheckCause name old.files (SinkFailed old mid) (DiskFailed old mid) old.written written e → NoCause words old (told mid line sink) → e ≡ Refusal.Memory
+  check_left name is cause (inl (other, most, asks, meets)) = absurd (omega (arith, one_kind (asked_of words) (Check name) (Replay other most) is asks))
+  check_left name is cause (inr (inl (other, inl checks, meets))) =
+      let Of : List ℕ → Type 0 = λ n. CheckCause n old.files (SinkFailed old mid) (DiskFailed old mid) old.written written e in
+      check_memory other old.files (SinkFailed old mid) (Rose old.sink sink) (DiskFailed old mid) old.written written e law (rose_after old.sink mid.sink sink later) (subst Of (same_check name other (asks_one (asked_of words) (Check name) (Check other) is checks)) cause) meets
+  check_left name is cause (inr (inl (other, inr dumps, meets))) = absurd (omega (arith, one_kind (asked_of words) (Check name) (Dump other) is dumps))
+  check_left name is cause (inr (inr (file, other, password, asks, meets))) = absurd (omega (arith, one_kind (asked_of words) (Check name) (Init file other password) is asks))
+
+  dump_left : (name : List ℕ) → IsDumpOf words name → DumpCause name old.files (SinkFailed old mid) (DiskFailed old mid) old.written written e → NoCause words old (told mid line sink) → e ≡ Refusal.Memory
+  dump_left name is cause (inl (other, most, asks, meets)) = absurd (omega (arith, one_kind (asked_of words) (Dump name) (Replay other most) is asks))
+  dump_left name is cause (inr (inl (other, inl checks, meets))) = absurd (omega (arith, one_kind (asked_of words) (Dump name) (Check other) is checks))
+  dump_left name is cause (inr (inl (other, inr dumps, meets))) =
+      let Of : List ℕ → Type 0 = λ n. DumpCause n old.files (SinkFailed old mid) (DiskFailed old mid) old.written written e in
+      dump_memory other old.files (SinkFailed old mid) (Rose old.sink sink) (DiskFailed old mid) old.written written e law (rose_after old.sink mid.sink sink later) (subst Of (same_dump name other (asks_one (asked_of words) (Dump name) (Dump other) is dumps)) cause) meets
+  dump_left name is cause (inr (inr (file, other, password, asks, meets))) = absurd (omega (arith, one_kind (asked_of words) (Dump name) (Init file other password) is asks))
+
+  make_left : (file name password : List ℕ) → IsInitOf words file name password → MakeCause file name password old.files (SinkFailed old mid) (DiskFailed old mid) old.written written e → NoCause words old (told mid line sink) → e ≡ Refusal.Memory
+  make_left file name password is cause (inl (other, most, asks, meets)) = absurd (omega (arith, one_kind (asked_of words) (Init file name password) (Replay other most) is asks))
+  make_left file name password is cause (inr (inl (other, inl checks, meets))) = absurd (omega (arith, one_kind (asked_of words) (Init file name password) (Check other) is checks))
+  make_left file name password is cause (inr (inl (other, inr dumps, meets))) = absurd (omega (arith, one_kind (asked_of words) (Init file name password) (Dump other) is dumps))
+  make_left file name password is cause (inr (inr (f, n, p, asks, meets))) =
+      let same = same_init file name password f n p (asks_one (asked_of words) (Init file name password) (Init f n p) is asks) in
+      let Of : List ℕ → List ℕ → List ℕ → Type 0 = λ x y z. MakeCause x y z old.files (SinkFailed old mid) (DiskFailed old mid) old.written written e in
+      let cause_of : Of f n p = subst (Of f n) same.2 (subst (λ (y : List ℕ). Of f y password) same.1 (subst (λ (x : List ℕ). Of x name password) same.0 cause)) in
+      make_memory f n p old.files (SinkFailed old mid) (Rose old.sink sink) (DiskFailed old mid) old.written written e (rose_after old.sink mid.sink sink later) cause_of meets
+
 pub only_memory : (words : List (List ℕ)) (old mid : OutsideView) (written line : Option (List ℕ)) (sink : Counter) (e : Refusal) → OneSchedule → NotBoth → NotDamaged → mid.sink.count ≤ sink.count → Cause words old mid written e → NoCause words old (told mid line sink) → e ≡ Refusal.Memory
-only_memory words old mid written line sink e one both law later (inl usage) (inl meets) = absurd (usage.1 (meets.0, inl (meets.1, meets.2)))
-only_memory words old mid written line sink e one both law later (inl usage) (inr meets) = absurd (usage.1 (meets.0, inr meets.1))
-only_memory words old mid written line sink e one both law later (inr (inl c)) (inr meets) = absurd (not_over words c.0 meets.0 c.1 c.2 meets.1)
-only_memory words old mid written line sink e one both law later (inr (inr (inl c))) (inl meets) = absurd (not_check words meets.0 c.0 meets.1 meets.2 c.1)
-only_memory words old mid written line sink e one both law later (inr (inr (inr c))) (inl meets) = absurd (not_dump words meets.0 c.0 meets.1 meets.2 c.1)
-only_memory words old mid written line sink e one both law later (inr (inl c)) (inl meets) =
-    let same = same_words words c.0 meets.0 c.1 meets.1 c.2 meets.2 in
-    let Of : List ℕ → ℕ → Type 0 = λ name limit. ReplayCause name limit old.files old.input (SourceFailed old mid) (SinkFailed old mid) (DiskFailed old mid) old.written written e in
-    replay_memory meets.0 meets.1 old.files old.input (SourceFailed old mid) (SinkFailed old mid) (Rose old.sink sink) (DiskFailed old mid) old.written written e one both law (rose_after old.sink mid.sink sink later) (subst (Of meets.0) same.1 (subst (λ (n : List ℕ). Of n c.1) same.0 c.3)) meets.3
-only_memory words old mid written line sink e one both law later (inr (inr (inl c))) (inr meets) =
-    let Of : List ℕ → Type 0 = λ name. CheckCause name old.files (SinkFailed old mid) (DiskFailed old mid) old.written written e in
-    check_memory meets.0 old.files (SinkFailed old mid) (Rose old.sink sink) (DiskFailed old mid) old.written written e law (rose_after old.sink mid.sink sink later) (subst Of (check_over words c.0 meets.0 c.1 meets.1) c.2) meets.2
-only_memory words old mid written line sink e one both law later (inr (inr (inr c))) (inr meets) =
-    let Of : List ℕ → Type 0 = λ name. DumpCause name old.files (SinkFailed old mid) (DiskFailed old mid) old.written written e in
-    dump_memory meets.0 old.files (SinkFailed old mid) (Rose old.sink sink) (DiskFailed old mid) old.written written e law (rose_after old.sink mid.sink sink later) (subst Of (dump_over words c.0 meets.0 c.1 meets.1) c.2) meets.2
+only_memory words old mid written line sink e one both law later (inl c) meets = of_words words e (is_command words old (told mid line sink) meets) c.0
+only_memory words old mid written line sink e one both law later (inr (inl c)) meets = replay_left words old mid written line sink e one both law later c.0 c.1 c.2 c.3 meets
+only_memory words old mid written line sink e one both law later (inr (inr (inl c))) meets = check_left words old mid written line sink e one both law later c.0 c.1 c.2 meets
+only_memory words old mid written line sink e one both law later (inr (inr (inr (inl c)))) meets = dump_left words old mid written line sink e one both law later c.0 c.1 c.2 meets
+only_memory words old mid written line sink e one both law later (inr (inr (inr (inr c)))) meets = make_left words old mid written line sink e one both law later c.0 c.1 c.2 c.3 c.4 meets
 
 pub sink_is_calm : (words : List (List ℕ)) (old new : OutsideView) → NoCause words old new → SinkFailed old new → ⊥
 sink_is_calm words old new (inl meets) = meets.3.sink_calm
-sink_is_calm words old new (inr meets) = meets.2.sink_calm
+sink_is_calm words old new (inr (inl meets)) = meets.2.sink_calm
+sink_is_calm words old new (inr (inr meets)) = meets.4.sink_calm

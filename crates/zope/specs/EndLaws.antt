@@ -1,7 +1,7 @@
 -- What follows of how a run ends, for every run.
-use Rattle.std.proofs.Common.{◌≡◌, ◌⊎◌, ◌≤◌, ℕ, List, Option, inl, inr, arith, ◌∙◌, ap}
+use Rattle.std.proofs.Common.{◌≡◌, ◌⊎◌, ◌≤◌, ℕ, List, Option, inl, inr, refl, arith, ◌∙◌, ap}
 use Rattle.zope.specs.declared.refusal.Refusal.{Refusal}
-use Rattle.zope.specs.Causes.{Cause, Did}
+use Rattle.zope.specs.Causes.{Cause, Did, WordsCause}
 use Rattle.zope.specs.Ends.{Ends, IsStatus, status_of}
 use Rattle.zope.specs.Outside.{OutsideView}
 use Rattle.zope.specs.Words.{IsCommand}
@@ -9,27 +9,49 @@ use Rattle.zope.specs.Words.{IsCommand}
 is_command : (words : List (List ℕ)) (old new : OutsideView) → Did words old new → IsCommand words
 is_command words old new (inl did) = (did.0, inl (did.1, did.2))
 is_command words old new (inr (inl did)) = (did.0, inr (inl did.1))
-is_command words old new (inr (inr did)) = (did.0, inr (inr did.1))
+is_command words old new (inr (inr (inl did))) = (did.0, inr (inr (inl did.1)))
+is_command words old new (inr (inr (inr did))) = (did.0, inr (inr (inr (did.1, did.2, did.3))))
 
--- words that name no command are refused for that alone
-only_usage : (words : List (List ℕ)) (old new : OutsideView) (written : Option (List ℕ)) (e : Refusal) → Cause words old new written e → (IsCommand words → ⊥) → e ≡ Refusal.Usage
-only_usage words old new written e (inl usage) other = usage.0
+of_words : (words : List (List ℕ)) (e : Refusal) → WordsCause words e → (e ≡ Refusal.Usage) ⊎ (e ≡ Refusal.Memory)
+of_words words Refusal.Usage cause = inl refl
+of_words words Refusal.Memory cause = inr refl
+of_words words Refusal.NotLegible cause = absurd cause
+of_words words (Refusal.Damaged kind place) cause = absurd cause
+of_words words (Refusal.BadLine n) cause = absurd cause
+of_words words Refusal.Disk cause = absurd cause
+of_words words Refusal.Input cause = absurd cause
+of_words words Refusal.Output cause = absurd cause
+of_words words Refusal.Missing cause = absurd cause
+of_words words Refusal.Exists cause = absurd cause
+of_words words Refusal.InputTooLarge cause = absurd cause
+of_words words (Refusal.FileTooLarge n) cause = absurd cause
+of_words words (Refusal.TooLong n) cause = absurd cause
+
+-- words that name no command are refused for that alone, but for want of memory
+only_usage : (words : List (List ℕ)) (old new : OutsideView) (written : Option (List ℕ)) (e : Refusal) → Cause words old new written e → (IsCommand words → ⊥) → (e ≡ Refusal.Usage) ⊎ (e ≡ Refusal.Memory)
+only_usage words old new written e (inl usage) other = of_words words e usage.0
 only_usage words old new written e (inr (inl c)) other = absurd (other (c.0, inl (c.1, c.2)))
 only_usage words old new written e (inr (inr (inl c))) other = absurd (other (c.0, inr (inl c.1)))
-only_usage words old new written e (inr (inr (inr c))) other = absurd (other (c.0, inr (inr c.1)))
+only_usage words old new written e (inr (inr (inr (inl c)))) other = absurd (other (c.0, inr (inr (inl c.1))))
+only_usage words old new written e (inr (inr (inr (inr c)))) other = absurd (other (c.0, inr (inr (inr (c.1, c.2, c.3)))))
 
 -- where the words are none of the program's, the status says so, but for a fault of the sink and want of memory
 pub used : (words : List (List ℕ)) (old new : OutsideView) (status : ℕ) → Ends words old new status → (IsCommand words → ⊥) → (status ≡ 2) ⊎ (status ≡ 6) ⊎ (status ≡ 7)
 used words old new status (inl did) other = absurd (other (is_command words old new did.1))
-used words old new status (inr (inl (e, is, comes))) other = inl (is ∙ ap status_of (only_usage words old new comes.0 e comes.1 other))
+used words old new status (inr (inl (e, is, comes))) other =
+    elim (only_usage words old new comes.0 e comes.1 other) [
+      | inl usage ↦ inl (is ∙ ap status_of usage)
+      | inr memory ↦ inr (inr (is ∙ ap status_of memory))
+    ]
 used words old new status (inr (inr (inl six))) other = inr (inl six.0)
 used words old new status (inr (inr (inr seven))) other = inr (inr seven)
 
-between : (status n : ℕ) → status ≡ n → 2 ≤ n → n ≤ 9 → IsStatus status
-between status n is least most = inr (inl (omega (arith, is, least), omega (arith, is, most)))
+between : (status n : ℕ) → status ≡ n → 2 ≤ n → n ≤ 12 → IsStatus status
+between status n is least most = inr (omega (arith, is, least), omega (arith, is, most))
 
 of_refusal : (status : ℕ) (e : Refusal) → status ≡ status_of e → IsStatus status
 of_refusal status Refusal.Usage is = between status 2 is (omega arith) (omega arith)
+of_refusal status Refusal.NotLegible is = between status 10 is (omega arith) (omega arith)
 of_refusal status (Refusal.Damaged kind place) is = between status 3 is (omega arith) (omega arith)
 of_refusal status (Refusal.BadLine n) is = between status 4 is (omega arith) (omega arith)
 of_refusal status Refusal.Disk is = between status 5 is (omega arith) (omega arith)
@@ -37,9 +59,10 @@ of_refusal status Refusal.Input is = between status 6 is (omega arith) (omega ar
 of_refusal status Refusal.Output is = between status 6 is (omega arith) (omega arith)
 of_refusal status Refusal.Memory is = between status 7 is (omega arith) (omega arith)
 of_refusal status Refusal.Missing is = between status 8 is (omega arith) (omega arith)
+of_refusal status Refusal.Exists is = between status 11 is (omega arith) (omega arith)
 of_refusal status Refusal.InputTooLarge is = between status 9 is (omega arith) (omega arith)
 of_refusal status (Refusal.FileTooLarge n) is = between status 9 is (omega arith) (omega arith)
-of_refusal status (Refusal.TooLong n) is = inr (inr is)
+of_refusal status (Refusal.TooLong n) is = between status 12 is (omega arith) (omega arith)
 
 -- there is no other status
 pub known : (words : List (List ℕ)) (old new : OutsideView) (status : ℕ) → Ends words old new status → IsStatus status

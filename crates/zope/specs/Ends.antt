@@ -7,6 +7,7 @@ use Rattle.zope.specs.Outside.{OutsideView, SinkFailed}
 -- the status of a refusal
 abbrev pub status_of : Refusal → ℕ
 status_of Refusal.Usage = 2
+status_of Refusal.NotLegible = 10
 status_of (Refusal.Damaged kind place) = 3
 status_of (Refusal.BadLine n) = 4
 status_of Refusal.Disk = 5
@@ -14,6 +15,7 @@ status_of Refusal.Input = 6
 status_of Refusal.Output = 6
 status_of Refusal.Memory = 7
 status_of Refusal.Missing = 8
+status_of Refusal.Exists = 11
 status_of Refusal.InputTooLarge = 9
 status_of (Refusal.FileTooLarge n) = 9
 status_of (Refusal.TooLong n) = 12
@@ -29,4 +31,4 @@ Ends words old new status =
 
 -- the statuses that there are
 abbrev pub IsStatus : ℕ → Type 0
-IsStatus status = (status ≡ 0) ⊎ ((2 ≤ status) × (status ≤ 9)) ⊎ (status ≡ 12)
+IsStatus status = (status ≡ 0) ⊎ ((2 ≤ status) × (status ≤ 12))

@@ -6,8 +6,9 @@ pub mod Numbers
 pub mod ReplayCauses
 pub mod CheckCauses
 pub mod DumpCauses
+pub mod MakeCauses
+pub mod Outside
 pub mod Causes
 pub mod Ends
 pub mod Worked
 pub mod EndLaws
-pub mod Outside

@@ -1,7 +1,8 @@
--- What a command meets of the outside, at a moment: what the shelf, the source and the sink tell, and how often each has
+-- What a command meets of the outside, at a moment: what the shelf, the source, the sink and the clock tell, and how often each has
 -- failed.
 use Rattle.std.specs.Prelude.{◌⊎◌, ℕ, List, Option}
 use Rattle.zbase.specs.Faults.{Counter, Rose}
+use Rattle.zio.specs.Clocks.{Tick}
 use Rattle.zio.specs.Shelves.{Entry}
 
 pub record OutsideView : Type 1 where
@@ -15,9 +16,12 @@ pub record OutsideView : Type 1 where
   -- what the sink was given, where it tells
   pub written : Option (List ℕ)
   pub sink : Counter
+  -- the moments that the clock is going to tell, where it tells
+  pub ticks : Option (List Tick)
+  pub clock : Counter
 
-abbrev pub outside : Option (List Entry) → Type 0 → Counter → Option (List ℕ) → Counter → Option (List ℕ) → Counter → OutsideView
-outside files sound_disks shelf input source written sink = record {
+abbrev pub outside : Option (List Entry) → Type 0 → Counter → Option (List ℕ) → Counter → Option (List ℕ) → Counter → Option (List Tick) → Counter → OutsideView
+outside files sound_disks shelf input source written sink ticks clock = record {
   files = files;
   sound_disks = sound_disks;
   shelf = shelf;
@@ -25,6 +29,8 @@ outside files sound_disks shelf input source written sink = record {
   source = source;
   written = written;
   sink = sink;
+  ticks = ticks;
+  clock = clock;
 }
 
 -- the source's count rose from one moment to the other

@@ -12,4 +12,4 @@ calm = record { count = 0; sound = true; calls = 0; arms = no_arms }
 
 -- the moment before the run, and behind one that gave up at once
 abbrev pub untouched : OutsideView
-untouched = outside (Some ((codes "a", magic) ∷ [])) (Unit {0}) calm (Some []) calm (Some []) calm
+untouched = outside (Some ((codes "a", magic) ∷ [])) (Unit {0}) calm (Some []) calm (Some []) calm (Some []) calm

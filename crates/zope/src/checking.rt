@@ -27,6 +27,7 @@ fn check_disk<D: Disk>(alloc: Global, disk: &mut D) -> Result<Checked, Refusal>
     ensures too_long { (n : ℕ) → IsErrOf result (Refusal.TooLong n) → (most_length < n) × IfSome (D.told disk.old) (λ told. n ≡ length (content told)) }
     ensures present { IsErrOf result Refusal.Missing → ⊥ }
     ensures others { IfErr result IsOfScan }
+    ensures same { D.told disk.new ≡ D.told disk.old }
     ensures counts { Counts (D.counter disk.old) (D.counter disk.new) (IsErrOf result Refusal.Disk) }
 {
     let len = disk.len().map_err(|_| Refusal::Disk)?;
@@ -45,10 +46,17 @@ fn numbers_of<F: Shelf>(alloc: Global, files: &mut F, name: &str) -> Result<Chec
     ensures present { IsErrOf result Refusal.Disk → IsPresent (F.files files.old) name.now }
     ensures disk { IsErrOf result Refusal.Disk → Rose (F.counter files.old) (F.counter files.new) ⊎ (F.sound_disks files.old → ⊥) }
     ensures others { IfErr result IsOfScan }
+    ensures same { F.files files.new ≡ F.files files.old }
     ensures count { (F.counter files.old).count ≤ (F.counter files.new).count }
 {
     match files.open(name) {
-        Ok(mut disk) => check_disk(alloc, &mut disk),
+        Ok(mut disk) => {
+            let numbers = check_disk(alloc, &mut disk);
+            let closed = files.close(name, disk);
+            let numbers = numbers?;
+            closed?;
+            Ok(numbers)
+        }
         Err(ShelfRefusal::Missing) => Err(Refusal::Missing),
         Err(ShelfRefusal::Failed) => Err(Refusal::Disk),
         Err(ShelfRefusal::Memory) => Err(Refusal::Memory),
@@ -87,13 +95,14 @@ fn put_numbers<K: Sink>(alloc: Global, numbers: Checked, out: &mut K) -> Result<
 }
 
 /// Checks the file of that name: prints how many transactions and objects it has, its last transaction, where it
-/// ends, and how many bytes stand behind that. It changes nothing.
+/// ends, and how many bytes stand behind that. It changes no file.
 pub fn check_file<F: Shelf, K: Sink>(
     alloc: Global,
     name: &str,
     files: &mut F,
     out: &mut K,
 ) -> Result<(), Refusal>
+    ensures same { F.files files.new ≡ F.files files.old }
     ensures ok { OnOk result (NumbersPrinted name.now (F.files files.old) (K.written out.old) (K.written out.new)) }
     ensures cause { IfErr result (CheckCause name.now (F.files files.old) (Rose (K.counter out.old) (K.counter out.new)) (Rose (F.counter files.old) (F.counter files.new) ⊎ (F.sound_disks files.old → ⊥)) (K.written out.old) (K.written out.new)) }
     ensures counts { Counts (K.counter out.old) (K.counter out.new) (IsErrOf result Refusal.Output) }

@@ -27,6 +27,7 @@ fn dump_disk<D: Disk, K: Sink>(
     ensures too_long { (n : ℕ) → IsErrOf result (Refusal.TooLong n) → (most_length < n) × IfSome (D.told disk.old) (λ told. n ≡ length (content told)) × (due (K.written out.new) held.new ≡ due (K.written out.old) held.old) }
     ensures present { IsErrOf result Refusal.Missing → ⊥ }
     ensures others { IfErr result IsOfDump }
+    ensures same { D.told disk.new ≡ D.told disk.old }
     ensures disk { Counts (D.counter disk.old) (D.counter disk.new) (IsErrOf result Refusal.Disk) }
     ensures sink { Counts (K.counter out.old) (K.counter out.new) (IsErrOf result Refusal.Output) }
 {
@@ -45,12 +46,18 @@ fn dump_named<F: Shelf, K: Sink>(
     held: &mut Pending,
     out: &mut K,
 ) -> Result<(), Refusal>
+    ensures same { F.files files.new ≡ F.files files.old }
     ensures ok { OnOk result (Dumped name.now (F.files files.old) (due (K.written out.old) held.old) (due (K.written out.new) held.new)) }
     ensures cause { IfErr result (DumpCause name.now (F.files files.old) (Rose (K.counter out.old) (K.counter out.new)) (Rose (F.counter files.old) (F.counter files.new) ⊎ (F.sound_disks files.old → ⊥)) (due (K.written out.old) held.old) (due (K.written out.new) held.new)) }
     ensures counts { Counts (K.counter out.old) (K.counter out.new) (IsErrOf result Refusal.Output) }
 {
     match files.open(name) {
-        Ok(mut disk) => dump_disk(alloc, &mut disk, held, out),
+        Ok(mut disk) => {
+            let dumped = dump_disk(alloc, &mut disk, held, out);
+            let closed = files.close(name, disk);
+            dumped?;
+            Ok(closed?)
+        }
         Err(ShelfRefusal::Missing) => Err(Refusal::Missing),
         Err(ShelfRefusal::Failed) => Err(Refusal::Disk),
         Err(ShelfRefusal::Memory) => Err(Refusal::Memory),
@@ -73,13 +80,14 @@ fn flush<K: Sink>(held: &mut Pending, out: &mut K) -> Result<(), Refusal>
 }
 
 /// Dumps the file of that name: prints its whole history, with all values, as a report does at its end. It changes
-/// nothing.
+/// no file.
 pub fn dump_file<F: Shelf, K: Sink>(
     alloc: Global,
     name: &str,
     files: &mut F,
     out: &mut K,
 ) -> Result<(), Refusal>
+    ensures same { F.files files.new ≡ F.files files.old }
     ensures ok { OnOk result (Dumped name.now (F.files files.old) (K.written out.old) (K.written out.new)) }
     ensures cause { IfErr result (DumpCause name.now (F.files files.old) (Rose (K.counter out.old) (K.counter out.new)) (Rose (F.counter files.old) (F.counter files.new) ⊎ (F.sound_disks files.old → ⊥)) (K.written out.old) (K.written out.new)) }
     ensures counts { Counts (K.counter out.old) (K.counter out.new) (IsErrOf result Refusal.Output) }

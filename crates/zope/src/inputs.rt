@@ -40,6 +40,7 @@ fn read_disk<D: Disk>(alloc: Global, disk: &mut D) -> Result<Vec<u8>, FileRefusa
     ensures within { IfOk result (λ bytes. length bytes.items ≤ most_file) }
     ensures too_large { (n : ℕ) → IsErrOf result (FileRefusal.TooLarge n) → (most_file < n) × IfSome (D.told disk.old) (λ told. n ≡ length (content told)) }
     ensures present { IsErrOf result FileRefusal.Missing → ⊥ }
+    ensures same { D.told disk.new ≡ D.told disk.old }
     ensures counts { Counts (D.counter disk.old) (D.counter disk.new) (IsErrOf result FileRefusal.Disk) }
 {
     let len = disk.len().map_err(|_| FileRefusal::Disk)?;
@@ -51,7 +52,7 @@ fn read_disk<D: Disk>(alloc: Global, disk: &mut D) -> Result<Vec<u8>, FileRefusa
     Ok(bytes)
 }
 
-/// All bytes of the file of that name.
+/// All bytes of the file of that name. It changes no file.
 pub fn read_file<F: Shelf>(alloc: Global, files: &mut F, name: &str) -> Result<Vec<u8>, FileRefusal>
     ensures found { IfOk result (λ bytes. HasFile (F.files files.old) name.now bytes.items) }
     ensures within { IfOk result (λ bytes. length bytes.items ≤ most_file) }
@@ -59,10 +60,17 @@ pub fn read_file<F: Shelf>(alloc: Global, files: &mut F, name: &str) -> Result<V
     ensures too_large { (n : ℕ) → IsErrOf result (FileRefusal.TooLarge n) → (most_file < n) × IsLength (F.files files.old) name.now n }
     ensures present { IsErrOf result FileRefusal.Disk → IsPresent (F.files files.old) name.now }
     ensures disk { IsErrOf result FileRefusal.Disk → Rose (F.counter files.old) (F.counter files.new) ⊎ (F.sound_disks files.old → ⊥) }
+    ensures same { F.files files.new ≡ F.files files.old }
     ensures count { (F.counter files.old).count ≤ (F.counter files.new).count }
 {
     match files.open(name) {
-        Ok(mut disk) => read_disk(alloc, &mut disk),
+        Ok(mut disk) => {
+            let bytes = read_disk(alloc, &mut disk);
+            let closed = files.close(name, disk);
+            let bytes = bytes?;
+            closed?;
+            Ok(bytes)
+        }
         Err(ShelfRefusal::Missing) => Err(FileRefusal::Missing),
         Err(ShelfRefusal::Failed) => Err(FileRefusal::Disk),
         Err(ShelfRefusal::Memory) => Err(FileRefusal::Memory),

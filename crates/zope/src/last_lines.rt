@@ -4,11 +4,12 @@ ghost use Rattle.zbase.specs.Faults.{Counts};
 ghost use Rattle.zio.specs.Sinks.{AppendsFront};
 ghost use Rattle.zope.specs.Causes.{Names, kind_number, last_line};
 
+use crate::command::file_of;
 use crate::inputs::MAX_INPUT;
 use crate::refusal::Refusal;
-use crate::words::file_words;
 use fs_record::Damage;
 use std::alloc::Global;
+use words::{WordsRefusal, read_words};
 use zio::{OutsideRefusal, Sink};
 
 // The number of a damage.
@@ -39,6 +40,7 @@ fn put_last_line<K: Sink>(
 {
     match refusal {
         Refusal::Usage => out.write_all(b"usage\n"),
+        Refusal::NotLegible => out.write_all(b"not legible\n"),
         Refusal::Damaged(kind, place) => {
             let number = kind_number(kind);
             put_text(format!(in alloc; "damaged {number} at {place}\n"), out)
@@ -49,6 +51,7 @@ fn put_last_line<K: Sink>(
         Refusal::Output => Ok(()),
         Refusal::Memory => out.write_all(b"out of memory\n"),
         Refusal::Missing => put_text(format!(in alloc; "missing {name}\n"), out),
+        Refusal::Exists => put_text(format!(in alloc; "exists {name}\n"), out),
         Refusal::InputTooLarge => put_text(format!(in alloc; "too large {MAX_INPUT}\n"), out),
         Refusal::FileTooLarge(size) => put_text(format!(in alloc; "too large {size}\n"), out),
         Refusal::TooLong(size) => put_text(format!(in alloc; "too long {size}\n"), out),
@@ -81,6 +84,9 @@ pub fn put_cause<K: Sink>(
     ensures ok { OnOk result (Names (map string_bytes words.now) refusal (K.written out.old) (K.written out.new)) }
     ensures counts { Counts (K.counter out.old) (K.counter out.new) (IsErrOf result OutsideRefusal.Failed) }
 {
-    let name = file_words(words).unwrap_or("");
-    put_last_line(alloc, refusal, name, out)
+    match read_words(alloc, words) {
+        Ok(asked) => put_last_line(alloc, refusal, file_of(&asked), out),
+        Err(WordsRefusal::Usage) => put_last_line(alloc, refusal, "", out),
+        Err(WordsRefusal::Memory) => Err(OutsideRefusal::Memory),
+    }
 }

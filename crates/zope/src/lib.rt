@@ -7,10 +7,10 @@ mod dumping;
 mod inputs;
 mod last_lines;
 mod laws;
+mod making;
 mod refusal;
 mod replaying;
 mod top;
-mod words;
 
 pub use laws::giving_up_is_refuted;
 pub use top::{Status, run};

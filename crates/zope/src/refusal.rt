@@ -1,21 +1,27 @@
 ghost use Rattle.std.specs.Prelude.{◌≡◌};
 ghost use Rattle.zope.specs.CheckCauses.{of_scan};
 ghost use Rattle.zope.specs.DumpCauses.{of_dump};
+ghost use Rattle.zope.specs.MakeCauses.{of_make};
 ghost use Rattle.zope.specs.ReplayCauses.{of_file, of_input, of_run, of_schedule};
 ghost use Rattle.zope.specs.declared.refusal.FileRefusal.TheVariants.{Memory as FileMemory};
 ghost use Rattle.zope.specs.declared.refusal.InputRefusal.TheVariants.{Memory as InputMemory};
+ghost use Rattle.zope.specs.declared.refusal.Refusal.TheVariants.{Memory as RefusedMemory};
 
 use fs_record::Damage;
 use fs_scan::ScanRefusal;
+use new_site::MakeRefusal;
 use replay::{DumpRefusal, RunRefusal};
 use schedule::ScheduleRefusal;
 use std::alloc::{AllocError, AllocFailed};
+use zbase::Memory;
 
 /// Why a command did not end well.
 #[derive(Clone, Copy, Debug, PartialEq, Eq)]
 pub enum Refusal {
     /// The words are none of the program's.
     Usage,
+    /// The name or the password of a new site's manager breaks its rule.
+    NotLegible,
     /// The file has this damage, in the transaction at that place.
     Damaged(Damage, u64),
     /// The line of the schedule with this number is bad, or can't be run.
@@ -30,6 +36,8 @@ pub enum Refusal {
     Memory,
     /// The shelf has no such file.
     Missing,
+    /// The shelf has such a file already.
+    Exists,
     /// The schedule has more than 67,108,864 bytes.
     InputTooLarge,
     /// The file has so many bytes, which are too many for a replay.
@@ -70,6 +78,14 @@ impl From<AllocError> for InputRefusal {
     }
 }
 
+impl From<Memory> for FileRefusal {
+    ghost from_gives = { λ _ e. e ≡ FileMemory };
+
+    fn from(_: Memory) -> FileRefusal {
+        FileRefusal::Memory
+    }
+}
+
 impl From<AllocError> for FileRefusal {
     ghost from_gives = { λ _ e. e ≡ FileMemory };
 
@@ -83,6 +99,14 @@ impl<T: Drop> From<AllocFailed<T>> for FileRefusal {
 
     fn from(_: AllocFailed<T>) -> FileRefusal {
         FileRefusal::Memory
+    }
+}
+
+impl From<Memory> for Refusal {
+    ghost from_gives = { λ _ e. e ≡ RefusedMemory };
+
+    fn from(_: Memory) -> Refusal {
+        Refusal::Memory
     }
 }
 
@@ -143,6 +167,17 @@ impl From<ScanRefusal> for Refusal {
             ScanRefusal::Damaged(kind, place) => Refusal::Damaged(kind, place),
             ScanRefusal::Disk => Refusal::Disk,
             ScanRefusal::Memory => Refusal::Memory,
+        }
+    }
+}
+
+impl From<MakeRefusal> for Refusal {
+    ghost from_gives = { λ refusal e. e ≡ of_make refusal };
+
+    fn from(refusal: MakeRefusal) -> Refusal {
+        match refusal {
+            MakeRefusal::Disk => Refusal::Disk,
+            MakeRefusal::Memory => Refusal::Memory,
         }
     }
 }

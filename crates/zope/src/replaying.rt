@@ -28,6 +28,7 @@ fn schedule_of<S: Source>(alloc: Global, input: &mut S) -> Result<Schedule, Refu
 fn bytes_of<F: Shelf>(alloc: Global, files: &mut F, name: &str) -> Result<Bytes, Refusal>
     ensures stored { IfOk result (Stored (F.files files.old) name.now) }
     ensures cause { IfErr result (FileCause (F.files files.old) name.now (Rose (F.counter files.old) (F.counter files.new) ⊎ (F.sound_disks files.old → ⊥))) }
+    ensures same { F.files files.new ≡ F.files files.old }
     ensures count { (F.counter files.old).count ≤ (F.counter files.new).count }
 {
     let bytes = read_file(alloc, files, name)?;
@@ -53,7 +54,7 @@ fn run_over<K: Sink>(
 }
 
 /// Replays all of the input over the file of that name, which may have so many bytes: reads the input, its grammar and
-/// the file, in this order, and then runs the schedule.
+/// the file, in this order, and then runs the schedule. It changes no file.
 pub fn replay_file<F: Shelf, S: Source, K: Sink>(
     alloc: Global,
     name: &str,
@@ -63,6 +64,7 @@ pub fn replay_file<F: Shelf, S: Source, K: Sink>(
     out: &mut K,
 ) -> Result<(), Refusal>
     requires limit { limit ≤ most_length }
+    ensures same { F.files files.new ≡ F.files files.old }
     ensures ok { OnOk result (Replayed name.now limit (F.files files.old) (S.left input.old) (K.written out.old) (K.written out.new)) }
     ensures cause { IfErr result (ReplayCause name.now limit (F.files files.old) (S.left input.old) (Rose (S.counter input.old) (S.counter input.new)) (Rose (K.counter out.old) (K.counter out.new)) (Rose (F.counter files.old) (F.counter files.new) ⊎ (F.sound_disks files.old → ⊥)) (K.written out.old) (K.written out.new)) }
     ensures counts { Counts (K.counter out.old) (K.counter out.new) (IsErrOf result Refusal.Output) }

@@ -1,9 +1,9 @@
-ghost use Rattle.std.specs.Prelude.{◌≡◌, ◌<◌, ◌≤◌, ◌⊎◌, map, string_bytes};
+ghost use Rattle.std.specs.Prelude.{◌≡◌, ◌<◌, ◌≤◌, ◌⊎◌, ℕ, List, map, string_bytes};
 ghost use Rattle.zbase.specs.Faults.{Rose};
-ghost use Rattle.zope.specs.Causes.{Names, NoCause};
+ghost use Rattle.zope.specs.Causes.{LeavesFiles, Names, NoCause};
 ghost use Rattle.zope.specs.Ends.{Ends, IsStatus, status_of};
 ghost use Rattle.zope.specs.Outside.{outside};
-ghost use Rattle.zope.specs.Words.{IsCommand, IsReplay};
+ghost use Rattle.zope.specs.Words.{IsCommand, IsInit, IsReplay};
 
 use crate::command::run_command;
 use crate::last_lines::put_cause;
@@ -23,6 +23,7 @@ fn status_of(refusal: Refusal) -> Status
 {
     match refusal {
         Refusal::Usage => Status(2),
+        Refusal::NotLegible => Status(10),
         Refusal::Damaged(_, _) => Status(3),
         Refusal::BadLine(_) => Status(4),
         Refusal::Disk => Status(5),
@@ -30,6 +31,7 @@ fn status_of(refusal: Refusal) -> Status
         Refusal::Output => Status(6),
         Refusal::Memory => Status(7),
         Refusal::Missing => Status(8),
+        Refusal::Exists => Status(11),
         Refusal::InputTooLarge => Status(9),
         Refusal::FileTooLarge(_) => Status(9),
         Refusal::TooLong(_) => Status(12),
@@ -66,30 +68,33 @@ pub fn run<F: Shelf, S: Source, K: Sink, H: Hub, C: Clock>(
     input: &mut S,
     out: &mut K,
     _hub: &mut H,
-    _clock: &mut C,
+    clock: &mut C,
 ) -> Status
     // With 0 the words' command did what it says: a replay wrote a report that explains the schedule, a check the file's
-    // numbers, a dump its history. Each other status is that of a refusal with its cause, which the last line names.
+    // numbers, a dump its history, a new site its file. Each other status is that of a refusal with its cause, which the last line names.
     ensures ends { let old = outside (F.files files.old) (F.sound_disks files.old) (F.counter files.old)
-        (S.left input.old) (S.counter input.old) (K.written out.old) (K.counter out.old) in
+        (S.left input.old) (S.counter input.old) (K.written out.old) (K.counter out.old) (C.ticks clock.old) (C.counter clock.old) in
         let new = outside (F.files files.new) (F.sound_disks files.new) (F.counter files.new)
-        (S.left input.new) (S.counter input.new) (K.written out.new) (K.counter out.new) in
+        (S.left input.new) (S.counter input.new) (K.written out.new) (K.counter out.new) (C.ticks clock.new) (C.counter clock.new) in
         Ends (map string_bytes words.now) old new result.0 }
     // 6 comes whenever the sink failed, also in a last line.
     ensures sink_failed { (K.counter out.old).count < (K.counter out.new).count → result.0 ≡ 6 }
     // Where there is no cause, the run ends well, or for want of memory.
     ensures complete { let old = outside (F.files files.old) (F.sound_disks files.old) (F.counter files.old)
-        (S.left input.old) (S.counter input.old) (K.written out.old) (K.counter out.old) in
+        (S.left input.old) (S.counter input.old) (K.written out.old) (K.counter out.old) (C.ticks clock.old) (C.counter clock.old) in
         let new = outside (F.files files.new) (F.sound_disks files.new) (F.counter files.new)
-        (S.left input.new) (S.counter input.new) (K.written out.new) (K.counter out.new) in
+        (S.left input.new) (S.counter input.new) (K.written out.new) (K.counter out.new) (C.ticks clock.new) (C.counter clock.new) in
         NoCause (map string_bytes words.now) old new → (result.0 ≡ 0) ⊎ (result.0 ≡ 7) }
-    // No command of today asks a hub or a clock, and only a replay reads its input.
-    ensures alone { (_hub.new ≡ _hub.old) × (_clock.new ≡ _clock.old) × ((IsReplay (map string_bytes words.now) → ⊥) → input.new ≡ input.old) }
+    // Whatever the status, each file that was there stays as it was, and the only new one is that of a new site, or what there
+    // is of it where its making broke off.
+    ensures files { LeavesFiles (map string_bytes words.now) (F.files files.old) (F.files files.new) }
+    // No command of today asks a hub, only a replay reads its input, and only a new site asks the clock.
+    ensures alone { (_hub.new ≡ _hub.old) × (((file : List ℕ) → IsInit (map string_bytes words.now) file → ⊥) → clock.new ≡ clock.old) × ((IsReplay (map string_bytes words.now) → ⊥) → input.new ≡ input.old) }
 {
     one_schedule();
     one_bad_line();
     one_opening();
-    match run_command(alloc, words, files, input, out) {
+    match run_command(alloc, words, files, input, out, clock) {
         Ok(()) => Status(0),
         Err(refusal) => refuse(alloc, refusal, words, out),
     }

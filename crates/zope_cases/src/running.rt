@@ -1,22 +1,31 @@
+ghost use Rattle.std.specs.Prelude.{◌<◌, IfOk};
+
 use cases::{Case, CasesRefusal, Part, Runner};
 use std::alloc::Global;
 use zbase::{Bytes, FaultPlan, Text};
 use zio::{MemoryClock, MemoryFile, MemoryHub, MemoryShelf, MemorySink, MemorySource};
 use zope::run;
 
-/// The program: `words`, each `file NAME` with its bytes, `input` and `failing KIND NUMBER`, where a kind is `opening`,
-/// `disk` (one number at most), `input` or `output`; `status NUMBER` and `output` come of it.
+/// The program: `words`, each `file NAME` with its bytes, `input`, `clock SECONDS NANOSECONDS` since 1970 (else its first
+/// moment), and `failing KIND NUMBER`, where a kind is `opening` (also of a new file), `disk` and `new` (the disks of files
+/// that are there, and of new ones; one number each at most), `input`, `output` or `clock`; `status NUMBER`, `output` and
+/// `left NAME` with what stands in each file come of it.
 #[derive(Drop)]
 pub struct Program;
+
+// The number of the call that is to fail of each disk of that kind.
+fn failing_of(alloc: Global, case: &Case, kind: &str) -> Result<Option<u64>, CasesRefusal> {
+    let numbers = case.failing(alloc, kind)?;
+    if numbers.len() > 1 {
+        return Err(CasesRefusal::Missing);
+    }
+    Ok(numbers.first().copied())
+}
 
 // The files of the case, on a shelf.
 fn shelf_of(alloc: Global, case: &Case) -> Result<MemoryShelf, CasesRefusal> {
     let mut files = Vec::new(alloc);
-    let numbers = case.failing(alloc, "disk")?;
-    if numbers.len() > 1 {
-        return Err(CasesRefusal::Missing);
-    }
-    let failing = numbers.first().copied();
+    let failing = failing_of(alloc, case, "disk")?;
     for part in &case.parts {
         if part.key() == "file" {
             files.push(MemoryFile {
@@ -27,22 +36,64 @@ fn shelf_of(alloc: Global, case: &Case) -> Result<MemoryShelf, CasesRefusal> {
         }
     }
     let plan = FaultPlan::new(case.failing(alloc, "opening")?);
-    Ok(MemoryShelf::new(alloc, files, plan))
+    let shelf = MemoryShelf::new(alloc, files, plan);
+    match failing_of(alloc, case, "new")? {
+        Some(number) => Ok(shelf.with_failing_new(number)),
+        None => Ok(shelf),
+    }
+}
+
+// The moment that the case's clock tells.
+fn moment_of(part: &Part) -> Result<(i64, u32), CasesRefusal>
+    ensures { IfOk result (λ moment. moment.1 < 1000000000) }
+{
+    let Ok(seconds) = part.word(1).unwrap_or("").parse::<i64>() else {
+        return Err(CasesRefusal::BadPart(part.line));
+    };
+    let nanos = part.number(2)?;
+    if nanos >= 1_000_000_000 {
+        return Err(CasesRefusal::BadPart(part.line));
+    }
+    Ok((seconds, nanos as u32))
+}
+
+// The case's clock.
+fn clock_of(alloc: Global, case: &Case) -> Result<MemoryClock, CasesRefusal> {
+    let plan = FaultPlan::new(case.failing(alloc, "clock")?);
+    let mut ticks = Vec::new(alloc);
+    if let Some(part) = case.part("clock") {
+        ticks.push(moment_of(part)?)?;
+    }
+    Ok(MemoryClock::new(ticks, plan))
+}
+
+// What a run left in a file.
+fn left_of(alloc: Global, file: &MemoryFile) -> Result<Part, CasesRefusal> {
+    let key = format!(in alloc; "left {}", file.name.as_str())?;
+    Ok(Part::with(alloc, key.as_str(), file.bytes.copy()?)?)
 }
 
 // The parts that come of a run.
-fn parts_of(alloc: Global, status: u8, output: &MemorySink) -> Result<Vec<Part>, CasesRefusal> {
+fn parts_of(
+    alloc: Global,
+    status: u8,
+    output: &MemorySink,
+    shelf: &MemoryShelf,
+) -> Result<Vec<Part>, CasesRefusal> {
     let status = format!(in alloc; "status {status}")?;
     let bytes = Bytes::from_slice(alloc, output.bytes())?;
     let mut parts = Vec::new(alloc);
     parts.push(Part::with(alloc, status.as_str(), Bytes::new(alloc))?)?;
     parts.push(Part::with(alloc, "output", bytes)?)?;
+    for file in shelf.files() {
+        parts.push(left_of(alloc, file)?)?;
+    }
     Ok(parts)
 }
 
 impl Runner for Program {
     fn knows(&self, key: &str) -> bool {
-        matches!(key, "words" | "file" | "input" | "failing")
+        matches!(key, "words" | "file" | "input" | "clock" | "failing")
     }
 
     fn run(&self, alloc: Global, case: &Case) -> Result<Vec<Part>, CasesRefusal> {
@@ -52,7 +103,7 @@ impl Runner for Program {
         let mut input = MemorySource::new(case.bytes(alloc, "input")?, plan);
         let mut output = MemorySink::new(alloc, FaultPlan::new(case.failing(alloc, "output")?));
         let mut hub = MemoryHub::new(alloc, Vec::new(alloc), FaultPlan::none(alloc));
-        let mut clock = MemoryClock::new(Vec::new(alloc), FaultPlan::none(alloc));
+        let mut clock = clock_of(alloc, case)?;
         let status = run(
             alloc,
             words.as_slice(),
@@ -62,6 +113,6 @@ impl Runner for Program {
             &mut hub,
             &mut clock,
         );
-        parts_of(alloc, status.0, &output)
+        parts_of(alloc, status.0, &output, &shelf)
     }
 }

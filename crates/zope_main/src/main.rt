@@ -5,7 +5,7 @@ use std::env;
 use std::io::ErrorKind;
 use std::process::ExitCode;
 use zbase::FaultPlan;
-use zio::{Folder, MemoryClock, MemoryHub, OutsideRefusal, ReaderSource, Sink, WriterSink};
+use zio::{Folder, MemoryHub, OutsideRefusal, ReaderSource, Sink, SystemClock, WriterSink};
 use zope::{Status, run};
 
 // The words of the command line. Words that aren't UTF-8 are none of the program's.
@@ -44,7 +44,7 @@ fn main(rt: HostRuntime) -> std::io::Result<ExitCode> {
     let mut input = ReaderSource::new(rt.stdin());
     let mut out = WriterSink::new(rt.stdout());
     let mut hub = MemoryHub::new(alloc, Vec::new(alloc), FaultPlan::none(alloc));
-    let mut clock = MemoryClock::new(Vec::new(alloc), FaultPlan::none(alloc));
+    let mut clock = SystemClock::new(&rt);
     let status = match words_of(&rt, env::args(&rt)) {
         Ok(words) => run(
             alloc,

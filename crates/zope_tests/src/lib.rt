@@ -5,3 +5,5 @@
 mod dumped_files;
 #[cfg(test)]
 mod long_files;
+#[cfg(test)]
+mod made_files;

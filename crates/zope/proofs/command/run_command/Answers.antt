@@ -1,6 +1,4 @@
-use Rattle.std.proofs.Common.{inl, refl}
-use Rattle.zope.proofs.LimitWords.{no_command}
 use Rattle.zope.proofs.command.run_command.Goals as goal
 
-pub returns-in-None-clause-cause : goal.returns-in-None-clause-cause
-returns-in-None-clause-cause g c = inl (refl, no_command _ c.in_default.ensures c.in_default-check_words.ensures c.in-None.ensures, refl)
+pub returns-in-Ok-Init-clause-unasked : goal.returns-in-Ok-Init-clause-unasked
+returns-in-Ok-Init-clause-unasked g c other = absurd (other c.in-Ok-Init.file.now (c.in-Ok-Init.name.now, c.in-Ok-Init.password.now, rw c.in-Ok-Init.field-0-is at c.in-Ok-Init.ensures.ok))
