@@ -2,7 +2,7 @@
 use Rattle.std.proofs.Common.{◌≡◌, ℕ, ◌+◌, ◌-◌, ◌<◌, ◌≤◌, ◌^◌, true, List, ◌++◌, length, take, drop, Option, Some, None, IfSome, refl, sym, ap, subst, ◌∙◌, append_assoc, append-nil, arith}
 use Rattle.std.specs.Prelude.{min, MatchOption}
 use Rattle.std.specs.Option.{ForSome, option_map}
-use Rattle.std.specs.List.{list_all, flat_map}
+use Rattle.std.specs.List.{list_all}
 use Rattle.std.proofs.lemmas.List.{length-append, length-drop, take-append-drop, take_all, take_at, drop_at, drop-drop, drop_all}
 use Rattle.zbase.specs.Numbers.{be64}
 use Rattle.zdisk.specs.Disk.{Told, bytes_at, content}
@@ -12,7 +12,7 @@ use Rattle.fs_record.specs.File.{Earlier, has_body, rows, values_of}
 use Rattle.fs_record.specs.Fits.{FitsInside, FitsTxnHead}
 use Rattle.fs_record.specs.Opening.{Stands}
 use Rattle.fs_record.specs.Reading.{texts_end, texts_read}
-use Rattle.fs_record.specs.Spelling.{Block, Data, Inside, Records, block_spelling, data_spelling, inside_spelling, long_of, texts_spelling, txn_head, txn_head_of}
+use Rattle.fs_record.specs.Spelling.{Block, Data, Inside, Records, block_spelling, inside_spelling, long_of, texts_spelling, txn_head, txn_head_of}
 use Rattle.fs_record.specs.SpellingLaws.{length-block, length-texts, length-txn_head, same_txn_head}
 use Rattle.fs_scan.specs.declared.wholes.OidValue.{OidValue}
 use Rattle.fs_scan.specs.Followed.{MeansValues}

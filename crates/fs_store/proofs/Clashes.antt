@@ -13,7 +13,7 @@ use Rattle.fs_record.specs.File.{last_place, rows}
 use Rattle.fs_record.specs.WalkLaws.{none_at_all, other, same, whole}
 use Rattle.fs_scan.specs.Newest.{place_in}
 use Rattle.fs_index.specs.Places.{place_of}
-use Rattle.fs_store.specs.declared.known.Known.{Known}
+use Rattle.fs_store.specs.declared.file.OpenFile.{OpenFile}
 use Rattle.fs_store.specs.declared.reads.Seen.{Seen}
 use Rattle.fs_store.specs.Fronts.{file_at, front_at, history_at}
 use Rattle.fs_store.specs.Knowing.{Knows}
@@ -21,7 +21,7 @@ use Rattle.fs_store.specs.Seeing.{SeenIn}
 use Rattle.fs_store.specs.Verdicts.{clash_among, clash_at, first_of}
 use Rattle.fs_store.proofs.WayBack.{Tells, head_there, leads_back, no_head, way_first}
 
-abbrev SeenAt : Told → Known → Seen → Type 0
+abbrev SeenAt : Told → OpenFile → Seen → Type 0
 SeenAt told known seen = SeenIn (file_at told known.end) (front_at told known.end) seen.oid seen.serial seen.place
 
 abbrev clash_by : Seen → ℕ → Bool → Option Clash
@@ -30,13 +30,13 @@ clash_by seen found later = cond later (let c : Clash = record { oid = seen.oid;
 not_less : (m n : ℕ) → m ≡ n → nat_lt m n ≡ false
 not_less m n e = le-ltb m n (omega (arith, e))
 
-pub no_clash : (told : Told) (known : Known) (seen : Seen) → Knows told known → SeenAt told known seen → place_in (place_of known.index seen.oid) ≡ seen.place → None ≡ clash_at (history_at told known.end) seen
+pub no_clash : (told : Told) (known : OpenFile) (seen : Seen) → Knows told known → SeenAt told known seen → place_in (place_of known.index seen.oid) ≡ seen.place → None ≡ clash_at (history_at told known.end) seen
 no_clash told known seen k s here =
     let still = same (file_at told known.end) (front_at told known.end) s.at seen.oid s.passed (sym s.place_is ∙ sym here ∙ k.newest seen.oid) in
     sym (ap (clash_by seen (serial (history_at told known.end) seen.oid)) (not_less seen.serial (serial (history_at told known.end) seen.oid) (s.serial_is ∙ still)))
 
 -- the newest record stands elsewhere, so there is one, with a later serial
-pub moved_on : (told : Told) (known : Known) (seen : Seen) (place : ℕ) → Knows told known → SeenAt told known seen → place ≡ place_in (place_of known.index seen.oid) → place ≢ seen.place → (0 < place) × (seen.serial < serial (history_at told known.end) seen.oid)
+pub moved_on : (told : Told) (known : OpenFile) (seen : Seen) (place : ℕ) → Knows told known → SeenAt told known seen → place ≡ place_in (place_of known.index seen.oid) → place ≢ seen.place → (0 < place) × (seen.serial < serial (history_at told known.end) seen.oid)
 moved_on told known seen place k s is elsewhere =
     let file = file_at told known.end in
     let front = front_at told known.end in
@@ -51,13 +51,13 @@ moved_on told known seen place k s is elsewhere =
     )
 
 -- its serial is that of its newest record
-serial_there : (told : Told) (known : Known) (oid : ℕ) (head : DataHead) → Knows told known → 0 < place_in (place_of known.index oid) → Tells told (place_in (place_of known.index oid)) (Some head) → head.tid ≡ serial (history_at told known.end) oid
+serial_there : (told : Told) (known : OpenFile) (oid : ℕ) (head : DataHead) → Knows told known → 0 < place_in (place_of known.index oid) → Tells told (place_in (place_of known.index oid)) (Some head) → head.tid ≡ serial (history_at told known.end) oid
 serial_there told known oid head k positive tells =
     let l = leads_back told known.end oid 0 (place_in (place_of known.index oid)) 0 0 (way_first told known oid 0 0 k) positive in
     let is : head ≡ head_of l.written = head_there told (place_in (place_of known.index oid)) head tells l.written l.behind l.fits l.spelled in
     ap (λ (h : DataHead). h.tid) is ∙ sym l.serial_is
 
-pub clash_here : (told : Told) (known : Known) (seen : Seen) (place : ℕ) (head : DataHead) → Knows told known → SeenAt told known seen → place ≡ place_in (place_of known.index seen.oid) → place ≢ seen.place → Tells told place (Some head)
+pub clash_here : (told : Told) (known : OpenFile) (seen : Seen) (place : ℕ) (head : DataHead) → Knows told known → SeenAt told known seen → place ≡ place_in (place_of known.index seen.oid) → place ≢ seen.place → Tells told place (Some head)
     → clash_by seen head.tid true ≡ clash_at (history_at told known.end) seen
 clash_here told known seen place head k s is elsewhere tells =
     let h = history_at told known.end in
@@ -65,7 +65,7 @@ clash_here told known seen place head k s is elsewhere tells =
     let tid = serial_there told known seen.oid head k (subst (λ (n : ℕ). 0 < n) is m.0) (subst (λ (n : ℕ). Tells told n (Some head)) is tells) in
     ap (λ (n : ℕ). clash_by seen n true) tid ∙ ap (clash_by seen (serial h seen.oid)) (sym (lt-ltb seen.serial (serial h seen.oid) m.1))
 
-pub some_head : {X : Type 0} (told : Told) (known : Known) (seen : Seen) (place : ℕ) → Knows told known → SeenAt told known seen → place ≡ place_in (place_of known.index seen.oid) → place ≢ seen.place → Tells told place None → X
+pub some_head : {X : Type 0} (told : Told) (known : OpenFile) (seen : Seen) (place : ℕ) → Knows told known → SeenAt told known seen → place ≡ place_in (place_of known.index seen.oid) → place ≢ seen.place → Tells told place None → X
 some_head told known seen place k s is elsewhere tells =
     let m = moved_on told known seen place k s is elsewhere in
     no_head told known.end seen.oid 0 (place_in (place_of known.index seen.oid)) 0 0 (way_first told known seen.oid 0 0 k) (subst (λ (n : ℕ). 0 < n) is m.0) (subst (λ (n : ℕ). Tells told n None) is tells)

@@ -24,7 +24,7 @@ use Rattle.fs_record.specs.WalkLaws.{grows, is_file, whole}
 use Rattle.fs_record.specs.Written.{IsWritable, data_of, records_of, said_by, transaction}
 use Rattle.fs_record.specs.WrittenLaws.{history-transaction, right_behind}
 use Rattle.fs_scan.specs.Newest.{place_in}
-use Rattle.fs_store.specs.declared.known.Known.{Known}
+use Rattle.fs_store.specs.declared.file.OpenFile.{OpenFile}
 use Rattle.fs_store.specs.declared.reads.Seen.{Seen}
 use Rattle.fs_store.specs.declared.waiting.Waiting.{Waiting}
 use Rattle.fs_store.specs.Fronts.{file_at, front_at, front_in, history_at, history_where, records_at}
@@ -40,13 +40,13 @@ use Rattle.fs_store.proofs.Images.{opens_file, opens_rest, own_image, torn_is_en
 
 -- ---- the block, before and after
 
-abbrev pub piece_of : ℕ → Known → Waiting → List ℕ
+abbrev pub piece_of : ℕ → OpenFile → Waiting → List ℕ
 piece_of status k w = block_spelling (transaction k.end w.tid status w.texts w.items)
 
-abbrev pub counted_front : Told → Known → Waiting → Front
+abbrev pub counted_front : Told → OpenFile → Waiting → Front
 counted_front t k w = after (front_at t k.end) (transaction k.end w.tid 32 w.texts w.items)
 
-pub long_file : (t : Told) (k : Known) → Knows t k → length (file_at t k.end) ≡ k.end
+pub long_file : (t : Told) (k : OpenFile) → Knows t k → length (file_at t k.end) ≡ k.end
 long_file t k knows = length-take-le k.end (content t) knows.within
 
 pub writable_counted : (start tid : ℕ) (texts : TxnTexts) (items : List Item) → IsWritable start tid 99 texts items → IsWritable start tid 32 texts items
@@ -59,25 +59,25 @@ writable_counted start tid texts items w = record {
   end = omega (arith, w.end, length-transaction start tid 99 texts items, length-transaction start tid 32 texts items);
 }
 
-pub same_size : (k : Known) (w : Waiting) → length (piece_of 32 k w) ≡ length (piece_of 99 k w)
+pub same_size : (k : OpenFile) (w : Waiting) → length (piece_of 32 k w) ≡ length (piece_of 99 k w)
 same_size k w = length-transaction k.end w.tid 32 w.texts w.items ∙ sym (length-transaction k.end w.tid 99 w.texts w.items)
 
-right_counted : (t : Told) (k : Known) (w : Waiting) → Knows t k → StandsBehind t k w → IsWritable k.end w.tid 99 w.texts w.items → IsRight (front_at t k.end) (transaction k.end w.tid 32 w.texts w.items)
+right_counted : (t : Told) (k : OpenFile) (w : Waiting) → Knows t k → StandsBehind t k w → IsWritable k.end w.tid 99 w.texts w.items → IsRight (front_at t k.end) (transaction k.end w.tid 32 w.texts w.items)
 right_counted t k w knows stands writable =
     right_behind (front_at t k.end) k.end w.tid 32 w.texts w.items (sym (long_file t k knows) ∙ sym (file_place (file_at t k.end) (front_at t k.end) knows.file)) (writable_counted k.end w.tid w.texts w.items writable) stands.goes
 
 -- the longer file
-pub file_counted : (t : Told) (k : Known) (w : Waiting) → Knows t k → StandsBehind t k w → IsWritable k.end w.tid 99 w.texts w.items → IsFile (file_at t k.end ++ piece_of 32 k w) (counted_front t k w)
+pub file_counted : (t : Told) (k : OpenFile) (w : Waiting) → Knows t k → StandsBehind t k w → IsWritable k.end w.tid 99 w.texts w.items → IsFile (file_at t k.end ++ piece_of 32 k w) (counted_front t k w)
 file_counted t k w knows stands writable = is_file _ _ _ (grows (file_at t k.end) (front_at t k.end) (front_at t k.end) _ (whole (file_at t k.end) (front_at t k.end) knows.file) (right_counted t k w knows stands writable))
 
-pub history_counted : (t : Told) (k : Known) (w : Waiting) → (counted_front t k w).history ≡ added (history_at t k.end) (said_by (records_at t k.end) w.tid w.texts w.items)
+pub history_counted : (t : Told) (k : OpenFile) (w : Waiting) → (counted_front t k w).history ≡ added (history_at t k.end) (said_by (records_at t k.end) w.tid w.texts w.items)
 history_counted t k w = history-transaction (front_at t k.end) k.end w.tid 32 w.texts w.items
 
 -- setting the status byte behind a file
 pub set_behind : (file piece : List ℕ) (i byte : ℕ) → set (file ++ piece) (length file + i) byte ≡ file ++ set piece i byte
 set_behind file piece i byte = set-append_right file piece (length file) (length file + i) byte refl (omega arith) ∙ ap (λ (n : ℕ). file ++ set piece n byte) (omega arith)
 
-pub status_counted : (t : Told) (k : Known) (w : Waiting) → Knows t k → StandsBehind t k w → slice_set (content t) (k.end + 16) 32 ≡ file_at t k.end ++ piece_of 32 k w
+pub status_counted : (t : Told) (k : OpenFile) (w : Waiting) → Knows t k → StandsBehind t k w → slice_set (content t) (k.end + 16) 32 ≡ file_at t k.end ++ piece_of 32 k w
 status_counted t k w knows stands =
     ap₂ (λ (bytes : List ℕ) (n : ℕ). slice_set bytes n 32) stands.behind (ap (λ (n : ℕ). n + 16) (sym (long_file t k knows)))
     ∙ set_behind (file_at t k.end) (piece_of 99 k w) 16 32
@@ -85,18 +85,18 @@ status_counted t k w knows stands =
 
 -- ---- images
 
-pub opens_waiting : (t : Told) (k : Known) (w : Waiting) → Knows t k → StandsBehind t k w → length (content t) ≤ most_length → OpensTo (content t) (history_at t k.end) k.end
+pub opens_waiting : (t : Told) (k : OpenFile) (w : Waiting) → Knows t k → StandsBehind t k w → length (content t) ≤ most_length → OpensTo (content t) (history_at t k.end) k.end
 opens_waiting t k w knows stands fits =
     opens_rest (file_at t k.end) (piece_of 99 k w) (content t) (front_at t k.end) k.end knows.file stands.behind (torn_is_end (piece_of 99 k w) (inl (status_at k.end w.tid 99 w.texts w.items))) (long_file t k knows) fits
 
 -- the file of which it is a part has as many bytes as before
-pub long_counted : (t : Told) (k : Known) (w : Waiting) → StandsBehind t k w → length (file_at t k.end ++ piece_of 32 k w) ≡ length (content t)
+pub long_counted : (t : Told) (k : OpenFile) (w : Waiting) → StandsBehind t k w → length (file_at t k.end ++ piece_of 32 k w) ≡ length (content t)
 long_counted t k w stands = omega (arith, length-append (file_at t k.end) (piece_of 32 k w), length-append (file_at t k.end) (piece_of 99 k w), ap length stands.behind, same_size k w)
 
-ends_counted : (t : Told) (k : Known) (w : Waiting) → Knows t k → w.size ≡ length (piece_of 99 k w) → length (file_at t k.end ++ piece_of 32 k w) ≡ k.end + w.size
+ends_counted : (t : Told) (k : OpenFile) (w : Waiting) → Knows t k → w.size ≡ length (piece_of 99 k w) → length (file_at t k.end ++ piece_of 32 k w) ≡ k.end + w.size
 ends_counted t k w knows size = omega (arith, length-append (file_at t k.end) (piece_of 32 k w), long_file t k knows, same_size k w, size)
 
-pub opens_counted : (t : Told) (k : Known) (w : Waiting) → Knows t k → StandsBehind t k w → IsWritable k.end w.tid 99 w.texts w.items → w.size ≡ length (piece_of 99 k w) → length (content t) ≤ most_length
+pub opens_counted : (t : Told) (k : OpenFile) (w : Waiting) → Knows t k → StandsBehind t k w → IsWritable k.end w.tid 99 w.texts w.items → w.size ≡ length (piece_of 99 k w) → length (content t) ≤ most_length
     → OpensTo (file_at t k.end ++ piece_of 32 k w) (added (history_at t k.end) (said_by (records_at t k.end) w.tid w.texts w.items)) (k.end + w.size)
 opens_counted t k w knows stands writable size fits =
     subst (λ (h : History). OpensTo (file_at t k.end ++ piece_of 32 k w) h (k.end + w.size)) (history_counted t k w)
@@ -146,7 +146,7 @@ few file front is = subst (λ (f : Front). length f.history.transactions ≤ f.p
 count_one : (c n m end long : ℕ) → c ≡ min (n + 1) greatest_number → n ≡ m → m ≤ end → end + long < 2 ^ 64 → 23 ≤ long → c ≡ m + 1
 count_one c n m end long is same few fits some = omega (arith, is, same, few, fits, some)
 
-rows_counted : (t : Told) (k : Known) (w : Waiting) → Knows t k → rows (counted_front t k w).records ≡ rows (records_at t k.end) ++ item_rows (first_at k.end w.texts) w.items
+rows_counted : (t : Told) (k : OpenFile) (w : Waiting) → Knows t k → rows (counted_front t k w).records ≡ rows (records_at t k.end) ++ item_rows (first_at k.end w.texts) w.items
 unfolding after_in
 rows_counted t k w knows =
     let front = front_at t k.end in
@@ -155,26 +155,27 @@ rows_counted t k w knows =
     ∙ ap (λ (rs : List Row). rows front.records ++ rs) (rows_from front.records w.tid k.end _ w.items ∙ ap (λ (n : ℕ). item_rows n w.items) (omega (arith, place)))
 
 -- what the store has then of the transaction that waited
-pub record Learnt (k k' : Known) (w : Waiting) : Type 0 where
+pub record Learnt (k k' : OpenFile) (w : Waiting) : Type 0 where
   pub numbers : (k'.end ≡ k.end + w.size) × (k'.last ≡ w.tid)
+  pub len : k'.len ≡ k.len
   pub next : (k'.next ≡ next_with k.next w.items) × (k'.next ≤ 2 ^ 64)
   pub count : k'.count ≡ min (k.count + 1) greatest_number
   pub index : (o : ℕ) → place_in (place_of k'.index o) ≡ last_place o (place_in (place_of k.index o)) (item_rows (first_at k.end w.texts) w.items)
 
-pub content_counted : (t u : Told) (k : Known) (w : Waiting) → Knows t k → StandsBehind t k w → content u ≡ slice_set (content t) (k.end + 16) 32 → content u ≡ file_at t k.end ++ piece_of 32 k w
+pub content_counted : (t u : Told) (k : OpenFile) (w : Waiting) → Knows t k → StandsBehind t k w → content u ≡ slice_set (content t) (k.end + 16) 32 → content u ≡ file_at t k.end ++ piece_of 32 k w
 content_counted t u k w knows stands written = written ∙ status_counted t k w knows stands
 
-pub end_counted : (t u : Told) (k k' : Known) (w : Waiting) → Knows t k → w.size ≡ length (piece_of 99 k w) → content u ≡ file_at t k.end ++ piece_of 32 k w → Learnt k k' w → k'.end ≡ length (content u)
+pub end_counted : (t u : Told) (k k' : OpenFile) (w : Waiting) → Knows t k → w.size ≡ length (piece_of 99 k w) → content u ≡ file_at t k.end ++ piece_of 32 k w → Learnt k k' w → k'.end ≡ length (content u)
 end_counted t u k k' w knows size is learnt = omega (arith, learnt.numbers.0, size, ap length is, length-append (file_at t k.end) (piece_of 32 k w), long_file t k knows, same_size k w)
 
-pub whole_counted : (t u : Told) (k k' : Known) (w : Waiting) → Knows t k → w.size ≡ length (piece_of 99 k w) → content u ≡ file_at t k.end ++ piece_of 32 k w → Learnt k k' w → file_at u k'.end ≡ file_at t k.end ++ piece_of 32 k w
+pub whole_counted : (t u : Told) (k k' : OpenFile) (w : Waiting) → Knows t k → w.size ≡ length (piece_of 99 k w) → content u ≡ file_at t k.end ++ piece_of 32 k w → Learnt k k' w → file_at u k'.end ≡ file_at t k.end ++ piece_of 32 k w
 whole_counted t u k k' w knows size is learnt = take_all k'.end (content u) (omega (arith, end_counted t u k k' w knows size is learnt)) ∙ is
 
-pub front_counted : (t u : Told) (k k' : Known) (w : Waiting) → Knows t k → StandsBehind t k w → IsWritable k.end w.tid 99 w.texts w.items → file_at u k'.end ≡ file_at t k.end ++ piece_of 32 k w → front_at u k'.end ≡ counted_front t k w
+pub front_counted : (t u : Told) (k k' : OpenFile) (w : Waiting) → Knows t k → StandsBehind t k w → IsWritable k.end w.tid 99 w.texts w.items → file_at u k'.end ≡ file_at t k.end ++ piece_of 32 k w → front_at u k'.end ≡ counted_front t k w
 front_counted t u k k' w knows stands writable same =
     ap (λ (f : List ℕ). front_in (opening_of f)) same ∙ ap front_in (reads_file _ (counted_front t k w) (file_counted t k w knows stands writable))
 
-pub knows_counted : (t u : Told) (k k' : Known) (w : Waiting) → Knows t k → StandsBehind t k w → IsWritable k.end w.tid 99 w.texts w.items → w.size ≡ length (piece_of 99 k w) → IsSynced u → content u ≡ file_at t k.end ++ piece_of 32 k w → Learnt k k' w → Knows u k'
+pub knows_counted : (t u : Told) (k k' : OpenFile) (w : Waiting) → Knows t k → StandsBehind t k w → IsWritable k.end w.tid 99 w.texts w.items → w.size ≡ length (piece_of 99 k w) → IsSynced u → content u ≡ file_at t k.end ++ piece_of 32 k w → Learnt k k' w → Knows u k'
 knows_counted t u k k' w knows stands writable size synced is learnt =
     let h = history_at t k.end in
     let x = said_by (records_at t k.end) w.tid w.texts w.items in
@@ -201,8 +202,8 @@ knows_counted t u k k' w knows stands writable size synced is learnt =
 
 -- ---- over every disk
 
-pub kept_counted : (o u : Option Told) (k k' : Known) (w : Waiting) (limit calls bytes calls_left bytes_left : ℕ) → IsKept o k limit (Some w) calls bytes → Becomes o u (λ file. slice_set file (k.end + 16) 32) → Learnt k k' w → IsKept u k' limit None calls_left bytes_left
-kept_counted None None k k' w limit calls bytes calls_left bytes_left kept became learnt = record { bound = learnt.next.1; knows = tt; fits = tt; alone = λ none. tt; waits = tt }
+pub kept_counted : (o u : Option Told) (k k' : OpenFile) (w : Waiting) (limit calls bytes calls_left bytes_left : ℕ) → IsKept o k limit (Some w) calls bytes → Becomes o u (λ file. slice_set file (k.end + 16) 32) → Learnt k k' w → IsKept u k' limit None calls_left bytes_left
+kept_counted None None k k' w limit calls bytes calls_left bytes_left kept became learnt = record { bound = learnt.next.1; knows = tt; fits = tt; long = tt; alone = λ none. tt; waits = tt }
 kept_counted None (Some u) k k' w limit calls bytes calls_left bytes_left kept became learnt = absurd became
 kept_counted (Some t) None k k' w limit calls bytes calls_left bytes_left kept became learnt = absurd became
 kept_counted (Some t) (Some u) k k' w limit calls bytes calls_left bytes_left kept became learnt =
@@ -212,11 +213,12 @@ kept_counted (Some t) (Some u) k k' w limit calls bytes calls_left bytes_left ke
       bound = learnt.next.1;
       knows = knows_counted t u k k' w kept.knows v.stands v.writable v.size_is became.0 is learnt;
       fits = omega (arith, ap length is, long_counted t k w v.stands, kept.fits);
+      long = learnt.len ∙ kept.long ∙ sym (ap length is ∙ long_counted t k w v.stands);
       alone = λ none. end_counted t u k k' w kept.knows v.size_is is learnt;
       waits = tt;
     }
 
-pub stands_counted : (o u : Option Told) (k k' : Known) (w : Waiting) (limit calls bytes : ℕ) → IsKept o k limit (Some w) calls bytes → Becomes o u (λ file. slice_set file (k.end + 16) 32) → Learnt k k' w → IfSome o (λ t. history_where u k'.end ≡ added (history_at t k.end) (out_of o k.end w).transaction)
+pub stands_counted : (o u : Option Told) (k k' : OpenFile) (w : Waiting) (limit calls bytes : ℕ) → IsKept o k limit (Some w) calls bytes → Becomes o u (λ file. slice_set file (k.end + 16) 32) → Learnt k k' w → IfSome o (λ t. history_where u k'.end ≡ added (history_at t k.end) (out_of o k.end w).transaction)
 stands_counted None u k k' w limit calls bytes kept became learnt = tt
 stands_counted (Some t) None k k' w limit calls bytes kept became learnt = absurd became
 stands_counted (Some t) (Some u) k k' w limit calls bytes kept became learnt =
@@ -225,7 +227,7 @@ stands_counted (Some t) (Some u) k k' w limit calls bytes kept became learnt =
     let file = whole_counted t u k k' w kept.knows v.size_is is learnt in
     ap (λ (f : Front). f.history) (front_counted t u k k' w kept.knows v.stands v.writable file) ∙ history_counted t k w
 
-pub seen_counted : (o u : Option Told) (k k' : Known) (w : Waiting) (limit calls bytes : ℕ) (s : Seen) → IsKept o k limit (Some w) calls bytes → Becomes o u (λ file. slice_set file (k.end + 16) 32) → Learnt k k' w → SeenOn o k.end s → SeenOn u k'.end s
+pub seen_counted : (o u : Option Told) (k k' : OpenFile) (w : Waiting) (limit calls bytes : ℕ) (s : Seen) → IsKept o k limit (Some w) calls bytes → Becomes o u (λ file. slice_set file (k.end + 16) 32) → Learnt k k' w → SeenOn o k.end s → SeenOn u k'.end s
 seen_counted None None k k' w limit calls bytes s kept became learnt seen = tt
 seen_counted None (Some u) k k' w limit calls bytes s kept became learnt seen = absurd became
 seen_counted (Some t) None k k' w limit calls bytes s kept became learnt seen = absurd became
@@ -246,25 +248,25 @@ seen_counted (Some t) (Some u) k k' w limit calls bytes s kept became learnt see
 abbrev Sets : ℕ → List ℕ → List ℕ → Type 0
 Sets at file image = (image ≡ file) ⊎ (image ≡ slice_set file at 32)
 
-either_opens : (t : Told) (k : Known) (w : Waiting) (limit calls bytes : ℕ) (image : List ℕ) → IsKept (Some t) k limit (Some w) calls bytes → Sets (k.end + 16) (content t) image
+either_opens : (t : Told) (k : OpenFile) (w : Waiting) (limit calls bytes : ℕ) (image : List ℕ) → IsKept (Some t) k limit (Some w) calls bytes → Sets (k.end + 16) (content t) image
     → OpensTo image (history_at t k.end) k.end ⊎ OpensTo image (added (history_at t k.end) (said_by (records_at t k.end) w.tid w.texts w.items)) (k.end + w.size)
 either_opens t k w limit calls bytes image kept (inl e) = inl (subst (λ (b : List ℕ). OpensTo b (history_at t k.end) k.end) (sym e) (opens_waiting t k w kept.knows kept.waits.stands kept.fits))
 either_opens t k w limit calls bytes image kept (inr e) =
     let v = kept.waits in
     inr (subst (λ (b : List ℕ). OpensTo b (added (history_at t k.end) (said_by (records_at t k.end) w.tid w.texts w.items)) (k.end + w.size)) (sym (e ∙ status_counted t k w kept.knows v.stands)) (opens_counted t k w kept.knows v.stands v.writable v.size_is kept.fits))
 
-pub moments_counted : (o u : Option Told) (k : Known) (w : Waiting) (limit calls bytes : ℕ) → IsKept o k limit (Some w) calls bytes → LeavesFrom o u (λ file image. (image ≡ file) ⊎ (image ≡ slice_set file (k.end + 16) 32))
+pub moments_counted : (o u : Option Told) (k : OpenFile) (w : Waiting) (limit calls bytes : ℕ) → IsKept o k limit (Some w) calls bytes → LeavesFrom o u (λ file image. (image ≡ file) ⊎ (image ≡ slice_set file (k.end + 16) 32))
     → LeavesFrom o u (λ file image. OpensTo image (history_where o k.end) k.end ⊎ OpensTo image (added (history_where o k.end) (out_of o k.end w).transaction) (k.end + w.size))
 moments_counted None None k w limit calls bytes kept all = tt
 moments_counted None (Some u) k w limit calls bytes kept all = absurd all
 moments_counted (Some t) None k w limit calls bytes kept all = absurd all
 moments_counted (Some t) (Some u) k w limit calls bytes kept all = (all.0, λ held since image is. either_opens t k w limit calls bytes image kept (all.1 held since image is))
 
-pub either_front : (t u : Told) (k : Known) (w : Waiting) → Knows t k → StandsBehind t k w → Sets (k.end + 16) (content t) (content u) → file_at u k.end ≡ file_at t k.end
+pub either_front : (t u : Told) (k : OpenFile) (w : Waiting) → Knows t k → StandsBehind t k w → Sets (k.end + 16) (content t) (content u) → file_at u k.end ≡ file_at t k.end
 either_front t u k w knows stands (inl e) = ap (take k.end) e
 either_front t u k w knows stands (inr e) = file_front t u k.end (piece_of 32 k w) knows.within (e ∙ status_counted t k w knows stands)
 
-pub history_undecided : (o u : Option Told) (k : Known) (w : Waiting) (limit calls bytes : ℕ) → IsKept o k limit (Some w) calls bytes → LeavesFrom o u (λ file image. (image ≡ file) ⊎ (image ≡ slice_set file (k.end + 16) 32)) → history_where u k.end ≡ history_where o k.end
+pub history_undecided : (o u : Option Told) (k : OpenFile) (w : Waiting) (limit calls bytes : ℕ) → IsKept o k limit (Some w) calls bytes → LeavesFrom o u (λ file image. (image ≡ file) ⊎ (image ≡ slice_set file (k.end + 16) 32)) → history_where u k.end ≡ history_where o k.end
 history_undecided None None k w limit calls bytes kept all = refl
 history_undecided None (Some u) k w limit calls bytes kept all = absurd all
 history_undecided (Some t) None k w limit calls bytes kept all = absurd all
@@ -273,13 +275,13 @@ history_undecided (Some t) (Some u) k w limit calls bytes kept all =
 
 -- ---- what the calls want
 
-pub status_within : (o : Option Told) (k : Known) (w : Waiting) (limit calls bytes : ℕ) → IsKept o k limit (Some w) calls bytes → (t : Told) → o ≡ Some t → IsSynced t × (k.end + 16 < length (content t))
+pub status_within : (o : Option Told) (k : OpenFile) (w : Waiting) (limit calls bytes : ℕ) → IsKept o k limit (Some w) calls bytes → (t : Told) → o ≡ Some t → IsSynced t × (k.end + 16 < length (content t))
 status_within o k w limit calls bytes kept t is =
     let knows : Knows t k = subst (λ (x : Option Told). IfSome x (λ s. Knows s k)) is kept.knows in
     let stands : StandsBehind t k w = subst (λ (x : Option Told). IfSome x (λ s. StandsBehind s k w)) is kept.waits.stands in
     (knows.synced, omega (arith, ap length stands.behind, length-append (file_at t k.end) (piece_of 99 k w), long_file t k knows, head_within (transaction k.end w.tid 99 w.texts w.items)))
 
-pub knowable : (o : Option Told) (k : Known) (w : Waiting) (limit calls bytes : ℕ) → limit ≤ most_length → IsKept o k limit (Some w) calls bytes → Knowable k w
+pub knowable : (o : Option Told) (k : OpenFile) (w : Waiting) (limit calls bytes : ℕ) → limit ≤ most_length → IsKept o k limit (Some w) calls bytes → Knowable k w
 knowable o k w limit calls bytes most kept =
     let v = kept.waits in
     let size = length-transaction k.end w.tid 99 w.texts w.items in

@@ -11,13 +11,13 @@ use Rattle.fs_scan.specs.Present.{AllStand}
 use Rattle.fs_record.specs.Walks.{later_than}
 use Rattle.fs_scan.specs.Backs.{CostsBacks}
 use Rattle.fs_store.specs.declared.finding.Record.{Record}
-use Rattle.fs_store.specs.declared.known.Known.{Known}
+use Rattle.fs_store.specs.declared.file.OpenFile.{OpenFile}
 use Rattle.fs_store.specs.Finding.{CostsLoad, FoundAt, FoundNone}
 use Rattle.fs_store.specs.Fronts.{file_at, front_at, history_at, records_at}
 use Rattle.fs_store.specs.Knowing.{IsKnown, Knows}
 use Rattle.fs_store.specs.Seeing.{IsLoaded}
 
-pub all_stand : (told : Told) (known : Known) → Knows told known → AllStand (content told) (records_at told known.end)
+pub all_stand : (told : Told) (known : OpenFile) → Knows told known → AllStand (content told) (records_at told known.end)
 all_stand told known k =
     subst (λ (bytes : List ℕ). AllStand bytes (records_at told known.end)) (take-append-drop known.end (content told)) (each_stands (file_at told known.end) (drop known.end (content told)) (front_at told known.end) k.file)
 
@@ -36,7 +36,7 @@ pub costs_value : (told : Told) (end oid t calls now more : ℕ) (found : Record
 costs_value told end oid t calls now more found le f c = record { backs = c.backs; followed = inr (found.place, found.head, c.at, f, c.leads); within = omega (arith, le, c.within) }
 
 -- by the records of the store's file, where the disk tells
-pub costs_there : (o : Option Told) (known : Known) (len place calls more : ℕ) → IsKnown o known len → IfSome o (λ told. (records : List Earlier) (oid : ℕ) → AllStand (content told) records → IsPlace records oid place → CostsBacks (content told) place calls more)
+pub costs_there : (o : Option Told) (known : OpenFile) (place calls more : ℕ) → IsKnown o known → IfSome o (λ told. (records : List Earlier) (oid : ℕ) → AllStand (content told) records → IsPlace records oid place → CostsBacks (content told) place calls more)
     → IfSome o (λ told. (oid : ℕ) → IsPlace (records_at told known.end) oid place → CostsBacks (content told) place calls more)
-costs_there None known len place calls more k costs = tt
-costs_there (Some told) known len place calls more k costs = λ oid is. costs (records_at told known.end) oid (all_stand told known k.0) is
+costs_there None known place calls more k costs = tt
+costs_there (Some told) known place calls more k costs = λ oid is. costs (records_at told known.end) oid (all_stand told known k.0) is

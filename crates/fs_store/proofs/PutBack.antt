@@ -21,7 +21,7 @@ use Rattle.fs_record.specs.Standing.{IsPlace}
 use Rattle.fs_scan.specs.Backs.{HasDataOf}
 use Rattle.fs_scan.specs.Present.{AllStand}
 use Rattle.fs_store.specs.declared.finding.Record.{Record}
-use Rattle.fs_store.specs.declared.known.Known.{Known}
+use Rattle.fs_store.specs.declared.file.OpenFile.{OpenFile}
 use Rattle.fs_store.specs.declared.settling.Settled.{Settled}
 use Rattle.fs_store.specs.Finding.{FoundAt, FoundNone}
 use Rattle.fs_store.specs.Fronts.{file_at, front_at, history_at, records_at}
@@ -43,9 +43,9 @@ none_upto h oid good =
     let first : IsPrefixOf (no_transactions h) h = record { floor = refl; rest = h.transactions; transactions = refl } in
     ap (λ (g : History). value g oid) (upto_stays {p = no_transactions h} {h = h} 0 first good (omega arith))
 
-pub back_to_none : (o : Option Told) (known : Known) (len oid t : ℕ) → IsKnown o known len → t ≡ 0 → IfSome o (λ told. value_of (records_at told known.end) (Back 0) ≡ value (upto (history_at told known.end) t) oid)
-back_to_none None known len oid t k e = tt
-back_to_none (Some told) known len oid t k e =
+pub back_to_none : (o : Option Told) (known : OpenFile) (oid t : ℕ) → IsKnown o known → t ≡ 0 → IfSome o (λ told. value_of (records_at told known.end) (Back 0) ≡ value (upto (history_at told known.end) t) oid)
+back_to_none None known oid t k e = tt
+back_to_none (Some told) known oid t k e =
     rw e (sym (none_upto (history_at told known.end) oid (file_history (file_at told known.end) (front_at told known.end) k.0.file)))
 
 pub back_none : (told : Told) (end oid t : ℕ) → FoundNone told end oid t → value_of (records_at told end) (Back 0) ≡ value (upto (history_at told end) t) oid
@@ -70,12 +70,12 @@ direct_data told end oid at found (inl none) = inl none.0
 direct_data told end oid at found (inr has) = inr has.1
 
 -- what follows of the place that was found
-pub data_there : {E : Type 0} (o given : Option Told) (known : Known) (len oid t : ℕ) (found : Record) (r : Result ℕ E) (P : Told → ℕ → Type 0) → given ≡ o → IsKnown o known len → IfSome o (λ told. FoundAt told known.end oid t found.place found.head)
+pub data_there : {E : Type 0} (o given : Option Told) (known : OpenFile) (oid t : ℕ) (found : Record) (r : Result ℕ E) (P : Told → ℕ → Type 0) → given ≡ o → IsKnown o known → IfSome o (λ told. FoundAt told known.end oid t found.place found.head)
     → IfOk r (λ at. IfSome given (λ told. (records : List Earlier) (oid : ℕ) → AllStand (content told) records → IsPlace records oid found.place → 0 < found.place → HasDataOf (content told) records oid found.place at))
     → ((told : Told) (at : ℕ) → FoundAt told known.end oid t found.place found.head → HasDataOf (content told) (records_at told known.end) oid found.place at → P told at) → IfOk r (λ at. IfSome o (λ told. P told at))
-data_there o given known len oid t found (Err e) P same k f stands to = tt
-data_there None given known len oid t found (Ok at) P same k f stands to = tt
-data_there (Some told) given known len oid t found (Ok at) P same k f stands to =
+data_there o given known oid t found (Err e) P same k f stands to = tt
+data_there None given known oid t found (Ok at) P same k f stands to = tt
+data_there (Some told) given known oid t found (Ok at) P same k f stands to =
     let there = subst (λ (x : Option Told). IfSome x (λ told. (records : List Earlier) (oid : ℕ) → AllStand (content told) records → IsPlace records oid found.place → 0 < found.place → HasDataOf (content told) records oid found.place at)) same stands in
     to told at f (there (records_at told known.end) oid (all_stand told known k.0) f.is_place f.above)
 
@@ -97,7 +97,7 @@ written_direct t u end tid texts items at is direct =
       direct = subst (λ (b : List ℕ). AllByRecursion (λ d. IsDirect b d.body) (records_of tid end items)) (sym file) (all_direct (content t) tid end items direct);
     }
 
-pub voted_direct : (o u : Option Told) (k : Known) (limit calls bytes tid : ℕ) (d : Draft) (s : Settled) → IsKept o k limit None calls bytes → IfSome o (λ t. SettlesAs t k.end d s) → Becomes o u (λ file. file ++ block_spelling (transaction k.end tid 99 s.texts s.items)) → IfSome u (λ t. PointsToData (content t) k.end)
+pub voted_direct : (o u : Option Told) (k : OpenFile) (limit calls bytes tid : ℕ) (d : Draft) (s : Settled) → IsKept o k limit None calls bytes → IfSome o (λ t. SettlesAs t k.end d s) → Becomes o u (λ file. file ++ block_spelling (transaction k.end tid 99 s.texts s.items)) → IfSome u (λ t. PointsToData (content t) k.end)
 voted_direct None None k limit calls bytes tid d s kept settles became = tt
 voted_direct None (Some u) k limit calls bytes tid d s kept settles became = absurd became
 voted_direct (Some t) None k limit calls bytes tid d s kept settles became = absurd became

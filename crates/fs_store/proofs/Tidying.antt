@@ -84,11 +84,11 @@ refused_by old given synced len ScanRefusal.Memory result same call long fits is
 
 -- ---- the rest stayed
 
-opens_before : (old synced : Option Told) (read : FileRead) → Follows old synced Synced → IfSome synced (λ told. Reads (content told) read) → IfSome old (λ told. (front : Front) × Cut (content told) front read.known.end)
-opens_before old synced read call reads = content_before (λ bytes. (front : Front) × Cut bytes front read.known.end) old synced call (on_told synced (λ told. Reads (content told) read) _ (λ told r. (r.front, r.cut)) reads)
+opens_before : (old synced : Option Told) (read : FileRead) → Follows old synced Synced → IfSome synced (λ told. Reads (content told) read) → IfSome old (λ told. (front : Front) × Cut (content told) front read.file.end)
+opens_before old synced read call reads = content_before (λ bytes. (front : Front) × Cut bytes front read.file.end) old synced call (on_told synced (λ told. Reads (content told) read) _ (λ told r. (r.front, r.cut)) reads)
 
-pub rest_stayed : {U : Type 0} (old given synced after new : Option Told) (read : FileRead) (result : Result U OpenRefusal) → given ≡ old → Follows given synced Synced → after ≡ synced → IfSome synced (λ told. Reads (content told) read) → CutOffFailed after new read.known.end → result ≡ Err OpenRefusal.Disk → IfErr result (LeavesDisk old new)
+pub rest_stayed : {U : Type 0} (old given synced after new : Option Told) (read : FileRead) (result : Result U OpenRefusal) → given ≡ old → Follows given synced Synced → after ≡ synced → IfSome synced (λ told. Reads (content told) read) → CutOffFailed after new read.file.end → result ≡ Err OpenRefusal.Disk → IfErr result (LeavesDisk old new)
 rest_stayed old given synced after new read result same call still reads failed is =
     let first = subst (λ (d : Option Told). Follows d synced Synced) same call in
-    let stayed : TornStayed old new = record { end = read.known.end; first = synced; synced = first; opens = opens_before old synced read first reads; failed = subst (λ (d : Option Told). CutOffFailed d new read.known.end) still failed } in
+    let stayed : TornStayed old new = record { end = read.file.end; first = synced; synced = first; opens = opens_before old synced read first reads; failed = subst (λ (d : Option Told). CutOffFailed d new read.file.end) still failed } in
     rw is (inr (inr stayed))

@@ -1,12 +1,12 @@
 -- A walk over the heads of a store's file: the transactions so far.
-use Rattle.std.proofs.Common.{◌≡◌, ℕ, ◌+◌, ◌<◌, ◌≤◌, ◌^◌, ◌==◌, Bool, true, false, cond, List, [], ◌∷◌, ◌++◌, map, filter, find, length, take, drop, Option, Some, None, refl, sym, ap, ap₂, subst, ◌∙◌, append_assoc, append-nil, arith, inl, inr}
+use Rattle.std.proofs.Common.{◌≡◌, ℕ, ◌+◌, ◌<◌, ◌≤◌, ◌^◌, ◌==◌, Bool, true, false, cond, List, [], ◌∷◌, ◌++◌, map, filter, find, length, drop, Option, Some, None, refl, sym, ap, ap₂, subst, ◌∙◌, append_assoc, append-nil, arith, inl, inr}
 use Rattle.std.specs.Prelude.{◌⊎◌, nat_le}
 use Rattle.std.specs.List.{list_all}
 use Rattle.std.specs.Option.{option_map}
 use Rattle.std.proofs.lemmas.Bool.{false≢true}
 use Rattle.std.proofs.lemmas.List.{drop_at, length-append, length-take, map-append, take-append-drop}
 use Rattle.std.proofs.lemmas.List.Elements.{filter-append}
-use Rattle.zbase.specs.History.{History, Transaction}
+use Rattle.zbase.specs.History.{Transaction}
 use Rattle.zbase.specs.Values.{last, transaction, upto}
 use Rattle.zbase.specs.declared.ids.Row.{Row}
 use Rattle.zdisk.specs.Disk.{Told, content}
@@ -24,8 +24,8 @@ use Rattle.fs_record.specs.StandingLaws.{each_stands, passed}
 use Rattle.fs_scan.specs.declared.wholes.OidValue.{OidValue}
 use Rattle.fs_scan.specs.Present.{AllStand}
 use Rattle.fs_scan.specs.Wholes.{records_in}
-use Rattle.fs_store.specs.declared.known.Known.{Known}
-use Rattle.fs_store.specs.Fronts.{file_at, front_at, history_at}
+use Rattle.fs_store.specs.declared.file.OpenFile.{OpenFile}
+use Rattle.fs_store.specs.Fronts.{file_at, history_at}
 use Rattle.fs_store.specs.Knowing.{Knows}
 use Rattle.fs_store.specs.Parts.{behind, counts_upto, is_with, records_of, row_of}
 
@@ -62,7 +62,7 @@ last_of (x ∷ xs) =
 -- ---- how far a walk has come
 
 -- the blocks before the place say these transactions
-pub record WalkedTo (told : Told) (known : Known) (place : ℕ) (ts : List Transaction) : Type 0 where
+pub record WalkedTo (told : Told) (known : OpenFile) (place : ℕ) (ts : List Transaction) : Type 0 where
   pub knows : Knows told known
   pub later : List Block
   pub gone : List Block
@@ -70,21 +70,21 @@ pub record WalkedTo (told : Told) (known : Known) (place : ℕ) (ts : List Trans
   pub place_is : place ≡ length (bytes_of gone)
   pub said : (front_of gone).history.transactions ≡ ts
 
-pub walked_none : (told : Told) (known : Known) → Knows told known → WalkedTo told known 4 []
+pub walked_none : (told : Told) (known : OpenFile) → Knows told known → WalkedTo told known 4 []
 walked_none told known k = record { knows = k; later = k.file.blocks; gone = []; all = sym (append-nil k.file.blocks); place_is = refl; said = refl }
 
 -- this block stands next
-record NextIs (told : Told) (known : Known) (place : ℕ) (ts : List Transaction) (later : List Block) (b : Block) : Type 0 where
+record NextIs (told : Told) (known : OpenFile) (place : ℕ) (ts : List Transaction) (later : List Block) (b : Block) : Type 0 where
   knows : Knows told known
   gone : List Block
   all : knows.file.blocks ≡ later ++ b ∷ gone
   place_is : place ≡ length (bytes_of gone)
   said : (front_of gone).history.transactions ≡ ts
 
-long_file : (told : Told) (known : Known) → Knows told known → length (file_at told known.end) ≡ known.end
+long_file : (told : Told) (known : OpenFile) → Knows told known → length (file_at told known.end) ≡ known.end
 long_file told known k = omega (arith, length-take known.end (content told), k.within)
 
-next_by : (told : Told) (known : Known) (place : ℕ) (ts : List Transaction) (w : WalkedTo told known place ts) → place < known.end → (w.later ≡ []) ⊎ ((ys : List Block) × (y : Block) × (w.later ≡ ys ++ y ∷ [])) → (later : List Block) × (b : Block) × NextIs told known place ts later b
+next_by : (told : Told) (known : OpenFile) (place : ℕ) (ts : List Transaction) (w : WalkedTo told known place ts) → place < known.end → (w.later ≡ []) ⊎ ((ys : List Block) × (y : Block) × (w.later ≡ ys ++ y ∷ [])) → (later : List Block) × (b : Block) × NextIs told known place ts later b
 next_by told known place ts w lt (inl none) =
     let gone : w.knows.file.blocks ≡ w.gone = w.all ∙ ap (λ (z : List Block). z ++ w.gone) none in
     absurd (omega (arith, lt, w.place_is, long_file told known w.knows, ap length w.knows.file.spelled, ap (λ (z : List Block). length (bytes_of z)) gone))
@@ -100,10 +100,10 @@ next_by told known place ts w lt (inr s) = (
   },
 )
 
-next_is : (told : Told) (known : Known) (place : ℕ) (ts : List Transaction) → WalkedTo told known place ts → place < known.end → (later : List Block) × (b : Block) × NextIs told known place ts later b
+next_is : (told : Told) (known : OpenFile) (place : ℕ) (ts : List Transaction) → WalkedTo told known place ts → place < known.end → (later : List Block) × (b : Block) × NextIs told known place ts later b
 next_is told known place ts w lt = next_by told known place ts w lt (last_of w.later)
 
-module _ (told : Told) (known : Known) (place : ℕ) (ts : List Transaction) (later : List Block) (b : Block) (n : NextIs told known place ts later b) where
+module _ (told : Told) (known : OpenFile) (place : ℕ) (ts : List Transaction) (later : List Block) (b : Block) (n : NextIs told known place ts later b) where
   rights : AreRight (b ∷ n.gone)
   rights = right_part later (b ∷ n.gone) (subst AreRight n.all n.knows.file.right)
 
@@ -152,19 +152,19 @@ module _ (told : Told) (known : Known) (place : ℕ) (ts : List Transaction) (la
 head_is : (b : Block) (head : TxnHead) → Some head ≡ Some (txn_head_of b) → head ≡ txn_head_of b
 head_is b head e = cc
 
-next_place : (told : Told) (known : Known) (place : ℕ) (b : Block) (head : TxnHead) → known.end < 2 ^ 64 → place + (long_of b + 8) ≤ known.end → head ≡ txn_head_of b → behind place head ≡ place + (long_of b + 8)
+next_place : (told : Told) (known : OpenFile) (place : ℕ) (b : Block) (head : TxnHead) → known.end < 2 ^ 64 → place + (long_of b + 8) ≤ known.end → head ≡ txn_head_of b → behind place head ≡ place + (long_of b + 8)
 next_place told known place b head lt le is = omega (arith, lt, le, ap (λ (h : TxnHead). h.length) is)
 
 -- what is said of a head that was read
 abbrev pub Tells : Told → ℕ → Option TxnHead → Type 0
 Tells told place head = (b : Block) (more : List ℕ) → Stands b (drop place (content told)) more → head ≡ Some (txn_head_of b)
 
-pub no_head : {X : Type 0} (told : Told) (known : Known) (place : ℕ) (ts : List Transaction) → WalkedTo told known place ts → place < known.end → Tells told place None → X
+pub no_head : {X : Type 0} (told : Told) (known : OpenFile) (place : ℕ) (ts : List Transaction) → WalkedTo told known place ts → place < known.end → Tells told place None → X
 no_head told known place ts w lt tells =
     let n = next_is told known place ts w lt in
     absurd (let e : None ≡ Some (txn_head_of n.1) = tells n.1 (rest told known place ts n.0 n.1 n.2) (stands told known place ts n.0 n.1 n.2) in cc)
 
-pub walked_all : (told : Told) (known : Known) (place : ℕ) (ts : List Transaction) → WalkedTo told known place ts → known.end ≤ place → (history_at told known.end).transactions ≡ ts
+pub walked_all : (told : Told) (known : OpenFile) (place : ℕ) (ts : List Transaction) → WalkedTo told known place ts → known.end ≤ place → (history_at told known.end).transactions ≡ ts
 walked_all told known place ts w le = by_last (last_of w.later)
   where
     by_last : (w.later ≡ []) ⊎ ((ys : List Block) × (y : Block) × (w.later ≡ ys ++ y ∷ [])) → (history_at told known.end).transactions ≡ ts
@@ -196,12 +196,12 @@ found_there (y ∷ ys) more x tid none own = go (y.tid == tid) none (found_there
     go false e deeper = deeper e own
 
 -- none of those before the place has the id
-pub record Sought (told : Told) (known : Known) (place tid : ℕ) : Type 0 where
+pub record Sought (told : Told) (known : OpenFile) (place tid : ℕ) : Type 0 where
   pub ts : List Transaction
   pub walked : WalkedTo told known place ts
   pub none : found_in ts tid ≡ None
 
-pub sought_none : (told : Told) (known : Known) (tid : ℕ) → Knows told known → Sought told known 4 tid
+pub sought_none : (told : Told) (known : OpenFile) (tid : ℕ) → Knows told known → Sought told known 4 tid
 sought_none told known tid k = record { ts = []; walked = walked_none told known k; none = refl }
 
 -- by whether the block counts, what its front says behind it
@@ -215,7 +215,7 @@ unfolding after_in
 counted_said front b (Skipped bytes) fits counted = absurd (false≢true (sym counted ∙ fits))
 counted_said front b (Records ds) fits counted = (ds, refl, refl)
 
-pub sought_more : (told : Told) (known : Known) (place tid next : ℕ) (head : TxnHead) → known.end < 2 ^ 64 → Sought told known place tid → place < known.end → Tells told place (Some head) → is_with tid head ≡ false → next ≡ behind place head → Sought told known next tid
+pub sought_more : (told : Told) (known : OpenFile) (place tid next : ℕ) (head : TxnHead) → known.end < 2 ^ 64 → Sought told known place tid → place < known.end → Tells told place (Some head) → is_with tid head ≡ false → next ≡ behind place head → Sought told known next tid
 sought_more told known place tid next head lt64 s lt tells other is =
     let n = next_is told known place s.ts s.walked lt in
     let b = n.1 in
@@ -239,7 +239,7 @@ sought_more told known place tid next head lt64 s lt tells other is =
           none = none_more s.ts x tid s.none tid_not;
         }
 
-pub sought_all : (told : Told) (known : Known) (place tid : ℕ) → Sought told known place tid → known.end ≤ place → None ≡ option_map records_of (transaction (history_at told known.end) tid)
+pub sought_all : (told : Told) (known : OpenFile) (place tid : ℕ) → Sought told known place tid → known.end ≤ place → None ≡ option_map records_of (transaction (history_at told known.end) tid)
 sought_all told known place tid s le = sym (ap (option_map records_of) (ap (λ (ts : List Transaction). found_in ts tid) (walked_all told known place s.ts s.walked le) ∙ s.none))
 
 right_bodies : (place t : ℕ) (rs : List Row) (b : Block) (ds : List Data) → fault_in place t rs b (Records ds) ≡ None → list_all (has_body rs) ds ≡ true
@@ -250,7 +250,7 @@ right_bodies place t rs b ds e = (passed _ _ BadBack (passed _ _ BadPrev (passed
 abbrev pub GivesValues : Told → ℕ → TxnHead → Option (List OidValue) → Type 0
 GivesValues told place head found = (b : Block) (ds : List Data) (more : List ℕ) (records : List Earlier) → Stands b (drop place (content told)) more → b.inside ≡ Records ds → head ≡ txn_head_of b → AllStand (content told) records → list_all (has_body (rows records)) ds ≡ true → option_map records_in found ≡ Some (values_of records ds)
 
-pub sought_here : (told : Told) (known : Known) (place tid : ℕ) (head : TxnHead) (found : Option (List OidValue)) → Sought told known place tid → place < known.end → Tells told place (Some head) → is_with tid head ≡ true → GivesValues told place head found → option_map records_in found ≡ option_map records_of (transaction (history_at told known.end) tid)
+pub sought_here : (told : Told) (known : OpenFile) (place tid : ℕ) (head : TxnHead) (found : Option (List OidValue)) → Sought told known place tid → place < known.end → Tells told place (Some head) → is_with tid head ≡ true → GivesValues told place head found → option_map records_in found ≡ option_map records_of (transaction (history_at told known.end) tid)
 sought_here told known place tid head found s lt tells own gives =
     let n = next_is told known place s.ts s.walked lt in
     let b = n.1 in
@@ -277,12 +277,12 @@ sought_here told known place tid head found s lt tells own gives =
 abbrev pub rows_of : List Transaction → ℕ → List LogRow
 rows_of ts at = map log_row (filter (λ (x : Transaction). nat_le x.tid at) ts)
 
-pub record Logged (told : Told) (known : Known) (place at : ℕ) (rows : List LogRow) : Type 0 where
+pub record Logged (told : Told) (known : OpenFile) (place at : ℕ) (rows : List LogRow) : Type 0 where
   pub ts : List Transaction
   pub walked : WalkedTo told known place ts
   pub rows_are : rows ≡ rows_of ts at
 
-pub logged_none : (told : Told) (known : Known) (at : ℕ) (rows : List LogRow) → Knows told known → rows ≡ [] → Logged told known 4 at rows
+pub logged_none : (told : Told) (known : OpenFile) (at : ℕ) (rows : List LogRow) → Knows told known → rows ≡ [] → Logged told known 4 at rows
 logged_none told known at rows k none = record { ts = []; walked = walked_none told known k; rows_are = none }
 
 rows_more : (ts : List Transaction) (x : Transaction) (at : ℕ) → rows_of (ts ++ x ∷ []) at ≡ rows_of ts at ++ rows_of (x ∷ []) at
@@ -310,7 +310,7 @@ the_row b head texts is e =
 pub no_texts : {X : Type 0} (b : Block) → None ≡ Some b.texts → X
 no_texts b e = absurd cc
 
-pub logged_more : (told : Told) (known : Known) (place at next : ℕ) (rows more : List LogRow) (head : TxnHead) → known.end < 2 ^ 64 → Logged told known place at rows → place < known.end → Tells told place (Some head) → AddsRow told place head at rows more → next ≡ behind place head → Logged told known next at more
+pub logged_more : (told : Told) (known : OpenFile) (place at next : ℕ) (rows more : List LogRow) (head : TxnHead) → known.end < 2 ^ 64 → Logged told known place at rows → place < known.end → Tells told place (Some head) → AddsRow told place head at rows more → next ≡ behind place head → Logged told known next at more
 logged_more told known place at next rows more head lt64 l lt tells adds is =
     let n = next_is told known place l.ts l.walked lt in
     let b = n.1 in
@@ -335,5 +335,5 @@ logged_more told known place at next rows more head lt64 l lt tells adds is =
           rows_are = added ∙ ap (λ (u : Bool). rows ++ cond (cond u false (nat_le b.tid at)) (row_of b ∷ []) []) counted ∙ ap₂ (λ (p q : List LogRow). p ++ q) l.rows_are (one_row x (nat_le b.tid at)) ∙ sym (rows_more l.ts x at);
         }
 
-pub logged_all : (told : Told) (known : Known) (place at : ℕ) (rows : List LogRow) → Logged told known place at rows → known.end ≤ place → rows ≡ map log_row (upto (history_at told known.end) at).transactions
+pub logged_all : (told : Told) (known : OpenFile) (place at : ℕ) (rows : List LogRow) → Logged told known place at rows → known.end ≤ place → rows ≡ map log_row (upto (history_at told known.end) at).transactions
 logged_all told known place at rows l le = l.rows_are ∙ ap (λ (ts : List Transaction). rows_of ts at) (sym (walked_all told known place l.ts l.walked le))

@@ -11,7 +11,7 @@ use Rattle.fs_record.specs.Walks.{LeadsBack, later_than}
 use Rattle.fs_record.specs.WalkLaws.{whole, none, none_at_all, leads}
 use Rattle.fs_scan.specs.Newest.{place_in}
 use Rattle.fs_index.specs.Places.{place_of}
-use Rattle.fs_store.specs.declared.known.Known.{Known}
+use Rattle.fs_store.specs.declared.file.OpenFile.{OpenFile}
 use Rattle.fs_store.specs.Finding.{FoundAt, FoundNone, HasHead, WayBack}
 use Rattle.fs_store.specs.Fronts.{file_at, front_at, history_at, records_at}
 use Rattle.fs_store.specs.Knowing.{Knows}
@@ -20,7 +20,7 @@ use Rattle.fs_store.specs.Knowing.{Knows}
 abbrev pub Tells : Told → ℕ → Option DataHead → Type 0
 Tells told place head = (d : Data) (more : List ℕ) → FitsData d → drop place (content told) ≡ data_spelling d ++ more → head ≡ Some (head_of d)
 
-abbrev pub way_first : (told : Told) (known : Known) (oid t calls : ℕ) → Knows told known → WayBack told known.end oid t (place_in (place_of known.index oid)) calls calls
+abbrev pub way_first : (told : Told) (known : OpenFile) (oid t calls : ℕ) → Knows told known → WayBack told known.end oid t (place_in (place_of known.index oid)) calls calls
 way_first told known oid t calls k = record { at = front_at told known.end; passed = whole (file_at told known.end) (front_at told known.end) k.file; place_is = k.newest oid; same = refl; within = omega arith }
 
 pub leads_back : (told : Told) (end oid t place calls now : ℕ) (w : WayBack told end oid t place calls now) → 0 < place → LeadsBack (content told) (file_at told end) (front_at told end) w.at oid place

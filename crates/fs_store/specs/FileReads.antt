@@ -17,12 +17,12 @@ above (Some oid) = oid + 1
 -- the front that the bytes open to, with its end, its numbers, its newest places and the torn rest
 pub record Reads (bytes : List ℕ) (read : FileRead) : Type 0 where
   pub front : Front
-  pub cut : Cut bytes front read.known.end
-  pub rest : read.known.end + read.torn ≡ length bytes
-  pub last_is : read.known.last ≡ last front.history
-  pub next_is : read.known.next ≡ next front.history
-  pub count_is : read.known.count ≡ length front.history.transactions
-  pub newest : (o : ℕ) → place_in (place_of read.known.index o) ≡ last_place o 0 (rows front.records)
+  pub cut : Cut bytes front read.file.end
+  pub rest : read.file.end + read.torn ≡ length bytes
+  pub last_is : read.file.last ≡ last front.history
+  pub next_is : read.file.next ≡ next front.history
+  pub count_is : read.file.count ≡ length front.history.transactions
+  pub newest : (o : ℕ) → place_in (place_of read.file.index o) ≡ last_place o 0 (rows front.records)
 
 -- a refusal of a scan, as one of an opening
 abbrev pub of_scan : ScanRefusal → OpenRefusal

@@ -5,7 +5,7 @@ ghost use Rattle.fs_store.specs.Finding.{FoundIn};
 ghost use Rattle.fs_store.specs.Fronts.{history_at};
 ghost use Rattle.fs_store.specs.Knowing.{IsKnown};
 
-use crate::known::Known;
+use crate::file::OpenFile;
 use fs_record::DataHead;
 use fs_scan::read_head;
 use zbase::{Failed, Oid, Tid};
@@ -25,36 +25,37 @@ fn is_upto(head: &DataHead, at: Tid) -> bool
     head.tid.0 <= at.0
 }
 
-/// An object's last data record up to a transaction, by its previous places: at most one device call, and one more for
-/// each later record that is passed.
-///
-/// FileStorage format notes: a data record has the place of the object's record before it.
-pub(crate) fn find<D: Disk>(
-    disk: &mut D,
-    known: &Known,
-    len: u64,
-    oid: Oid,
-    at: Tid,
-) -> Result<Option<Record>, Failed>
-    requires { IsKnown (D.told disk.old) known.now len }
-    ensures found { IfOk result (λ found. IfSome (D.told disk.old) (λ told. FoundIn told known.now.end oid at found)) }
-    ensures reads { IfSome (D.told disk.old) (λ told. (D.counter disk.new).calls ≤ (D.counter disk.old).calls + 1 + later_than (history_at told known.now.end) at oid) }
-    ensures only_reads { OnlyReads D.Disk disk.old disk.new (IsErr result) }
-{
-    let mut place = known.place(oid);
-    'back: while place > 0 {
-        let head = match read_head(disk, len, place)? {
-            Some(head) => head,
-            None => return Ok(None),
-        };
-        if is_upto(&head, at) {
-            return Ok(Some(Record { place, head }));
+impl OpenFile {
+    /// An object's last data record up to a transaction, by its previous places: at most one device call, and one more for
+    /// each later record that is passed.
+    ///
+    /// FileStorage format notes: a data record has the place of the object's record before it.
+    pub(crate) fn find<D: Disk>(
+        &self,
+        disk: &mut D,
+        oid: Oid,
+        at: Tid,
+    ) -> Result<Option<Record>, Failed>
+        requires { IsKnown (D.told disk.old) self.now }
+        ensures found { IfOk result (λ found. IfSome (D.told disk.old) (λ told. FoundIn told self.now.end oid at found)) }
+        ensures reads { IfSome (D.told disk.old) (λ told. (D.counter disk.new).calls ≤ (D.counter disk.old).calls + 1 + later_than (history_at told self.now.end) at oid) }
+        ensures only_reads { OnlyReads D.Disk disk.old disk.new (IsErr result) }
+    {
+        let mut place = self.place(oid);
+        'back: while place > 0 {
+            let head = match read_head(disk, self.len, place)? {
+                Some(head) => head,
+                None => return Ok(None),
+            };
+            if is_upto(&head, at) {
+                return Ok(Some(Record { place, head }));
+            }
+            // an earlier place, since the file was judged: a disk that tells nothing may say what it likes
+            if head.prev >= place {
+                return Ok(None);
+            }
+            place = head.prev;
         }
-        // an earlier place, since the file was judged: a disk that tells nothing may say what it likes
-        if head.prev >= place {
-            return Ok(None);
-        }
-        place = head.prev;
+        Ok(None)
     }
-    Ok(None)
 }

@@ -15,9 +15,9 @@
 #![tactic(auto)]
 
 mod arming;
-mod committing;
+mod file;
 mod finding;
-mod known;
+mod finishing;
 mod laws;
 mod loading;
 mod opening;
@@ -26,6 +26,7 @@ mod reads;
 mod refusal;
 mod settling;
 mod store;
+mod verdict;
 mod voted;
 mod voting;
 mod waiting;

@@ -21,7 +21,7 @@ ghost use Rattle.fs_store.specs.declared.reads.Seen.{Seen};
 ghost use Rattle.fs_store.specs.declared.opening.OpenRefusal.{OpenRefusal};
 ghost use Rattle.fs_store.specs.declared.opening.OpenRefusal.TheVariants as refusals;
 
-use crate::known::Known;
+use crate::file::OpenFile;
 use crate::waiting::Waiting;
 use fs_index::Index;
 use fs_record::{Damage, MAX_LENGTH, STATUS_AT, STATUS_WAITING, TXN_HEAD_LEN};
@@ -74,8 +74,8 @@ impl From<Failed> for OpenRefusal {
 /// What a file says that opens.
 #[derive(Drop)]
 pub(crate) struct FileRead {
-    /// What the store keeps of it.
-    pub(crate) known: Known,
+    /// What is known of it once what stands behind its end is cut off.
+    pub(crate) file: OpenFile,
     /// The number of bytes behind its end.
     pub(crate) torn: u64,
 }
@@ -106,7 +106,8 @@ fn above(greatest: Option<Oid>) -> u128
 // What the disk's file says, by a scan.
 fn read_file<D: Disk>(alloc: Global, disk: &mut D) -> Result<FileRead, ScanRefusal>
     ensures reads { IfOk result (λ read. IfSome (D.told disk.old) (λ told. Reads (content told) read)) }
-    ensures bound { IfOk result (λ read. read.known.next ≤ 2 ^ 64) }
+    ensures bound { IfOk result (λ read. read.file.next ≤ 2 ^ 64) }
+    ensures long { IfOk result (λ read. read.file.len ≡ read.file.end) }
     ensures damaged { (kind : Kind) (place : ℕ) → IsErrOf result (ScanRefusal.Damaged kind place) → IfSome (D.told disk.old) (λ told. Damaged (content told) place kind) }
     ensures costs { IfSome (D.told disk.old) (λ told. CostsScan (content told) (D.counter disk.old).calls (D.counter disk.new).calls) }
     ensures only_reads { OnlyReads D.Disk disk.old disk.new (IsErrOf result ScanRefusal.Disk) }
@@ -123,9 +124,10 @@ fn read_file<D: Disk>(alloc: Global, disk: &mut D) -> Result<FileRead, ScanRefus
     let index = index_of(alloc, rows.as_slice())?;
     let next = above(greatest);
     Ok(FileRead {
-        known: Known {
+        file: OpenFile {
             index,
             end,
+            len: end,
             last,
             next,
             count,
@@ -186,8 +188,9 @@ fn cut_off<D: Disk>(disk: &mut D, end: u64, torn: u64) -> Result<(), Failed>
 /// that opens to the same history.
 pub(crate) fn open_file<D: Disk>(alloc: Global, disk: &mut D) -> Result<FileRead, OpenRefusal>
     ensures reads { IfOk result (λ read. IfSome (D.told disk.old) (λ told. (length (content told) ≤ most_length) × Reads (content told) read)) }
-    ensures bound { IfOk result (λ read. read.known.next ≤ 2 ^ 64) }
-    ensures tidies { IfOk result (λ read. Tidies (D.told disk.old) (D.told disk.new) read.known.end read.torn) }
+    ensures bound { IfOk result (λ read. read.file.next ≤ 2 ^ 64) }
+    ensures long { IfOk result (λ read. read.file.len ≡ read.file.end) }
+    ensures tidies { IfOk result (λ read. Tidies (D.told disk.old) (D.told disk.new) read.file.end read.torn) }
     ensures refused { IfErr result (IsRefusedFor (D.told disk.old)) }
     ensures left { IfErr result (LeavesDisk (D.told disk.old) (D.told disk.new)) }
     ensures costs { IfSome (D.told disk.old) (λ told. CostsOpening (content told) (D.counter disk.old).calls (D.counter disk.new).calls) }
@@ -203,41 +206,43 @@ pub(crate) fn open_file<D: Disk>(alloc: Global, disk: &mut D) -> Result<FileRead
     if read.torn == 0 {
         return Ok(read);
     }
-    cut_off(disk, read.known.end, read.torn)?;
+    cut_off(disk, read.file.end, read.torn)?;
     Ok(read)
 }
 
-/// Opens a stale store's disk again, by one scan. What it knows is then the history that was known, or that and the
-/// undecided transaction. A stop at any moment leaves a file that opens to one of the two.
-///
-/// Where the disk tells it meets no damage, and no file that is too long.
-pub(crate) fn open_again<D: Disk>(
-    alloc: Global,
-    disk: &mut D,
-    known: &mut Known,
-    limit: u64,
-    undecided: &Option<Waiting>,
-) -> Result<(), OpenRefusal>
-    requires unsettled { IfSome (D.told disk.old) (IsUnsettled known.old.end undecided.now) }
-    ensures kept { OnOk result (IsKept (D.told disk.new) known.new limit None (D.spare_calls disk.new) (D.spare_bytes disk.new)) }
-    ensures settled { OnOk result (IfSome (D.told disk.old) (λ told. SettlesOn told known.old.end undecided.now (D.told disk.new) known.new.end)) }
-    ensures undamaged { IfErr result (λ refusal. IfSome (D.told disk.old) (λ _. (refusal ≡ OpenRefusal.Disk) ⊎ (refusal ≡ OpenRefusal.Memory))) }
-    ensures stays { OnErr result (known.new.end ≡ known.old.end) }
-    ensures unsettled { OnErr result (IfSome (D.told disk.new) (IsUnsettled known.old.end undecided.now)) }
-    ensures history { OnErr result (history_where (D.told disk.new) known.old.end ≡ history_where (D.told disk.old) known.old.end) }
-    ensures records { OnErr result (records_where (D.told disk.new) known.old.end ≡ records_where (D.told disk.old) known.old.end) }
-    ensures seen { (seen : Seen) → SeenOn (D.told disk.old) known.old.end seen → SeenOn (D.told disk.new) known.new.end seen }
-    ensures tells { IsSome (D.told disk.old) ↔ IsSome (D.told disk.new) }
-    ensures costs { IfSome (D.told disk.old) (λ told. CostsOpening (content told) (D.counter disk.old).calls (D.counter disk.new).calls) }
-    ensures any_moment { LeavesFrom (D.told disk.old) (D.told disk.new) (λ file image. EitherOf (D.told disk.old) known.old.end undecided.now image) }
-    ensures counts { Counts (D.counter disk.old) (D.counter disk.new) (IsErrOf result OpenRefusal.Disk) }
-{
-    // what is undecided is said of the file alone
-    let _ = undecided;
-    let FileRead {
-        known: again,
-        torn: _,
-    } = open_file(alloc, disk)?;
-    *known = again;
-    Ok(())
+impl OpenFile {
+    /// Opens a stale store's disk again, by one scan. What it knows is then the history that was known, or that and the
+    /// undecided transaction. A stop at any moment leaves a file that opens to one of the two.
+    ///
+    /// Where the disk tells it meets no damage, and no file that is too long.
+    pub(crate) fn open_again<D: Disk>(
+        &mut self,
+        alloc: Global,
+        disk: &mut D,
+        limit: u64,
+        undecided: &Option<Waiting>,
+    ) -> Result<(), OpenRefusal>
+        requires unsettled { IfSome (D.told disk.old) (IsUnsettled self.old.end undecided.now) }
+        ensures kept { OnOk result (IsKept (D.told disk.new) self.new limit None (D.spare_calls disk.new) (D.spare_bytes disk.new)) }
+        ensures settled { OnOk result (IfSome (D.told disk.old) (λ told. SettlesOn told self.old.end undecided.now (D.told disk.new) self.new.end)) }
+        ensures undamaged { IfErr result (λ refusal. IfSome (D.told disk.old) (λ _. (refusal ≡ OpenRefusal.Disk) ⊎ (refusal ≡ OpenRefusal.Memory))) }
+        ensures stays { OnErr result (self.new.end ≡ self.old.end) }
+        ensures unsettled { OnErr result (IfSome (D.told disk.new) (IsUnsettled self.old.end undecided.now)) }
+        ensures history { OnErr result (history_where (D.told disk.new) self.old.end ≡ history_where (D.told disk.old) self.old.end) }
+        ensures records { OnErr result (records_where (D.told disk.new) self.old.end ≡ records_where (D.told disk.old) self.old.end) }
+        ensures seen { (seen : Seen) → SeenOn (D.told disk.old) self.old.end seen → SeenOn (D.told disk.new) self.new.end seen }
+        ensures tells { IsSome (D.told disk.old) ↔ IsSome (D.told disk.new) }
+        ensures costs { IfSome (D.told disk.old) (λ told. CostsOpening (content told) (D.counter disk.old).calls (D.counter disk.new).calls) }
+        ensures any_moment { LeavesFrom (D.told disk.old) (D.told disk.new) (λ file image. EitherOf (D.told disk.old) self.old.end undecided.now image) }
+        ensures counts { Counts (D.counter disk.old) (D.counter disk.new) (IsErrOf result OpenRefusal.Disk) }
+    {
+        // what is undecided is said of the file alone
+        let _ = undecided;
+        let FileRead {
+            file: again,
+            torn: _,
+        } = open_file(alloc, disk)?;
+        *self = again;
+        Ok(())
+    }
 }

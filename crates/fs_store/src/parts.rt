@@ -11,8 +11,7 @@ ghost use Rattle.fs_store.specs.Fronts.{history_at};
 ghost use Rattle.fs_store.specs.Knowing.{IsKnown};
 ghost use Rattle.fs_store.specs.Parts.{behind, counts_upto, is_with, records_of, row_of};
 
-use crate::known::Known;
-use crate::loading::load;
+use crate::file::OpenFile;
 use crate::{LoadRefusal, Loaded};
 use evaluator::{LogRow, LogRows, Part, Parts};
 use fs_record::{MAGIC_LEN, STATUS_UNDONE, TAIL_LEN, TxnHead, TxnTexts};
@@ -61,115 +60,113 @@ fn counts_upto(head: &TxnHead, at: u64) -> bool
     head.tid.0 <= at
 }
 
-// The values that the transaction with this id gives. Of those before it the heads alone are read.
-fn values_with<D: Disk>(
-    alloc: Global,
-    disk: &mut D,
-    known: &Known,
-    len: u64,
-    tid: u64,
-) -> Result<Option<OidValues>, LoadRefusal>
-    requires { IsKnown (D.told disk.old) known.now len }
-    ensures found { IfOk result (λ found. IfSome (D.told disk.old) (λ told. option_map records_in found ≡ option_map records_of (transaction (history_at told known.now.end) tid))) }
-    ensures only_reads { OnlyReads D.Disk disk.old disk.new (IsErrOf result LoadRefusal.Disk) }
-{
-    let end = known.end;
-    let mut place = MAGIC_LEN as u64;
-    'each: while place < end {
-        let Some(head) = read_txn(disk, len, place)? else {
-            // only where the disk tells nothing
+impl OpenFile {
+    // The values that the transaction with this id gives. Of those before it the heads alone are read.
+    fn values_with<D: Disk>(
+        &self,
+        alloc: Global,
+        disk: &mut D,
+        tid: u64,
+    ) -> Result<Option<OidValues>, LoadRefusal>
+        requires { IsKnown (D.told disk.old) self.now }
+        ensures found { IfOk result (λ found. IfSome (D.told disk.old) (λ told. option_map records_in found ≡ option_map records_of (transaction (history_at told self.now.end) tid))) }
+        ensures only_reads { OnlyReads D.Disk disk.old disk.new (IsErrOf result LoadRefusal.Disk) }
+    {
+        let end = self.end;
+        let mut place = MAGIC_LEN as u64;
+        'each: while place < end {
+            let Some(head) = read_txn(disk, self.len, place)? else {
+                // only where the disk tells nothing
+                return Ok(None);
+            };
+            if is_with(&head, tid) {
+                let values = values_at(alloc, disk, self.len, place, &head)?;
+                return Ok(values);
+            }
+            place = behind(place, &head);
+        }
+        Ok(None)
+    }
+
+    // What a record of a transaction did to its object.
+    fn part_of<D: Disk>(
+        &self,
+        alloc: Global,
+        disk: &mut D,
+        written: &OidValue,
+        tid: u64,
+    ) -> Result<Part, LoadRefusal>
+        requires known { IsKnown (D.told disk.old) self.now }
+        requires positive { 0 < tid }
+        ensures part { IfOk result (λ part. IfSome (D.told disk.old) (λ told. part ≡ part_of (before (history_at told self.now.end) tid) (written.now.oid, written.now.value))) }
+        ensures only_reads { OnlyReads D.Disk disk.old disk.new (IsErrOf result LoadRefusal.Disk) }
+    {
+        let after = copy_of(&written.value)?;
+        let Loaded {
+            value,
+            serial,
+            place: _,
+        } = self.load(alloc, disk, written.oid, Tid(tid - 1))?;
+        Ok(Part {
+            oid: written.oid,
+            after,
+            before: value,
+            before_serial: serial,
+        })
+    }
+
+    // What the transaction with this id did by its records. They are gone through from the last one, since of two of
+    // an object the last counts.
+    fn parts_of<D: Disk>(
+        &self,
+        alloc: Global,
+        disk: &mut D,
+        values: &[OidValue],
+        tid: u64,
+    ) -> Result<Parts, LoadRefusal>
+        requires known { IsKnown (D.told disk.old) self.now }
+        requires positive { 0 < tid }
+        ensures parts { IfOk result (λ parts. IfSome (D.told disk.old) (λ told. parts ≡ map (part_of (before (history_at told self.now.end) tid)) (last_records (records_in values.now)))) }
+        ensures only_reads { OnlyReads D.Disk disk.old disk.new (IsErrOf result LoadRefusal.Disk) }
+    {
+        let mut parts = Vec::new(alloc);
+        let mut seen = BTreeSet::new(alloc);
+        let mut left = values.len();
+        while left > 0 {
+            left -= 1;
+            let written = &values[left];
+            if seen.insert(written.oid.0)? {
+                parts.push(self.part_of(alloc, disk, written, tid)?)?;
+            }
+        }
+        parts.reverse();
+        Ok(Parts::from_vec(parts))
+    }
+
+    /// What the transaction with this id did, where there is one up to another. Of the file's other transactions no value is
+    /// read, but those that the parts say.
+    pub(crate) fn transaction<D: Disk>(
+        &self,
+        alloc: Global,
+        disk: &mut D,
+        tid: u64,
+        at: u64,
+    ) -> Result<Option<Parts>, LoadRefusal>
+        requires { IsKnown (D.told disk.old) self.now }
+        ensures parts { IfOk result (λ parts. IfSome (D.told disk.old) (λ told. parts ≡ option_map (parts_of (upto (history_at told self.now.end) at)) (transaction (upto (history_at told self.now.end) at) tid))) }
+        ensures only_reads { OnlyReads D.Disk disk.old disk.new (IsErrOf result LoadRefusal.Disk) }
+    {
+        if at < tid {
             return Ok(None);
-        };
-        if is_with(&head, tid) {
-            let values = values_at(alloc, disk, len, place, &head)?;
-            return Ok(values);
         }
-        place = behind(place, &head);
-    }
-    Ok(None)
-}
-
-// What a record of a transaction did to its object.
-fn part_of<D: Disk>(
-    alloc: Global,
-    disk: &mut D,
-    known: &Known,
-    len: u64,
-    written: &OidValue,
-    tid: u64,
-) -> Result<Part, LoadRefusal>
-    requires known { IsKnown (D.told disk.old) known.now len }
-    requires positive { 0 < tid }
-    ensures part { IfOk result (λ part. IfSome (D.told disk.old) (λ told. part ≡ part_of (before (history_at told known.now.end) tid) (written.now.oid, written.now.value))) }
-    ensures only_reads { OnlyReads D.Disk disk.old disk.new (IsErrOf result LoadRefusal.Disk) }
-{
-    let after = copy_of(&written.value)?;
-    let Loaded {
-        value,
-        serial,
-        place: _,
-    } = load(alloc, disk, known, len, written.oid, Tid(tid - 1))?;
-    Ok(Part {
-        oid: written.oid,
-        after,
-        before: value,
-        before_serial: serial,
-    })
-}
-
-// What the transaction with this id did by its records. They are gone through from the last one, since of two of
-// an object the last counts.
-fn parts_of<D: Disk>(
-    alloc: Global,
-    disk: &mut D,
-    known: &Known,
-    len: u64,
-    values: &[OidValue],
-    tid: u64,
-) -> Result<Parts, LoadRefusal>
-    requires known { IsKnown (D.told disk.old) known.now len }
-    requires positive { 0 < tid }
-    ensures parts { IfOk result (λ parts. IfSome (D.told disk.old) (λ told. parts ≡ map (part_of (before (history_at told known.now.end) tid)) (last_records (records_in values.now)))) }
-    ensures only_reads { OnlyReads D.Disk disk.old disk.new (IsErrOf result LoadRefusal.Disk) }
-{
-    let mut parts = Vec::new(alloc);
-    let mut seen = BTreeSet::new(alloc);
-    let mut left = values.len();
-    while left > 0 {
-        left -= 1;
-        let written = &values[left];
-        if seen.insert(written.oid.0)? {
-            parts.push(part_of(alloc, disk, known, len, written, tid)?)?;
+        // no transaction has the id 0
+        if tid == 0 {
+            return Ok(None);
         }
-    }
-    parts.reverse();
-    Ok(Parts::from_vec(parts))
-}
-
-/// What the transaction with this id did, where there is one up to another. Of the file's other transactions no value is
-/// read, but those that the parts say.
-pub(crate) fn transaction<D: Disk>(
-    alloc: Global,
-    disk: &mut D,
-    known: &Known,
-    len: u64,
-    tid: u64,
-    at: u64,
-) -> Result<Option<Parts>, LoadRefusal>
-    requires { IsKnown (D.told disk.old) known.now len }
-    ensures parts { IfOk result (λ parts. IfSome (D.told disk.old) (λ told. parts ≡ option_map (parts_of (upto (history_at told known.now.end) at)) (transaction (upto (history_at told known.now.end) at) tid))) }
-    ensures only_reads { OnlyReads D.Disk disk.old disk.new (IsErrOf result LoadRefusal.Disk) }
-{
-    if at < tid {
-        return Ok(None);
-    }
-    // no transaction has the id 0
-    if tid == 0 {
-        return Ok(None);
-    }
-    match values_with(alloc, disk, known, len, tid)? {
-        None => Ok(None),
-        Some(values) => Ok(Some(parts_of(alloc, disk, known, len, values.as_slice(), tid)?)),
+        match self.values_with(alloc, disk, tid)? {
+            None => Ok(None),
+            Some(values) => Ok(Some(self.parts_of(alloc, disk, values.as_slice(), tid)?)),
+        }
     }
 }
 
@@ -207,28 +204,29 @@ fn add_row<D: Disk>(
     Ok(())
 }
 
-/// The log of the transactions up to one, by their heads and texts: no value is read for it.
-pub(crate) fn log<D: Disk>(
-    alloc: Global,
-    disk: &mut D,
-    known: &Known,
-    len: u64,
-    at: u64,
-) -> Result<LogRows, LoadRefusal>
-    requires { IsKnown (D.told disk.old) known.now len }
-    ensures rows { IfOk result (λ rows. IfSome (D.told disk.old) (λ told. rows ≡ map log_row (upto (history_at told known.now.end) at).transactions)) }
-    ensures only_reads { OnlyReads D.Disk disk.old disk.new (IsErrOf result LoadRefusal.Disk) }
-{
-    let mut rows = LogRows::new(alloc);
-    let end = known.end;
-    let mut place = MAGIC_LEN as u64;
-    'each: while place < end {
-        let Some(head) = read_txn(disk, len, place)? else {
-            // only where the disk tells nothing
-            return Ok(rows);
-        };
-        add_row(alloc, disk, len, place, &head, at, &mut rows)?;
-        place = behind(place, &head);
+impl OpenFile {
+    /// The log of the transactions up to one, by their heads and texts: no value is read for it.
+    pub(crate) fn log<D: Disk>(
+        &self,
+        alloc: Global,
+        disk: &mut D,
+        at: u64,
+    ) -> Result<LogRows, LoadRefusal>
+        requires { IsKnown (D.told disk.old) self.now }
+        ensures rows { IfOk result (λ rows. IfSome (D.told disk.old) (λ told. rows ≡ map log_row (upto (history_at told self.now.end) at).transactions)) }
+        ensures only_reads { OnlyReads D.Disk disk.old disk.new (IsErrOf result LoadRefusal.Disk) }
+    {
+        let mut rows = LogRows::new(alloc);
+        let end = self.end;
+        let mut place = MAGIC_LEN as u64;
+        'each: while place < end {
+            let Some(head) = read_txn(disk, self.len, place)? else {
+                // only where the disk tells nothing
+                return Ok(rows);
+            };
+            add_row(alloc, disk, self.len, place, &head, at, &mut rows)?;
+            place = behind(place, &head);
+        }
+        Ok(rows)
     }
-    Ok(rows)
 }

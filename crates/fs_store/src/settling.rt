@@ -1,4 +1,4 @@
-ghost use Rattle.std.specs.Prelude.{◌≡◌, ◌+◌, ◌++◌, ◌^◌, ◌<◌, ◌≤◌, [], true, All, drop, length, take, IfOk, IfSome, IsErr, IsErrOf};
+ghost use Rattle.std.specs.Prelude.{◌≡◌, ◌+◌, ◌++◌, ◌<◌, ◌≤◌, [], true, All, drop, length, take, IfOk, IfSome, IsErr, IsErrOf};
 ghost use Rattle.std.specs.Int.{to_be_bytes, w64};
 ghost use Rattle.std.specs.List.{AllByRecursion};
 ghost use Rattle.zbase.specs.History.{History};
@@ -7,7 +7,7 @@ ghost use Rattle.evaluator.specs.Settle.{filled, oid_of, record_of, size_of_entr
 ghost use Rattle.fs_record.specs.declared.body.Body.{Body};
 ghost use Rattle.fs_record.specs.File.{is_right_body, rows, value_of};
 ghost use Rattle.fs_record.specs.Sizes.{record_size, records_size};
-ghost use Rattle.fs_record.specs.Written.{HasBody, IsBody};
+ghost use Rattle.fs_record.specs.Written.{HasBody};
 ghost use Rattle.fs_store.specs.Drafts.{FitsEntries, FitsEntry, FitsHole, FitsName, LooksForNothing, NeedsNoLook, sizes_of};
 ghost use Rattle.fs_store.specs.Fronts.{history_at, records_at};
 ghost use Rattle.zdisk.specs.Disk.{content};
@@ -17,8 +17,7 @@ ghost use Rattle.fs_store.specs.Pointing.{IsDirect};
 ghost use Rattle.fs_store.specs.Settled.{AreOf, IsRight, IsSettled, SettlesAs, in_order, says};
 
 use crate::LoadRefusal;
-use crate::finding::find;
-use crate::known::Known;
+use crate::file::OpenFile;
 use byteorder::{BigEndian, ByteOrder};
 use evaluator::{Draft, Entry, Hole, Name};
 use fs_record::{Body, Item, NUMBER_LEN, TxnTexts};
@@ -67,84 +66,86 @@ fn oid_of(name: Name, first: u128) -> u64
     }
 }
 
-// Where the record stands that has the data that is put back, 0 where the object had none. To put none back nothing is
-// looked for.
-fn place_of<D: Disk>(disk: &mut D, known: &Known, oid: Oid, to: Tid) -> Result<u64, Failed>
-    requires { IsKnown (D.told disk.old) known.now known.now.end }
-    ensures value { IfOk result (λ place. IfSome (D.told disk.old) (λ told. value_of (records_at told known.now.end) (Body.Back place) ≡ value (upto (history_at told known.now.end) to) oid)) }
-    ensures right { IfOk result (λ place. IfSome (D.told disk.old) (λ told. is_right_body (rows (records_at told known.now.end)) oid (Body.Back place) ≡ true)) }
-    ensures direct { IfOk result (λ place. IfSome (D.told disk.old) (λ told. IsDirect (content told) (Body.Back place))) }
-    ensures calls { to ≡ 0 → (D.counter disk.new).calls ≡ (D.counter disk.old).calls }
-    ensures only_reads { OnlyReads D.Disk disk.old disk.new (IsErr result) }
-{
-    if to.0 == 0 {
-        return Ok(0);
-    }
-    match find(disk, known, known.end, oid, to)? {
-        None => Ok(0),
-        Some(found) => data_place(disk, known.end, found.place, &found.head),
-    }
-}
-
-// The data record of an entry. What is put back isn't written again: a back pointer leads to the record that has it.
-fn item_of<D: Disk>(
-    alloc: Global,
-    disk: &mut D,
-    known: &Known,
-    entry: &Entry,
-) -> Result<Item, LoadRefusal>
-    requires known { IsKnown (D.told disk.old) known.now known.now.end }
-    requires fits { FitsEntry known.now.next entry.now }
-    ensures said { IfOk result (λ item. IfSome (D.told disk.old) (λ told. says (records_at told known.now.end) item ≡ record_of (history_at told known.now.end) entry.now)) }
-    ensures right { IfOk result (λ item. IfSome (D.told disk.old) (λ told. IsRight (records_at told known.now.end) item)) }
-    ensures direct { IfOk result (λ item. IfSome (D.told disk.old) (λ told. IsDirect (content told) item.body)) }
-    ensures body { IfOk result HasBody }
-    ensures size { IfOk result (λ item. record_size item ≡ size_of_entry entry.now) }
-    ensures calls { NeedsNoLook entry.now → (D.counter disk.new).calls ≡ (D.counter disk.old).calls }
-    ensures only_reads { OnlyReads D.Disk disk.old disk.new (IsErrOf result LoadRefusal.Disk) }
-{
-    match entry {
-        Entry::Write { name, bytes, holes } => {
-            let oid = Oid(oid_of(*name, known.next));
-            let value = filled(alloc, bytes, holes.as_slice(), known.next)?;
-            Ok(Item {
-                oid,
-                prev: known.place(oid),
-                body: Body::Full(value),
-            })
+impl OpenFile {
+    // Where the record stands that has the data that is put back, 0 where the object had none. To put none back nothing is
+    // looked for.
+    fn place_of<D: Disk>(&self, disk: &mut D, oid: Oid, to: Tid) -> Result<u64, Failed>
+        requires { IsKnown (D.told disk.old) self.now }
+        ensures value { IfOk result (λ place. IfSome (D.told disk.old) (λ told. value_of (records_at told self.now.end) (Body.Back place) ≡ value (upto (history_at told self.now.end) to) oid)) }
+        ensures right { IfOk result (λ place. IfSome (D.told disk.old) (λ told. is_right_body (rows (records_at told self.now.end)) oid (Body.Back place) ≡ true)) }
+        ensures direct { IfOk result (λ place. IfSome (D.told disk.old) (λ told. IsDirect (content told) (Body.Back place))) }
+        ensures calls { to ≡ 0 → (D.counter disk.new).calls ≡ (D.counter disk.old).calls }
+        ensures only_reads { OnlyReads D.Disk disk.old disk.new (IsErr result) }
+    {
+        if to.0 == 0 {
+            return Ok(0);
         }
-        Entry::Restore { oid, to } => {
-            let place = place_of(disk, known, *oid, *to)?;
-            Ok(Item {
-                oid: *oid,
-                prev: known.place(*oid),
-                body: Body::Back(place),
-            })
+        match self.find(disk, oid, to)? {
+            None => Ok(0),
+            Some(found) => data_place(disk, self.len, found.place, &found.head),
         }
     }
-}
 
-// The data records of the entries, in the entries' order.
-fn items_of<D: Disk>(
-    alloc: Global,
-    disk: &mut D,
-    known: &Known,
-    entries: &[Entry],
-) -> Result<Vec<Item>, LoadRefusal>
-    requires known { IsKnown (D.told disk.old) known.now known.now.end }
-    requires fits { FitsEntries known.now.next entries.now }
-    ensures are { IfOk result (λ items. IfSome (D.told disk.old) (λ told. AreOf told known.now.end entries.now items.items)) }
-    ensures direct { IfOk result (λ items. IfSome (D.told disk.old) (λ told. All (λ item. IsDirect (content told) item.body) items.items)) }
-    ensures bodies { IfOk result (λ items. All HasBody items.items) }
-    ensures size { IfOk result (λ items. records_size items.items ≡ sizes_of entries.now) }
-    ensures calls { AllByRecursion NeedsNoLook entries.now → (D.counter disk.new).calls ≡ (D.counter disk.old).calls }
-    ensures only_reads { OnlyReads D.Disk disk.old disk.new (IsErrOf result LoadRefusal.Disk) }
-{
-    let mut items = Vec::new(alloc);
-    for entry in entries {
-        items.push(item_of(alloc, disk, known, entry)?)?;
+    // The data record of an entry. What is put back isn't written again: a back pointer leads to the record that has it.
+    fn item_of<D: Disk>(
+        &self,
+        alloc: Global,
+        disk: &mut D,
+        entry: &Entry,
+    ) -> Result<Item, LoadRefusal>
+        requires known { IsKnown (D.told disk.old) self.now }
+        requires fits { FitsEntry self.now.next entry.now }
+        ensures said { IfOk result (λ item. IfSome (D.told disk.old) (λ told. says (records_at told self.now.end) item ≡ record_of (history_at told self.now.end) entry.now)) }
+        ensures right { IfOk result (λ item. IfSome (D.told disk.old) (λ told. IsRight (records_at told self.now.end) item)) }
+        ensures direct { IfOk result (λ item. IfSome (D.told disk.old) (λ told. IsDirect (content told) item.body)) }
+        ensures body { IfOk result HasBody }
+        ensures size { IfOk result (λ item. record_size item ≡ size_of_entry entry.now) }
+        ensures calls { NeedsNoLook entry.now → (D.counter disk.new).calls ≡ (D.counter disk.old).calls }
+        ensures only_reads { OnlyReads D.Disk disk.old disk.new (IsErrOf result LoadRefusal.Disk) }
+    {
+        match entry {
+            Entry::Write { name, bytes, holes } => {
+                let oid = Oid(oid_of(*name, self.next));
+                let value = filled(alloc, bytes, holes.as_slice(), self.next)?;
+                Ok(Item {
+                    oid,
+                    prev: self.place(oid),
+                    body: Body::Full(value),
+                })
+            }
+            Entry::Restore { oid, to } => {
+                let place = self.place_of(disk, *oid, *to)?;
+                Ok(Item {
+                    oid: *oid,
+                    prev: self.place(*oid),
+                    body: Body::Back(place),
+                })
+            }
+        }
     }
-    Ok(items)
+
+    // The data records of the entries, in the entries' order.
+    fn items_of<D: Disk>(
+        &self,
+        alloc: Global,
+        disk: &mut D,
+        entries: &[Entry],
+    ) -> Result<Vec<Item>, LoadRefusal>
+        requires known { IsKnown (D.told disk.old) self.now }
+        requires fits { FitsEntries self.now.next entries.now }
+        ensures are { IfOk result (λ items. IfSome (D.told disk.old) (λ told. AreOf told self.now.end entries.now items.items)) }
+        ensures direct { IfOk result (λ items. IfSome (D.told disk.old) (λ told. All (λ item. IsDirect (content told) item.body) items.items)) }
+        ensures bodies { IfOk result (λ items. All HasBody items.items) }
+        ensures size { IfOk result (λ items. records_size items.items ≡ sizes_of entries.now) }
+        ensures calls { AllByRecursion NeedsNoLook entries.now → (D.counter disk.new).calls ≡ (D.counter disk.old).calls }
+        ensures only_reads { OnlyReads D.Disk disk.old disk.new (IsErrOf result LoadRefusal.Disk) }
+    {
+        let mut items = Vec::new(alloc);
+        for entry in entries {
+            items.push(self.item_of(alloc, disk, entry)?)?;
+        }
+        Ok(items)
+    }
 }
 
 // The items by rising ids. Of two of an object the one of the later entry comes first.
@@ -168,25 +169,27 @@ fn texts_of(alloc: Global, draft: &Draft) -> Result<TxnTexts, Memory>
     })
 }
 
-/// What is written of a draft behind the file. Only what is put back is looked for on the disk.
-pub(crate) fn settle<D: Disk>(
-    alloc: Global,
-    disk: &mut D,
-    known: &Known,
-    draft: &Draft,
-) -> Result<Settled, LoadRefusal>
-    requires known { IsKnown (D.told disk.old) known.now known.now.end }
-    requires fits { FitsEntries known.now.next draft.now.entries }
-    ensures settles { IfOk result (λ settled. IfSome (D.told disk.old) (λ told. SettlesAs told known.now.end draft.now settled)) }
-    ensures settled { IfOk result (λ settled. IsSettled draft.now settled) }
-    ensures calls { LooksForNothing draft.now → (D.counter disk.new).calls ≡ (D.counter disk.old).calls }
-    ensures only_reads { OnlyReads D.Disk disk.old disk.new (IsErrOf result LoadRefusal.Disk) }
-{
-    let items = items_of(alloc, disk, known, draft.entries.as_slice())?;
-    let items = by_oid(items)?;
-    let texts = texts_of(alloc, draft)?;
-    Ok(Settled {
-        texts,
-        items: Items::from_vec(items),
-    })
+impl OpenFile {
+    /// What is written of a draft behind the file. Only what is put back is looked for on the disk.
+    pub(crate) fn settle<D: Disk>(
+        &self,
+        alloc: Global,
+        disk: &mut D,
+        draft: &Draft,
+    ) -> Result<Settled, LoadRefusal>
+        requires known { IsKnown (D.told disk.old) self.now }
+        requires fits { FitsEntries self.now.next draft.now.entries }
+        ensures settles { IfOk result (λ settled. IfSome (D.told disk.old) (λ told. SettlesAs told self.now.end draft.now settled)) }
+        ensures settled { IfOk result (λ settled. IsSettled draft.now settled) }
+        ensures calls { LooksForNothing draft.now → (D.counter disk.new).calls ≡ (D.counter disk.old).calls }
+        ensures only_reads { OnlyReads D.Disk disk.old disk.new (IsErrOf result LoadRefusal.Disk) }
+    {
+        let items = self.items_of(alloc, disk, draft.entries.as_slice())?;
+        let items = by_oid(items)?;
+        let texts = texts_of(alloc, draft)?;
+        Ok(Settled {
+            texts,
+            items: Items::from_vec(items),
+        })
+    }
 }

@@ -1,4 +1,4 @@
-ghost use Rattle.std.specs.Prelude.{◌≡◌, ◌⊎◌, ◌↔◌, ◌<◌, ◌≤◌, All, List, ℕ, false, true, IfErr, IfOk, IfSome, IsErr, IsErrOf, IsOk, None, OnErr, OnOk, Some, length, map};
+ghost use Rattle.std.specs.Prelude.{◌≡◌, ◌⊎◌, ◌<◌, ◌≤◌, All, List, ℕ, false, true, IfErr, IfOk, IfSome, IsErr, IsErrOf, IsOk, None, OnErr, OnOk, Some, length, map};
 ghost use Rattle.std.specs.Option.{option_map};
 ghost use Rattle.zbase.specs.Faults.{Counts, Twice};
 ghost use Rattle.zbase.specs.History.{IsHistory};
@@ -21,13 +21,11 @@ ghost use Rattle.fs_store.specs.declared.refusal.LoadRefusal.{LoadRefusal};
 ghost use Rattle.fs_store.specs.declared.reads.Seen.{Seen};
 ghost use Rattle.fs_store.specs.declared.refusal.VoteRefusal.{VoteRefusal};
 
-use crate::committing::{abort_on, finish_on, vote_on};
-use crate::known::Known;
-use crate::opening::{FileRead, open_again, open_file};
+use crate::file::OpenFile;
+use crate::opening::{FileRead, open_file};
 use crate::waiting::Waiting;
 use crate::{
     AbortRefusal, FinishRefusal, LoadRefusal, Loaded, OpenRefusal, Seen, VoteRefusal, Voted,
-    loading, parts,
 };
 use evaluator::{Draft, LogRows, Parts};
 use std::alloc::Global;
@@ -40,7 +38,7 @@ use zdisk::Disk;
 pub struct Store<D: Disk + Drop> {
     alloc: Global,
     pub(crate) disk: D,
-    known: Known,
+    file: OpenFile,
     limit: u64,
     out: Option<Waiting>,
     /// The transaction of a finish that failed, until the disk is opened again.
@@ -58,9 +56,9 @@ impl<D: Disk + Drop> Model for Store<D> {
 
     ghost Value = { StoreView };
 
-    ghost view = { λ store. record { history = history_where (D.told store.disk) store.known.end; end = store.known.end; limit = store.limit; out = option_map (out_of (D.told store.disk) store.known.end) store.out; undecided = option_map (out_of (D.told store.disk) store.known.end) store.undecided; stale = store.stale; disk = record { told = D.told store.disk; counter = D.counter store.disk; spare_calls = D.spare_calls store.disk; spare_bytes = D.spare_bytes store.disk } } };
+    ghost view = { λ store. record { history = history_where (D.told store.disk) store.file.end; end = store.file.end; limit = store.limit; out = option_map (out_of (D.told store.disk) store.file.end) store.out; undecided = option_map (out_of (D.told store.disk) store.file.end) store.undecided; stale = store.stale; disk = record { told = D.told store.disk; counter = D.counter store.disk; spare_calls = D.spare_calls store.disk; spare_bytes = D.spare_bytes store.disk } } };
 
-    ghost invariant = { λ store. (store.limit ≤ most_length) × (store.stale ≡ false → (store.undecided ≡ None) × IsKept (D.told store.disk) store.known store.limit store.out (D.spare_calls store.disk) (D.spare_bytes store.disk)) × (store.stale ≡ true → (store.out ≡ None) × IfSome (D.told store.disk) (IsUnsettled store.known.end store.undecided)) };
+    ghost invariant = { λ store. (store.limit ≤ most_length) × (store.stale ≡ false → (store.undecided ≡ None) × IsKept (D.told store.disk) store.file store.limit store.out (D.spare_calls store.disk) (D.spare_bytes store.disk)) × (store.stale ≡ true → (store.out ≡ None) × IfSome (D.told store.disk) (IsUnsettled store.file.end store.undecided)) };
 }
 
 impl<D: Disk + Drop> Store<D> {
@@ -85,11 +83,11 @@ impl<D: Disk + Drop> Store<D> {
         let mut disk = disk;
         match open_file(alloc, &mut disk) {
             Ok(opened) => {
-                let FileRead { known, torn: _ } = opened;
+                let FileRead { file, torn: _ } = opened;
                 Ok(Store {
                     alloc,
                     disk,
-                    known,
+                    file,
                     limit,
                     out: None,
                     undecided: None,
@@ -114,7 +112,7 @@ impl<D: Disk + Drop> Store<D> {
         ensures image { self.now.stale ≡ false → IfSome self.now.disk.told (λ told. IsSynced told × OpensAsBefore self.now (content told)) }
         ensures whole { self.now.stale ≡ false → self.now.out ≡ None → IfSome self.now.disk.told (λ told. IsWhole self.now (content told)) }
     {
-        let _ = &self.known;
+        let _ = &self.file;
     }
 
     /// Whether the disk has failed in a vote, a finish or an abort since it was opened.
@@ -144,13 +142,8 @@ impl<D: Disk + Drop> Store<D> {
         if !self.stale {
             return Ok(());
         }
-        open_again(
-            self.alloc,
-            &mut self.disk,
-            &mut self.known,
-            self.limit,
-            &self.undecided,
-        )?;
+        self.file
+            .open_again(self.alloc, &mut self.disk, self.limit, &self.undecided)?;
         self.undecided = None;
         self.stale = false;
         Ok(())
@@ -161,7 +154,7 @@ impl<D: Disk + Drop> Store<D> {
         requires fresh { self.now.stale ≡ false }
         ensures { IsTold self.now → result ≡ length self.now.history.transactions }
     {
-        self.known.count
+        self.file.count
     }
 
     /// The id of the last transaction, 0 where there is none. Takes no memory.
@@ -169,18 +162,7 @@ impl<D: Disk + Drop> Store<D> {
         requires fresh { self.now.stale ≡ false }
         ensures { IsTold self.now → result ≡ last self.now.history }
     {
-        self.known.last
-    }
-
-    // How many bytes the disk's file has, with a vote that is out.
-    fn long(&self) -> u64
-        requires fresh { self.now.stale ≡ false }
-        ensures { IfSome self.now.disk.told (λ told. result ≡ length (content told)) }
-    {
-        match &self.out {
-            Some(waiting) => self.known.end + waiting.size,
-            None => self.known.end,
-        }
+        self.file.last
     }
 
     /// What the object was up to the transaction `at`. It costs at most two device calls for its last record, two for each
@@ -203,8 +185,7 @@ impl<D: Disk + Drop> Store<D> {
         ensures counts { Counts self.old.disk.counter self.new.disk.counter (IsErrOf result LoadRefusal.Disk) }
     {
         self.refresh()?;
-        let len = self.long();
-        loading::load(self.alloc, &mut self.disk, &self.known, len, oid, at)
+        self.file.load(self.alloc, &mut self.disk, oid, at)
     }
 
     /// What the transaction did, where there is one with this id up to the transaction `at`. A stale store is opened again
@@ -223,8 +204,8 @@ impl<D: Disk + Drop> Store<D> {
         ensures counts { Counts self.old.disk.counter self.new.disk.counter (IsErrOf result LoadRefusal.Disk) }
     {
         self.refresh()?;
-        let len = self.long();
-        parts::transaction(self.alloc, &mut self.disk, &self.known, len, tid.0, at.0)
+        self.file
+            .transaction(self.alloc, &mut self.disk, tid.0, at.0)
     }
 
     /// Who did what, up to the transaction `at`. A stale store is opened again first.
@@ -242,8 +223,7 @@ impl<D: Disk + Drop> Store<D> {
         ensures counts { Counts self.old.disk.counter self.new.disk.counter (IsErrOf result LoadRefusal.Disk) }
     {
         self.refresh()?;
-        let len = self.long();
-        parts::log(self.alloc, &mut self.disk, &self.known, len, at.0)
+        self.file.log(self.alloc, &mut self.disk, at.0)
     }
 
     /// Votes for a draft that rests on these reads, for a worker, where no vote is out; a stale store is opened again
@@ -296,10 +276,9 @@ impl<D: Disk + Drop> Store<D> {
             Err(LoadRefusal::Disk) => return Err((VoteRefusal::Disk, draft)),
             Err(LoadRefusal::Memory) => return Err((VoteRefusal::Memory, draft)),
         }
-        let voted = vote_on(
+        let voted = self.file.vote_on(
             self.alloc,
             &mut self.disk,
-            &mut self.known,
             self.limit,
             holder,
             &draft,
@@ -340,7 +319,7 @@ impl<D: Disk + Drop> Store<D> {
         let tid = voted.spend();
         match self.out.take() {
             Some(waiting) => {
-                match finish_on(&mut self.disk, &mut self.known, self.limit, &waiting) {
+                match self.file.finish_on(&mut self.disk, self.limit, &waiting) {
                     Ok(()) => Ok(tid),
                     Err(_) => {
                         self.undecided = Some(waiting);
@@ -369,7 +348,7 @@ impl<D: Disk + Drop> Store<D> {
     {
         let _ = voted.spend();
         match self.out.take() {
-            Some(waiting) => match abort_on(&mut self.disk, &self.known, self.limit, waiting) {
+            Some(waiting) => match self.file.abort_on(&mut self.disk, self.limit, waiting) {
                 Ok(()) => Ok(()),
                 Err(_) => {
                     self.stale = true;
@@ -393,7 +372,7 @@ impl<D: Disk + Drop> Store<D> {
         let Store {
             alloc: _,
             disk,
-            known: _,
+            file: _,
             limit: _,
             out: _,
             undecided: _,

@@ -1,180 +1,165 @@
-ghost use Rattle.std.specs.Prelude.{◌≡◌, ◌<◌, ◌≤◌, ◌^◌, ◌==◌, All, ℕ, false, min, IfOk, IfSome, IsErr, None, Some};
-ghost use Rattle.zbase.specs.Limits.{greatest_number};
-ghost use Rattle.evaluator.specs.Change.{is_new, made, named};
-ghost use Rattle.evaluator.specs.Settle.{size, size_of_entry};
-ghost use Rattle.fs_scan.specs.OnlyReads.{OnlyReads};
-ghost use Rattle.fs_store.specs.Fronts.{history_at};
-ghost use Rattle.fs_store.specs.Knowing.{IsKnown};
+ghost use Rattle.std.specs.Prelude.{◌≡◌, ◌⊎◌, ◌++◌, ◌+◌, ◌<◌, ◌≤◌, ◌^◌, All, ℕ, None, Some, length, IfErr, IfOk, IfSome, OnOk, OnErr, IsErrOf};
+ghost use Rattle.std.specs.Option.{ForSome};
+ghost use Rattle.zbase.specs.Faults.{Counts, Twice};
+ghost use Rattle.zdisk.specs.Crashes.{Becomes, IsSynced, IsTorn, LeavesFrom};
+ghost use Rattle.zdisk.specs.Disk.{content, counted};
+ghost use Rattle.fs_index.specs.Places.{HasRoom, place_of};
+ghost use Rattle.fs_record.specs.Spelling.{block_spelling};
+ghost use Rattle.fs_record.specs.Written.{HasBody, IsWritable, transaction};
+ghost use Rattle.evaluator.specs.Settle.{settle, size};
+ghost use Rattle.fs_store.specs.Drafts.{LooksForNothing};
+ghost use Rattle.fs_store.specs.Fronts.{history_at, history_where};
+ghost use Rattle.fs_store.specs.Kept.{IsKept, IsVoted, out_of};
+ghost use Rattle.fs_store.specs.Moments.{OpensTo};
+ghost use Rattle.fs_store.specs.Pointing.{PointsToData};
 ghost use Rattle.fs_store.specs.Seeing.{SeenOn};
-ghost use Rattle.fs_store.specs.Stores.{IsDraft};
+ghost use Rattle.fs_store.specs.Staleness.{IsUnsettled};
+ghost use Rattle.fs_store.specs.Stores.{IsDraft, most_length};
+ghost use Rattle.fs_store.specs.Verdicts.{IsFree, clash_among, validation_at};
+ghost use Rattle.fs_store.specs.declared.reads.Seen.{Seen};
 ghost use Rattle.fs_store.specs.declared.refusal.VoteRefusal.{VoteRefusal};
-ghost use Rattle.fs_store.specs.Verdicts.{IsFree, clash_among, clash_at, spent_at, tid_after, validation_at};
 
-use crate::known::Known;
-use crate::reads::Seen;
-use crate::{Spent, VoteRefusal};
-use evaluator::{Draft, Entry, Name};
-use fs_record::{BACK_RECORD_LEN, BARE_TXN_LEN, DATA_HEAD_LEN};
-use fs_scan::read_head;
-use zbase::{Clash, Failed, Tid};
-use zdisk::Disk;
+use crate::file::OpenFile;
+use crate::settling::Settled;
+use crate::verdict::{size_of, tid_after};
+use crate::waiting::Waiting;
+use crate::{LoadRefusal, Seen, VoteRefusal};
+use evaluator::Draft;
+use fs_index::Index;
+use fs_record::{Item, STATUS_WAITING, TxnTexts, write_txn};
+use std::alloc::Global;
+use zbase::{Bytes, Memory, Tid};
+use zdisk::{Disk, append_and_sync};
 
-// The clash of an object that was read with this later serial.
-fn clash_with(seen: &Seen, found: Tid) -> Clash
-    ensures { result ≡ record { oid = seen.now.oid; seen = seen.now.serial; found = found } }
+// Keeps room for each item's object.
+fn reserve_all(index: &mut Index, items: &[Item]) -> Result<(), Memory>
+    ensures places { (o : ℕ) → place_of index.new o ≡ place_of index.old o }
+    ensures room { OnOk result (All (λ item. HasRoom index.new item.oid) items.now) }
 {
-    Clash {
-        oid: seen.oid.0,
-        seen: seen.serial.0,
-        found: found.0,
+    for item in items {
+        index.reserve(&[item.oid])?;
     }
+    Ok(())
 }
 
-// The clash of an object that was read. Where its newest record stands where it stood then there is none; else the
-// record's head has its serial.
-fn clash_at<D: Disk>(disk: &mut D, known: &Known, seen: &Seen) -> Result<Option<Clash>, Failed>
-    requires known { IsKnown (D.told disk.old) known.now known.now.end }
-    requires seen { SeenOn (D.told disk.old) known.now.end seen.now }
-    ensures calls { IfOk result (λ clash. clash ≡ None → (D.counter disk.new).calls ≡ (D.counter disk.old).calls) }
-    ensures clash { IfOk result (λ clash. IfSome (D.told disk.old) (λ told. clash ≡ clash_at (history_at told known.now.end) seen.now)) }
-    ensures only_reads { OnlyReads D.Disk disk.old disk.new (IsErr result) }
-{
-    let place = known.place(seen.oid);
-    if place == seen.place {
-        return Ok(None);
-    }
-    match read_head(disk, known.end, place)? {
-        Some(head) => Ok(Some(clash_with(seen, head.tid))),
-        // only where the disk tells nothing
-        None => Ok(Some(clash_with(seen, known.last))),
-    }
-}
-
-// The clash of the first object that has a later serial than the one seen: no device call where there is none, and one
-// where there is.
-fn clash_among<D: Disk>(
+// Writes the transaction behind the file with status `c`, and syncs; there is room then for what finishes or aborts it.
+// These are two device calls, the first behind all that takes memory.
+fn write_behind<D: Disk>(
+    alloc: Global,
     disk: &mut D,
-    known: &Known,
-    reads: &[Seen],
-) -> Result<Option<Clash>, Failed>
-    requires known { IsKnown (D.told disk.old) known.now known.now.end }
-    requires seen { All (SeenOn (D.told disk.old) known.now.end) reads.now }
-    ensures calls { IfOk result (λ clash. clash ≡ None → (D.counter disk.new).calls ≡ (D.counter disk.old).calls) }
-    ensures clash { IfOk result (λ clash. IfSome (D.told disk.old) (λ told. clash ≡ clash_among (history_at told known.now.end) reads.now)) }
-    ensures only_reads { OnlyReads D.Disk disk.old disk.new (IsErr result) }
+    end: u64,
+    tid: Tid,
+    texts: &TxnTexts,
+    items: &[Item],
+) -> Result<(), LoadRefusal>
+    requires synced { ForSome (D.told disk.old) (λ told. IsSynced told × (end ≡ length (content told))) }
+    requires user { length texts.now.user < 2 ^ 16 }
+    requires description { length texts.now.description < 2 ^ 16 }
+    requires extension { length texts.now.extension < 2 ^ 16 }
+    requires bodies { All HasBody items.now }
+    requires fits { end + length (block_spelling (transaction end tid STATUS_WAITING texts.now items.now)) < 2 ^ 63 }
+    ensures any_moment { LeavesFrom (D.told disk.old) (D.told disk.new) (λ file image. IsTorn file (block_spelling (transaction end tid STATUS_WAITING texts.now items.now)) image) }
+    ensures written { OnOk result (Becomes (D.told disk.old) (D.told disk.new) (λ file. file ++ block_spelling (transaction end tid STATUS_WAITING texts.now items.now))) }
+    ensures writable { OnOk result (IsWritable end tid STATUS_WAITING texts.now items.now) }
+    ensures spare { OnOk result ((2 ≤ D.spare_calls disk.new) × (1 ≤ D.spare_bytes disk.new)) }
+    ensures calls { OnOk result ((D.counter disk.new).calls ≡ counted (counted (D.counter disk.old).calls)) }
+    ensures twice { OnOk result (Twice (D.counter disk.old) (D.counter disk.new)) }
+    ensures memory { IsErrOf result LoadRefusal.Memory → D.told disk.new ≡ D.told disk.old }
+    ensures counts { Counts (D.counter disk.old) (D.counter disk.new) (IsErrOf result LoadRefusal.Disk) }
 {
-    for seen in reads {
-        if let Some(clash) = clash_at(disk, known, seen)? {
-            return Ok(Some(clash));
+    let mut piece = Bytes::new(alloc);
+    write_txn(&mut piece, end, tid, STATUS_WAITING, texts, items)?;
+    disk.reserve(4, piece.len() as u64 + 1)?;
+    append_and_sync(disk, end, piece.as_slice())?;
+    Ok(())
+}
+
+impl OpenFile {
+    /// Votes for a draft where no other vote is out: refuses it, or lets it wait behind the file with all that it needs to be
+    /// finished or aborted.
+    pub(crate) fn vote_on<D: Disk>(
+        &mut self,
+        alloc: Global,
+        disk: &mut D,
+        limit: u64,
+        holder: u32,
+        draft: &Draft,
+        reads: &[Seen],
+        now: Tid,
+    ) -> Result<Waiting, VoteRefusal>
+        requires limit { limit ≤ most_length }
+        requires kept { IsKept (D.told disk.old) self.old limit None (D.spare_calls disk.old) (D.spare_bytes disk.old) }
+        requires rules { IsDraft draft.now }
+        requires seen { All (SeenOn (D.told disk.old) self.old.end) reads.now }
+        ensures kept { IfOk result (λ w. IsKept (D.told disk.new) self.new limit (Some w) (D.spare_calls disk.new) (D.spare_bytes disk.new)) }
+        ensures holder { IfOk result (λ w. w.holder ≡ holder) }
+        ensures direct { OnOk result (IfSome (D.told disk.new) (λ told. PointsToData (content told) self.new.end)) }
+        ensures voted { IfOk result (λ w. IfSome (D.told disk.old) (λ told. IsVoted (D.told disk.new) (history_at told self.old.end) self.new limit holder draft.now reads.now now w)) }
+        ensures refused { IfErr result (λ refusal. IfSome (D.told disk.old) (λ told. (refusal ≡ VoteRefusal.Memory) ⊎ ((refusal ≡ VoteRefusal.Disk) ⊎ (validation_at (history_at told self.old.end) self.old.end limit draft.now (clash_among (history_at told self.old.end) reads.now) ≡ Some refusal)))) }
+        ensures own { IfErr result (λ refusal. (w : ℕ) → refusal ≡ VoteRefusal.Busy w → ⊥) }
+        ensures stays { IfErr result (λ refusal. (refusal ≡ VoteRefusal.Disk → ⊥) → IsKept (D.told disk.new) self.new limit None (D.spare_calls disk.new) (D.spare_bytes disk.new) × (D.told disk.new ≡ D.told disk.old)) }
+        ensures unsettled { OnErr result (IfSome (D.told disk.new) (IsUnsettled self.new.end None)) }
+        ensures end { self.new.end ≡ self.old.end }
+        ensures history { history_where (D.told disk.new) self.old.end ≡ history_where (D.told disk.old) self.old.end }
+        ensures seen { (s : Seen) → SeenOn (D.told disk.old) self.old.end s → SeenOn (D.told disk.new) self.old.end s }
+        ensures any_moment { LeavesFrom (D.told disk.old) (D.told disk.new) (λ file image. OpensTo image (history_where (D.told disk.old) self.old.end) self.old.end) }
+        ensures calls { OnOk result (LooksForNothing draft.now → (D.counter disk.new).calls ≡ counted (counted (D.counter disk.old).calls)) }
+        ensures twice { OnOk result (Twice (D.counter disk.old) (D.counter disk.new)) }
+        ensures counts { Counts (D.counter disk.old) (D.counter disk.new) (IsErrOf result VoteRefusal.Disk) }
+    {
+        match self.refusal(disk, limit, draft, reads) {
+            Ok(None) => {}
+            Ok(Some(refusal)) => return Err(refusal),
+            Err(_) => return Err(VoteRefusal::Disk),
+        }
+        let tid = tid_after(self.last, now);
+        match self.wait_on(alloc, disk, limit, holder, draft, tid) {
+            Ok(waiting) => Ok(waiting),
+            Err(LoadRefusal::Disk) => Err(VoteRefusal::Disk),
+            Err(LoadRefusal::Memory) => Err(VoteRefusal::Memory),
         }
     }
-    Ok(None)
-}
 
-// Whether the entry makes a new object.
-fn is_new(entry: &Entry) -> bool
-    ensures { result ≡ is_new (named entry.now) }
-{
-    match entry {
-        Entry::Write { name, .. } => match name {
-            Name::New(_) => true,
-            Name::Old(_) => false,
-        },
-        Entry::Restore { .. } => false,
-    }
-}
-
-// How many new objects the draft makes.
-fn made_by(draft: &Draft) -> u32
-    requires { IsDraft draft.now }
-    ensures { result ≡ made draft.now }
-{
-    let mut made = 0;
-    for entry in draft.entries.as_slice() {
-        if is_new(entry) {
-            made += 1;
-        }
-    }
-    made
-}
-
-// The size of the entry's data record, or the greatest number.
-fn size_of_entry(entry: &Entry) -> u64
-    ensures { result ≡ min (size_of_entry entry.now) greatest_number }
-{
-    match entry {
-        Entry::Write { bytes, .. } => (DATA_HEAD_LEN as u64).saturating_add(bytes.len() as u64),
-        Entry::Restore { .. } => BACK_RECORD_LEN as u64,
-    }
-}
-
-/// The size of the draft's transaction record, or the greatest number.
-pub(crate) fn size_of(draft: &Draft) -> u64
-    ensures { result ≡ min (size draft.now) greatest_number }
-{
-    let mut size = (BARE_TXN_LEN as u64)
-        .saturating_add(draft.user.len() as u64)
-        .saturating_add(draft.description.len() as u64);
-    for entry in draft.entries.as_slice() {
-        size = size.saturating_add(size_of_entry(entry));
-    }
-    size
-}
-
-// The first thing that is spent: transaction ids, object ids or the file's room.
-fn spent(known: &Known, limit: u64, draft: &Draft) -> Option<VoteRefusal>
-    requires rules { IsDraft draft.now }
-    requires bound { known.now.next ≤ 2 ^ 64 }
-    ensures { result ≡ spent_at known.now.last known.now.next known.now.end limit draft.now }
-{
-    if known.last.0 == u64::MAX {
-        return Some(VoteRefusal::Spent(Spent::Tids));
-    }
-    let made = made_by(draft);
-    if made > 0 && known.next + u128::from(made) > u128::from(u64::MAX) {
-        let greatest = (known.next - 1) as u64;
-        return Some(VoteRefusal::Spent(Spent::Oids {
-            greatest,
-            new: made,
-        }));
-    }
-    let need = known.end.saturating_add(size_of(draft));
-    if limit < need {
-        return Some(VoteRefusal::Spent(Spent::Full { need, limit }));
-    }
-    None
-}
-
-/// The transaction id that a vote takes: the clock's stamp, or the next one where the clock stands still.
-pub(crate) fn tid_after(last: Tid, now: Tid) -> Tid
-    requires { (last == greatest_number) ≡ false }
-    ensures tid { result ≡ tid_after last now }
-    ensures later { last < result }
-{
-    if last.0 < now.0 { now } else { Tid(last.0 + 1) }
-}
-
-/// The first refusal of a vote that applies where no vote is out, none where the vote stands open. No device call is made
-/// but where an object that was read has a later serial.
-pub(crate) fn refusal<D: Disk>(
-    disk: &mut D,
-    known: &Known,
-    limit: u64,
-    draft: &Draft,
-    reads: &[Seen],
-) -> Result<Option<VoteRefusal>, Failed>
-    requires known { IsKnown (D.told disk.old) known.now known.now.end }
-    requires bound { known.now.next ≤ 2 ^ 64 }
-    requires rules { IsDraft draft.now }
-    requires seen { All (SeenOn (D.told disk.old) known.now.end) reads.now }
-    ensures refusal { IfOk result (λ refusal. IfSome (D.told disk.old) (λ told. refusal ≡ validation_at (history_at told known.now.end) known.now.end limit draft.now (clash_among (history_at told known.now.end) reads.now))) }
-    ensures free { IfOk result (λ refusal. refusal ≡ None → IsFree known.now.last known.now.next known.now.end limit draft.now) }
-    ensures calls { IfOk result (λ refusal. refusal ≡ None → (D.counter disk.new).calls ≡ (D.counter disk.old).calls) }
-    ensures own { IfOk result (λ refusal. (refusal ≡ Some VoteRefusal.Memory → ⊥) × (refusal ≡ Some VoteRefusal.Disk → ⊥) × ((w : ℕ) → refusal ≡ Some (VoteRefusal.Busy w) → ⊥)) }
-    ensures only_reads { OnlyReads D.Disk disk.old disk.new (IsErr result) }
-{
-    match clash_among(disk, known, reads)? {
-        Some(clash) => Ok(Some(VoteRefusal::Conflict(clash))),
-        None => Ok(spent(known, limit, draft)),
+    // Lets a draft wait behind the file, with this id.
+    fn wait_on<D: Disk>(
+        &mut self,
+        alloc: Global,
+        disk: &mut D,
+        limit: u64,
+        holder: u32,
+        draft: &Draft,
+        tid: Tid,
+    ) -> Result<Waiting, LoadRefusal>
+        requires limit { limit ≤ most_length }
+        requires kept { IsKept (D.told disk.old) self.old limit None (D.spare_calls disk.old) (D.spare_bytes disk.old) }
+        requires rules { IsDraft draft.now }
+        requires free { IsFree self.old.last self.old.next self.old.end limit draft.now }
+        requires later { self.old.last < tid }
+        ensures kept { IfOk result (λ w. IsKept (D.told disk.new) self.new limit (Some w) (D.spare_calls disk.new) (D.spare_bytes disk.new)) }
+        ensures holder { IfOk result (λ w. w.holder ≡ holder) }
+        ensures direct { OnOk result (IfSome (D.told disk.new) (λ told. PointsToData (content told) self.new.end)) }
+        ensures waits { IfOk result (λ w. IfSome (D.told disk.old) (λ told. out_of (D.told disk.new) self.new.end w ≡ record { holder = holder; transaction = settle (history_at told self.old.end) draft.now tid; size = size draft.now })) }
+        ensures stays { IsErrOf result LoadRefusal.Memory → IsKept (D.told disk.new) self.new limit None (D.spare_calls disk.new) (D.spare_bytes disk.new) × (D.told disk.new ≡ D.told disk.old) }
+        ensures unsettled { OnErr result (IfSome (D.told disk.new) (IsUnsettled self.new.end None)) }
+        ensures end { self.new.end ≡ self.old.end }
+        ensures history { history_where (D.told disk.new) self.old.end ≡ history_where (D.told disk.old) self.old.end }
+        ensures seen { (s : Seen) → SeenOn (D.told disk.old) self.old.end s → SeenOn (D.told disk.new) self.old.end s }
+        ensures any_moment { LeavesFrom (D.told disk.old) (D.told disk.new) (λ file image. OpensTo image (history_where (D.told disk.old) self.old.end) self.old.end) }
+        ensures calls { OnOk result (LooksForNothing draft.now → (D.counter disk.new).calls ≡ counted (counted (D.counter disk.old).calls)) }
+        ensures twice { OnOk result (Twice (D.counter disk.old) (D.counter disk.new)) }
+        ensures counts { Counts (D.counter disk.old) (D.counter disk.new) (IsErrOf result LoadRefusal.Disk) }
+    {
+        let Settled { texts, items } = self.settle(alloc, disk, draft)?;
+        reserve_all(&mut self.index, items.as_slice())?;
+        write_behind(alloc, disk, self.end, tid, &texts, items.as_slice())?;
+        let size = size_of(draft);
+        self.len = self.end.saturating_add(size);
+        Ok(Waiting {
+            holder,
+            tid,
+            texts,
+            items,
+            size,
+        })
     }
 }

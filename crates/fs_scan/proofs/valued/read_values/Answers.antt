@@ -1,4 +1,4 @@
-use Rattle.std.proofs.Common.{◌-◌, drop, take, length, Option, refl, ◌∙◌, subst, arith}
+use Rattle.std.proofs.Common.{◌-◌, drop, take, length, Option, refl, subst, arith}
 use Rattle.std.proofs.lemmas.List.{take_rest}
 use Rattle.zdisk.specs.Disk.{Told}
 use Rattle.fs_scan.specs.Found.{NoData}

@@ -1,4 +1,4 @@
-use Rattle.std.proofs.Common.{◌≡◌, ◌≤◌, ◌-◌, length}
+use Rattle.std.proofs.Common.{◌≤◌, ◌-◌, length}
 use Rattle.fs_scan.proofs.ValuesRead.{ValuesTo}
 use Rattle.fs_scan.specs.OnlyReads.{OnlyReads}
 use Rattle.fs_scan.proofs.valued.read_values.Given as goal

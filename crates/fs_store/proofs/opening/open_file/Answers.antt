@@ -17,7 +17,7 @@ returns-in_err-read-clause-refused g c =
 
 pub returns-then-read-eq0-clause-tidies : goal.returns-then-read-eq0-clause-tidies
 returns-then-read-eq0-clause-tidies g c =
-    synced_alone (g.D.Disk.told c.args.disk.now) (g.D.Disk.told c.reserve.new.self) (g.D.Disk.told c.sync.new.self) (g.D.Disk.told c.read_file.new.disk) c.in_ok-read.read.known.end c.in_ok-read.read.torn
+    synced_alone (g.D.Disk.told c.args.disk.now) (g.D.Disk.told c.reserve.new.self) (g.D.Disk.told c.sync.new.self) (g.D.Disk.told c.read_file.new.disk) c.in_ok-read.read.file.end c.in_ok-read.read.torn
     (c.in_ok-reserve.ensures.same ∙ c.in_ok-len.ensures.same) c.in_ok-sync.ensures.held c.in_ok-read.ensures.only_reads.same c.if-read-eq0.true
 
 pub returns-in_err-cut_off-clause-left : goal.returns-in_err-cut_off-clause-left

@@ -1,4 +1,4 @@
-use Rattle.std.proofs.Common.{◌≡◌, ◌∷◌, ◌++◌, [], List, None, Some, ap, sym, ◌∙◌}
+use Rattle.std.proofs.Common.{◌∷◌, ◌++◌, [], ap, sym, ◌∙◌}
 use Rattle.evaluator.specs.declared.fact.LogRow.{LogRow}
 use Rattle.fs_store.specs.Parts.{row_of}
 use Rattle.fs_store.proofs.Tellings.{always, on_told}

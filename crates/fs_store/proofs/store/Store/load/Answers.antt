@@ -22,7 +22,7 @@ returns-clause-reads_again g c =
     let more = (g.D.Disk.counter c.load.new.disk).calls in
     let now = g.D.Disk.told c.load.new.disk in
     let opened = subst (λ (s : StoreView). IfSome c.args.self.now.disk.told (λ told. CostsOpening (content told) c.args.self.now.disk.counter.calls s.disk.counter.calls)) (sym c.self.view_is) c.in_ok-refresh.ensures.reads in
-    let loaded = moved (g.D.Disk.told i.disk) now (λ t. CostsLoad t i.known.end c.args.oid c.args.at (g.D.Disk.counter i.disk).calls more) c.load.ensures.only_reads.same c.load.ensures.reads in
+    let loaded = moved (g.D.Disk.told i.disk) now (λ t. CostsLoad t i.file.end c.args.oid c.args.at (g.D.Disk.counter i.disk).calls more) c.load.ensures.only_reads.same c.load.ensures.reads in
     on_told c.args.self.now.disk.told (λ told. CostsOpening (content told) c.args.self.now.disk.counter.calls (g.D.Disk.counter i.disk).calls)
-    (λ told. (calls : ℕ) × CostsOpening (content told) c.args.self.now.disk.counter.calls calls × IfSome now (λ t. CostsLoad t i.known.end c.args.oid c.args.at calls more))
+    (λ told. (calls : ℕ) × CostsOpening (content told) c.args.self.now.disk.counter.calls calls × IfSome now (λ t. CostsLoad t i.file.end c.args.oid c.args.at calls more))
     (λ told opened. ((g.D.Disk.counter i.disk).calls, opened, loaded)) opened

@@ -1,0 +1,14 @@
+use Rattle.std.proofs.Common.{◌-◌, IfSome}
+use Rattle.fs_scan.specs.OnlyReads.{OnlyReads}
+use Rattle.fs_store.proofs.Walking.{Logged}
+use Rattle.fs_store.proofs.file.OpenFile.log.Given as goal
+
+-- the transactions before the place were logged, and nothing was changed
+abbrev pub invariant-each : goal.invariant-each
+invariant-each g l = record {
+  logged : IfSome (g.D.Disk.told l.fn.disk) (λ told. Logged told l.self l.place l.at l.rows);
+  only : OnlyReads g.D.Disk l.fn.disk l.disk ⊥;
+}
+
+abbrev pub decreases-each : goal.decreases-each
+decreases-each g l = l.end - l.place
