@@ -93,6 +93,10 @@ impl Shelf for LongShelf {
         Err(ShelfRefusal::Exists)
     }
 
+    fn close(&mut self, _name: &str, _disk: LongDisk) -> Result<(), Memory> {
+        Ok(())
+    }
+
     fn replace(&mut self, _new: &str, _main: &str) -> Result<(), ShelfRefusal> {
         Err(self.faults.fault().into())
     }
