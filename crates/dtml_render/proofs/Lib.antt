@@ -1,2 +1,4 @@
 mod ForUsers
 mod PageLaws
+mod Seeing
+mod Steps

@@ -1,3 +1,4 @@
 pub mod Rendering
 pub mod Access
 pub mod Worked
+pub mod Told

@@ -1,10 +1,16 @@
-//! What the text of a page is, and to whom it shows what.
+//! The renderer of DTML: the text of a page, or the first refusal from the left.
 //!
 //! `specs/Rendering` says what the text of a template is, or which refusal comes first, and `specs/Access` for whom a page
 //! takes its verdicts; `specs/Worked` has pages that compute. The laws hold of every page.
 #![tactic(auto)]
 
+mod asking;
+mod items;
 mod laws;
+mod reading;
+mod rendering;
+mod showing;
 
 pub use dtml_values::{Budget, Limit, RenderRefusal};
 pub use laws::{pages_are_for_their_users, pages_are_their_users_own, pages_show_what_is_granted};
+pub use rendering::render;

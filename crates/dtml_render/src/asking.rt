@@ -1,0 +1,109 @@
+ghost use Rattle.std.specs.Prelude.{◌≡◌, ◌≤◌, List, length, take};
+ghost use Rattle.evaluator.specs.declared.reply.Shown.{Shown};
+ghost use Rattle.zobject.specs.Shapes.{form_of};
+ghost use Rattle.zknown.specs.Seen.{objects};
+ghost use Rattle.namespace.specs.Looks.{looked};
+ghost use Rattle.namespace.specs.Names as names;
+ghost use Rattle.namespace.specs.Told.{Begins, Shows};
+ghost use Rattle.dtml_values.specs.Told.{told};
+ghost use Rattle.dtml_render.specs.Rendering as rendering;
+
+use acquisition::{Wrapped, here};
+use dtml_values::RenderRefusal;
+use namespace::{Single, Stack, Val};
+use zbase::{Oid, Text};
+use zknown::Known;
+use zobject::{Object, Part2};
+
+/// The value of a name in the stack.
+pub(crate) fn find(
+    name: &Text,
+    known: &Known,
+    stack: &mut Stack,
+) -> Result<Option<Val>, RenderRefusal>
+    ensures is { Shows told (λ v. v) stack.new.shown result (looked (objects known.now) stack.old.shown (names.named stack.old.scope name.now)) }
+    ensures scope { stack.new.scope ≡ stack.old.scope }
+    ensures shown { Begins stack.old.shown stack.new.shown }
+{
+    let found = stack.find(known, name.as_str())?;
+    Ok(found)
+}
+
+/// The object with its contents, which the user must be granted to view; it is then shown.
+pub(crate) fn open<'k>(
+    oid: Oid,
+    known: &'k Known,
+    stack: &mut Stack,
+) -> Result<&'k Object, RenderRefusal>
+    ensures is { Shows told (λ o. o.now) stack.new.shown result (looked (objects known.now) stack.old.shown (names.viewing (names.whose stack.old.scope) oid)) }
+    ensures scope { stack.new.scope ≡ stack.old.scope }
+    ensures shown { Begins stack.old.shown stack.new.shown }
+{
+    let object = stack.open(known, oid)?;
+    Ok(object)
+}
+
+// Whether objects of this kind have a source.
+fn has_source(part: &Part2) -> bool
+    ensures { result ≡ rendering.has_source (form_of part.now) }
+{
+    match part {
+        Part2::Method { .. } | Part2::Document { .. } => true,
+        Part2::Folder(_) | Part2::UserFolder(_) => false,
+    }
+}
+
+/// Whether an object has a source, as methods and documents do.
+pub(crate) fn sourced(object: &Wrapped, known: &Known) -> Result<bool, RenderRefusal>
+    ensures { (shown : List Shown) → Shows told (λ has. has) shown result (looked (objects known.now) shown (rendering.sourced object.now)) }
+{
+    let whole = here(known, object.oid())?;
+    Ok(has_source(&whole.part))
+}
+
+// Whether an item that is an object has its turn.
+fn object_turn(
+    skip: bool,
+    object: &Wrapped,
+    known: &Known,
+    stack: &mut Stack,
+) -> Result<bool, RenderRefusal>
+    ensures is { Shows told (λ may. may) stack.new.shown result (looked (objects known.now) stack.old.shown (rendering.object_turn stack.old.scope skip object.now)) }
+    ensures scope { stack.new.scope ≡ stack.old.scope }
+    ensures shown { Begins stack.old.shown stack.new.shown }
+{
+    if skip {
+        let granted = stack.offer(known, object.oid())?;
+        return Ok(granted);
+    }
+    stack.view(known, object.oid())?;
+    Ok(true)
+}
+
+/// Whether an item of a sequence has its turn: an object needs a view, and is passed over where that is asked for.
+pub(crate) fn has_turn(
+    skip: bool,
+    item: &Single,
+    known: &Known,
+    stack: &mut Stack,
+) -> Result<bool, RenderRefusal>
+    ensures is { Shows told (λ may. may) stack.new.shown result (looked (objects known.now) stack.old.shown (rendering.has_turn stack.old.scope skip item.now)) }
+    ensures scope { stack.new.scope ≡ stack.old.scope }
+    ensures shown { Begins stack.old.shown stack.new.shown }
+{
+    match item {
+        Single::Obj(object) => object_turn(skip, object, known, stack),
+        Single::Text(_) | Single::Int(_) => Ok(true),
+    }
+}
+
+/// Takes away the newest layers, so that so many are left. Takes no memory.
+pub(crate) fn cut(depth: usize, stack: &mut Stack)
+    requires { depth ≤ length stack.old.scope.layers }
+    ensures scope { stack.new.scope ≡ record stack.old.scope { layers = take depth stack.old.scope.layers } }
+    ensures shown { stack.new.shown ≡ stack.old.shown }
+{
+    while stack.depth() > depth {
+        stack.pop();
+    }
+}
