@@ -1,14 +1,12 @@
 -- To whom a site shows what, and that contents stay apart: from an outcome back through its question.
-use Rattle.std.proofs.Common.{ℕ, zero, suc, ◌≡◌, ◌∙◌, ◌==◌, ◌⊎◌, inl, inr, refl, eq-eqb, sym, ap, subst, Bool, true, false, List, [], ◌∷◌, Option, Some, None, option_map, Result, Ok, Err, if◌then◌else◌}
-use Rattle.std.specs.Prelude.{◌≢◌}
+use Rattle.std.proofs.Common.{ℕ, suc, ◌≡◌, ◌∙◌, ◌==◌, ◌⊎◌, inl, inr, refl, eq-eqb, sym, ap, subst, Bool, true, false, List, [], ◌∷◌, Option, Some, None, Result, Ok, Err, if◌then◌else◌}
 use Rattle.std.specs.List.{AllByRecursion}
 use Rattle.zbase.specs.History.{History}
-use Rattle.zbase.specs.Query as query
-use Rattle.zbase.specs.Query.{Query, Done, Stops, Asks, run, go_on, and_then, or_else, Halt, Need, Cause, ◌>>=◌ as ◌>>>◌}
+use Rattle.zbase.specs.Query.{Stops, run, and_then, or_else, Halt, Need, Cause, ◌>>=◌ as ◌>>>◌}
 use Rattle.zbase.specs.QueryLaws.{run_then}
 use Rattle.zobject.specs.declared.object.Object.{Object}
 use Rattle.zobject.specs.Shapes.{shape_of}
-use Rattle.zknown.specs.Seen.{Seen, Shapes, Objects, over_objects}
+use Rattle.zknown.specs.Seen.{Seen, Shapes, Objects}
 use Rattle.acquisition.specs.Acquiring as acquiring
 use Rattle.acquisition.specs.Acquiring.{first, here}
 use Rattle.permissions.specs.declared.who.Verdict.{Verdict}
@@ -17,23 +15,19 @@ use Rattle.permissions.specs.declared.who.Who.{Who}
 use Rattle.permissions.specs.Users.{Credentials, who}
 use Rattle.permissions.specs.Verdicts.{or_user, proxy_user, verdict_on}
 use Rattle.user_folder.specs.Credentials.{credentials_of}
-use Rattle.user_folder.specs.declared.basic.HeaderRefusal.{HeaderRefusal}
 use Rattle.evaluator.specs.declared.ask.Ask.{Ask}
-use Rattle.evaluator.specs.declared.draft.Draft.{Draft}
 use Rattle.evaluator.specs.declared.fact.Fact.{Fact}
 use Rattle.evaluator.specs.declared.outcome.Outcome.{Outcome}
 use Rattle.evaluator.specs.declared.reply.Denial.{Denial}
 use Rattle.evaluator.specs.declared.reply.Reply.{Reply}
 use Rattle.evaluator.specs.declared.reply.Shown.{Shown}
-use Rattle.evaluator.specs.Exec.{exec}
 use Rattle.evaluator.specs.Facts.{fact}
-use Rattle.evaluator.specs.Questions.{Made, as_ask, objects_of, outcome}
+use Rattle.evaluator.specs.Questions.{as_ask, outcome}
 use Rattle.form_fields.specs.declared.field.Field.{Field}
 use Rattle.form_fields.specs.Cookies.{cookies_of}
 use Rattle.form_fields.specs.Fields.{fields_of}
 use Rattle.http_in.specs.declared.message.HttpRefusal.{HttpRefusal}
 use Rattle.http_in.specs.declared.message.HttpRefusal.TheVariants as messages
-use Rattle.http_in.specs.declared.message.Message.TheVariants.{Whole}
 use Rattle.http_in.specs.declared.message.Request.{Request}
 use Rattle.http_in.specs.declared.message.Verb.{Verb}
 use Rattle.manage.specs.declared.call.Call.{Call}
@@ -43,10 +37,10 @@ use Rattle.manage.specs.Calling.{permission_at}
 use Rattle.manage.specs.Calls.{call_named}
 use Rattle.manage.specs.Changing.{change}
 use Rattle.namespace.specs.declared.val.Named.{Named}
-use Rattle.namespace.specs.LookLaws.{AreGranted, IsDenied, IsFor, IsGranted, IsOwn, IsShown, Same, Views, contents_stay_apart, denied_rightly, forgotten, looked_forgets, run_veiled, shown_rightly, viewed_is_shown}
+use Rattle.namespace.specs.LookLaws.{AreGranted, IsFor, IsOwn, IsShown, Same, contents_stay_apart, denied_rightly, forgotten, looked_forgets, run_veiled, shown_rightly, viewed_is_shown}
 use Rattle.namespace.specs.Looks as looks
 use Rattle.namespace.specs.Looks.{Looks, Use, Unauthorized, looked, looked_by, taken, through, veiled, view, without_users}
-use Rattle.namespace.specs.Names.{Scope, act, whose}
+use Rattle.namespace.specs.Names.{Scope, act}
 use Rattle.namespace.specs.Requests.{request_names}
 use Rattle.traverse.specs.declared.target.Target.{Target}
 use Rattle.traverse.specs.declared.target.Target.TheVariants as targets
@@ -60,13 +54,13 @@ use Rattle.dtml_render.specs.Access.{HasProxyRoles, IsActing, NoneHasProxyRoles}
 use Rattle.dtml_render.specs.Rendering.{or_bad, source_of, source_text, tree_text, whole_text}
 use Rattle.site.specs.declared.answer.Answer.{Answer}
 use Rattle.site.specs.declared.answer.Answer.TheVariants as answer
-use Rattle.site.specs.Access.{ContentsStayApart, IsDeniedTo, IsGrantedTo, IsItsUser, IsOfPage, IsPageFor, IsTargetFor, PagesShowRightly, Publishes, RefusalsAreDenied, ShowsRightly, objects_in, shown_by}
-use Rattle.site.specs.Comes.{Tells, history_tells, made_of, over_history_comes, reworded, run_reworded, within_or}
+use Rattle.site.specs.Access.{ContentsStayApart, IsDeniedTo, IsGrantedTo, IsItsUser, IsOfPage, IsPageFor, IsTargetFor, PagesShowRightly, RefusalsAreDenied, ShowsRightly, objects_in, shown_by}
+use Rattle.site.specs.Comes.{history_tells, made_of, over_history_comes, reworded, run_reworded, within_or}
 use Rattle.site.specs.Faults as faults
 use Rattle.site.specs.Faults.{Fault, by_shapes, or_stops}
 use Rattle.site.specs.Pages.{page_scope, page_text, scope_page, source_page, whole_budget}
 use Rattle.site.specs.Replies.{by_verb, fault_reply, page_reply, runaway_facts}
-use Rattle.site.specs.Site.{answered, authorization, bad_credentials, call_on, call_with, called, change_by, change_for, changed, is_long, made_by, over_history, page, page_for, refused_by, request, seen, shown_page, site, where_granted, whole, with_credentials, with_fields}
+use Rattle.site.specs.Site.{answered, authorization, bad_credentials, call_on, call_with, called, change_by, change_for, changed, is_long, over_history, page, page_for, refused_by, scope_answer, request, shown_page, where_granted, whole, with_credentials, with_fields}
 use Rattle.site.specs.Ways.{Any, ComesTo, Keeps, keeps_any, keeps_run, keeps_then}
 
 -- ---- for whom a page is
@@ -231,7 +225,7 @@ module _ (all : AreForUsers) (k : ℕ → Option (Seen Object)) where
   -- a page that came shows rightly
   page_shows : (q : Request) (fields : List Field) (credentials : Option Credentials) (object client : List ℕ) (y : Reply) → fields_of q ≡ Ok fields → credentials_of (authorization q) ≡ Ok credentials →
       run (veiled k) (published q.path) ≡ Ok (targets.Page object client) → run k (page q fields credentials (first object) client) ≡ Ok (answer.Page y) → ShowsRightly k q (by_verb q.method y)
-  unfolding page page_for
+  unfolding page scope_answer
   page_shows q fields credentials object client y read carried target e =
       let user = came k (by_shapes faults.User (who credentials (first object) view)) (page_for q fields (first object) client) (answer.Page y) e in
       let text = page_text user.0 (first object) client (request_names q user.0 fields (cookies_of q)) in
@@ -427,7 +421,7 @@ module _ (all : AreForUsers) (k : ℕ → Option (Seen Object)) (q : Request) (d
 
   page_denied : (fields : List Field) (credentials : Option Credentials) (object client : List ℕ) (f : Fault) → credentials_of (authorization q) ≡ Ok credentials →
       run k (page q fields credentials (first object) client) ≡ Err (Cause f) → denies f → Rightly
-  unfolding page page_for
+  unfolding page scope_answer
   page_denied fields credentials object client f carried e d_is = elim (stopped k (by_shapes faults.User (who credentials (first object) view)) (page_for q fields (first object) client) (Cause f) e) [
     | inl early ↦ absurd (shapes_silent faults.User (who credentials (first object) view) f user_silent early d_is)
     | inr user ↦ shown user.0 (shapes_came k faults.User (who credentials (first object) view) user.0 user.1) (stopped k (or_else faults.Page (through taken [] (Text user.0))) shown_page (Cause f) user.2)
@@ -542,7 +536,7 @@ module _ (all : AreForUsers) (k : ℕ → Option (Seen Object)) (q : Request) (d
 
 -- a page denies nothing
 page_denies : (k : ℕ → Option (Seen Object)) (q : Request) (fields : List Field) (credentials : Option Credentials) (o : ℕ) (client : List ℕ) (y : Reply) → run k (page q fields credentials o client) ≡ Ok (answer.Page y) → y.denied ≡ None
-unfolding page page_for
+unfolding page scope_answer
 page_denies k q fields credentials o client y e =
     let user = came k (by_shapes faults.User (who credentials o view)) (page_for q fields o client) (answer.Page y) e in
     let text = page_text user.0 o client (request_names q user.0 fields (cookies_of q)) in
@@ -610,7 +604,7 @@ module _ (own : AreOwn) (w : Who) (k l : ℕ → Option (Seen Object)) (same : S
 
   page_same : (fields : List Field) (credentials : Option Credentials) (object client : List ℕ) → ((user : Who) → run (veiled k) (who credentials (first object) view) ≡ Ok user → user ≡ w) →
       run k (page q fields credentials (first object) client) ≡ run l (page q fields credentials (first object) client)
-  unfolding page page_for
+  unfolding page scope_answer
   page_same fields credentials object client only =
       both (by_shapes faults.User (who credentials (first object) view)) (page_for q fields (first object) client) (page_for q fields (first object) client) (shapes_same faults.User (who credentials (first object) view))
       (λ user is. at user (only user (shapes_came k faults.User (who credentials (first object) view) user is)))

@@ -1,2 +1,5 @@
 mod Steps
 mod AccessLaws
+mod Learning
+mod Limiting
+mod PageSteps

@@ -1,15 +1,13 @@
 -- One question after another, with causes in this crate's words.
 use Rattle.std.proofs.Common.{ℕ, ◌≡◌, ◌∙◌, refl, sym, ap, subst, List, Option, Some, None, Result, Ok, Err}
-use Rattle.zbase.specs.Query.{Query, ◌>>=◌, run, and_then, or_else, Told, Answers, Halt, Need, Cause}
+use Rattle.zbase.specs.Query.{◌>>=◌, run, and_then, or_else, Told, Answers, Halt, Need, Cause}
 use Rattle.zbase.specs.QueryLaws.{run_then, worded}
-use Rattle.zobject.specs.declared.object.Object.{Object}
 use Rattle.zknown.specs.declared.kept.Kept.{Kept}
-use Rattle.zknown.specs.Seen.{Seen, Shapes, Objects, objects, over_objects, shapes}
+use Rattle.zknown.specs.Seen.{Shapes, Objects, objects, shapes}
 use Rattle.zknown.specs.SeenLaws.{run_over_objects}
 use Rattle.evaluator.specs.declared.ask.Ask.{Ask}
 use Rattle.evaluator.specs.Questions.{as_ask}
 use Rattle.manage.specs.declared.refusal.ManageRefusal.{ManageRefusal}
-use Rattle.manage.specs.Calling as calling
 use Rattle.site.specs.Comes.{reworded, run_reworded}
 use Rattle.site.specs.Faults.{Fault, Call, asking, by_shapes, comes_to}
 

@@ -2,7 +2,7 @@
 -- same, or the runaway reply.
 use Rattle.std.proofs.Common.{ℕ, zero, suc, ◌+◌, ◌≡◌, ◌∙◌, ◌⊎◌, inl, inr, refl, sym, ap, subst, Bool, true, false, List, [], ◌∷◌, ◌++◌, Option, Some, None, Result, Ok, Err, if◌then◌else◌, nat_lt, cond}
 use Rattle.std.specs.Option.{option_or}
-use Rattle.zbase.specs.Query.{Query, Done, Stops, Asks, ◌>>=◌, run, go_on, and_then, or_else, Halt, Need, Cause, Grows}
+use Rattle.zbase.specs.Query.{Query, Done, Stops, Asks, run, go_on, and_then, or_else, Halt, Need, Cause, Grows}
 use Rattle.zbase.specs.QueryLaws.{run_then}
 use Rattle.zbase.specs.History.{History}
 use Rattle.evaluator.specs.declared.ask.Ask.{Ask}
@@ -16,7 +16,6 @@ use Rattle.evaluator.specs.Questions.{Evaluation, Made, as_ask, counted, limited
 use Rattle.http_in.specs.declared.message.Request.{Request}
 use Rattle.http_in.specs.declared.message.Verb.{Verb}
 use Rattle.site.specs.declared.answer.Answer.{Answer}
-use Rattle.site.specs.declared.answer.Answer.TheVariants as answer
 use Rattle.site.specs.Faults.{Fault}
 use Rattle.site.specs.Site.{made_by, over_history, refused_by, request, seen}
 

@@ -1,9 +1,8 @@
 -- Why a whole message is answered by a refusal, in the order of an evaluation: its size, its fields, its credentials, its
 -- path, its user and the permission that he needs, and its page or call.
 use Rattle.std.specs.Prelude.{ℕ, List, Option, Some, None, Result, Ok, Err}
-use Rattle.zbase.specs.Query.{Query, Done, Stops, Halt, Need, Cause, or_else, run}
+use Rattle.zbase.specs.Query.{Done, Stops, Halt, Need, Cause, or_else, run}
 use Rattle.zbase.specs.QueryLaws.{worded}
-use Rattle.zobject.specs.declared.object.Object.{Object}
 use Rattle.zknown.specs.declared.kept.Kept.{Kept}
 use Rattle.zknown.specs.Seen.{Shapes, Objects, objects, over_objects}
 use Rattle.acquisition.specs.Acquiring as acquiring

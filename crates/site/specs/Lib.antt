@@ -10,3 +10,5 @@ pub mod PageRules
 pub mod SiteLaws
 pub mod Access
 pub mod Worked
+pub mod Keeping
+pub mod Halting

@@ -1,18 +1,17 @@
 -- What a page shows is shown once each, by roles, and what it is refused for is a permission, where the texts of objects
 -- keep their rules.
-use Rattle.std.proofs.Common.{ℕ, zero, suc, ◌<◌, ◌≤◌, ◌≡◌, ◌||◌, refl, sym, ap, subst, arith, Bool, true, false, List, [], ◌∷◌, ◌++◌, length, get_or, nat_eq, if◌then◌else◌}
+use Rattle.std.proofs.Common.{ℕ, zero, suc, ◌<◌, ◌≤◌, ◌≡◌, ◌||◌, refl, arith, Bool, true, false, List, [], ◌∷◌, ◌++◌, length, get_or, nat_eq, if◌then◌else◌}
 use Rattle.std.specs.Prelude.{AllPairs, ◌≢◌}
 use Rattle.std.specs.List.{AllByRecursion, list_any}
 use Rattle.std.proofs.lemmas.Bool.Decides.{nat_tests}
 use Rattle.std.proofs.lemmas.List.Quantifiers.{all_pairs_push}
-use Rattle.zbase.specs.Query as query
 use Rattle.zbase.specs.Query.{or_else, ◌>>=◌ as ◌>>>◌}
 use Rattle.zbase.specs.Roles.{IsRole}
 use Rattle.evaluator.specs.declared.reply.Shown.{Shown}
 use Rattle.evaluator.specs.Change.{IsPermission}
 use Rattle.zobject.specs.declared.object.Object.{Object}
 use Rattle.zobject.specs.Shapes.{Shape}
-use Rattle.zknown.specs.Seen.{Seen, Here, Absent, Unreadable, Shapes, Objects}
+use Rattle.zknown.specs.Seen.{Shapes, Objects}
 use Rattle.acquisition.specs.Acquiring as acquiring
 use Rattle.acquisition.specs.Acquiring.{here, reached}
 use Rattle.permissions.specs.declared.who.Verdict.{Verdict}

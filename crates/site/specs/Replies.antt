@@ -2,13 +2,11 @@
 --
 -- Zope Developer's Guide, "Object Publishing"; RFC 9110, "Status Codes" and "HEAD"; RFC 7617 for 401. The lines are this
 -- project's own.
-use Rattle.std.specs.Prelude.{ℕ, Bool, true, false, List, [], ◌∷◌, ◌++◌, Some, None, codes, decimal}
+use Rattle.std.specs.Prelude.{ℕ, Bool, true, false, List, ◌++◌, Some, None, codes, decimal}
 use Rattle.zbase.specs.Hex.{hex16_text}
 use Rattle.acquisition.specs.Acquiring as acquiring
 use Rattle.dtml_lex.specs.declared.refusal.DtmlRefusal.{DtmlRefusal}
 use Rattle.dtml_lex.specs.declared.refusal.DtmlRefusal.TheVariants as templates
-use Rattle.evaluator.specs.declared.ask.Ask.{Ask}
-use Rattle.evaluator.specs.declared.reply.Denial.{Denial}
 use Rattle.evaluator.specs.declared.reply.Kind.{Kind}
 use Rattle.evaluator.specs.declared.reply.Reply.{Reply}
 use Rattle.evaluator.specs.declared.reply.Shown.{Shown}

@@ -4,8 +4,8 @@
 -- permission that he needs, and the page or the call. The first refusal is the reply.
 --
 -- Zope Developer's Guide, "Object Publishing" and "Security".
-use Rattle.std.specs.Prelude.{ℕ, nat_lt, Bool, List, [], ◌∷◌, ◌++◌, length, flat_map, Option, Some, None, Result, Ok, Err, codes, if◌then◌else◌}
-use Rattle.zbase.specs.Query.{Query, Done, Stops, ◌>>=◌, or_else}
+use Rattle.std.specs.Prelude.{ℕ, nat_lt, Bool, List, [], ◌++◌, length, flat_map, Option, Some, None, Result, Ok, Err, codes, if◌then◌else◌}
+use Rattle.zbase.specs.Query.{Done, Stops, ◌>>=◌, or_else}
 use Rattle.zbase.specs.History.{Value}
 use Rattle.zobject.specs.declared.object.Object.{Object}
 use Rattle.zknown.specs.Seen.{Seen, Here, Absent, Unreadable, Objects}
@@ -19,7 +19,6 @@ use Rattle.permissions.specs.Users.{Credentials, who}
 use Rattle.permissions.specs.Verdicts.{verdict_on}
 use Rattle.user_folder.specs.Credentials.{credentials_of}
 use Rattle.user_folder.specs.declared.basic.HeaderRefusal.{HeaderRefusal}
-use Rattle.evaluator.specs.declared.ask.Ask.{Ask}
 use Rattle.evaluator.specs.declared.draft.Draft.{Draft}
 use Rattle.evaluator.specs.declared.fact.Fact.{Fact}
 use Rattle.evaluator.specs.declared.reply.Reply.{Reply}
@@ -42,6 +41,7 @@ use Rattle.manage.specs.Calling.{permission_at}
 use Rattle.manage.specs.Calls.{call_named}
 use Rattle.manage.specs.Changing.{change}
 use Rattle.namespace.specs.Looks.{taken, through, view}
+use Rattle.namespace.specs.Names.{Scope}
 use Rattle.namespace.specs.Requests.{request_names}
 use Rattle.traverse.specs.declared.target.Target.{Target}
 use Rattle.traverse.specs.declared.target.Target.TheVariants as targets
@@ -51,7 +51,7 @@ use Rattle.site.specs.declared.answer.Answer.{Answer}
 use Rattle.site.specs.declared.answer.Answer.TheVariants as answer
 use Rattle.site.specs.Faults as faults
 use Rattle.site.specs.Faults.{Fault, by_shapes, or_stops}
-use Rattle.site.specs.Pages.{page_text}
+use Rattle.site.specs.Pages.{page_scope, scope_page}
 use Rattle.site.specs.Replies.{by_verb, done, fault_reply, message_reply, page_reply, runaway_facts}
 
 -- ---- what a fact shows of its object
@@ -75,9 +75,13 @@ seen (Fact.Log rows) = Absent
 abbrev pub shown_page : (List ℕ × Left) × List Shown → Objects Fault Answer
 shown_page x = Done (answer.Page (page_reply x.0.0 x.1))
 
+-- the page of an object in a scope
+unfoldable pub scope_answer : Scope → ℕ → Objects Fault Answer
+scope_answer scope o = or_else faults.Page (through taken [] (scope_page scope o)) >>= shown_page
+
 -- the page of an object for a user
-unfoldable pub page_for : Request → List Field → ℕ → List ℕ → Who → Objects Fault Answer
-page_for q fields o client user = or_else faults.Page (through taken [] (page_text user o client (request_names q user fields (cookies_of q)))) >>= shown_page
+abbrev pub page_for : Request → List Field → ℕ → List ℕ → Who → Objects Fault Answer
+page_for q fields o client user = scope_answer (page_scope user client (request_names q user fields (cookies_of q))) o
 
 -- a page needs that its user may view the published object
 unfoldable pub page : Request → List Field → Option Credentials → ℕ → List ℕ → Objects Fault Answer

@@ -1,16 +1,15 @@
 -- A site keeps the laws of an evaluator: what is decided is decided on the whole, a change rests on what lasts, no message
 -- asks for more than 12,000 facts, and its changes and replies keep their rules.
-use Rattle.std.proofs.Common.{ℕ, zero, suc, ◌<◌, ◌≤◌, ◌≡◌, ◌∙◌, ◌++◌, ◌==◌, ◌&&◌, refl, sym, ap, subst, arith, lit<, lit≤, Bool, true, false, List, [], ◌∷◌, length, Option, Some, None, Result, Ok, Err, nat_lt, codes, if◌then◌else◌}
-use Rattle.std.specs.Prelude.{AllPairs, ◌≢◌, IfSome}
-use Rattle.std.specs.List.{AllByRecursion, list_any}
+use Rattle.std.proofs.Common.{ℕ, ◌<◌, ◌≤◌, ◌≡◌, ◌==◌, ◌&&◌, refl, sym, subst, arith, lit<, Bool, true, false, List, [], ◌∷◌, length, Option, Some, None, Result, Ok, Err, nat_lt, if◌then◌else◌}
+use Rattle.std.specs.List.{list_any}
 use Rattle.std.proofs.lemmas.Bool.Decides.{nat_tests}
-use Rattle.zbase.specs.Query.{Query, Done, Stops, Asks, Halt, Need, Cause, ◌>>=◌, or_else, run}
+use Rattle.zbase.specs.Query.{Done, Stops, Halt, Need, Cause, ◌>>=◌, or_else, run}
 use Rattle.zobject.specs.declared.object.Object.{Object}
 use Rattle.zobject.specs.declared.version.Kind.{Kind}
 use Rattle.zobject.specs.declared.version.Kind.TheVariants as kinds
 use Rattle.zobject.specs.declared.version.Version.TheVariants.{Second}
 use Rattle.zobject.specs.Shapes.{Shape}
-use Rattle.zknown.specs.Seen.{Seen, Here, Absent, Unreadable, Shapes, Objects}
+use Rattle.zknown.specs.Seen.{Shapes, Objects}
 use Rattle.zcodec.specs.Reading.{read}
 use Rattle.zcodec.specs.Record.{record_text}
 use Rattle.acquisition.specs.Acquiring as acquiring
@@ -29,8 +28,7 @@ use Rattle.evaluator.specs.Exec.{IsLawful, IsTrail, most_asks}
 use Rattle.evaluator.specs.Facts.{look}
 use Rattle.evaluator.specs.LimitLaws.{careful_limited, limited_within}
 use Rattle.evaluator.specs.QuestionLaws.{careful_over, lawful, trail_short}
-use Rattle.evaluator.specs.Questions.{Evaluation, IsCareful, Made, Reads, Changes, most_bytes, outcome, over_facts}
-use Rattle.evaluator.specs.Replies.{one_line}
+use Rattle.evaluator.specs.Questions.{IsCareful, Made, Reads, Changes, most_bytes, outcome, over_facts}
 use Rattle.form_fields.specs.declared.field.Field.{Field}
 use Rattle.http_in.specs.declared.message.HttpRefusal.{HttpRefusal}
 use Rattle.http_in.specs.declared.message.HttpRefusal.TheVariants as messages
@@ -45,7 +43,7 @@ use Rattle.manage.specs.declared.refusal.ManageRefusal.{ManageRefusal}
 use Rattle.manage.specs.declared.refusal.ManageRefusal.TheVariants as refusals
 use Rattle.manage.specs.Calling as calling
 use Rattle.manage.specs.Calling.{if_lawful, is_built, kind_of, permission_at}
-use Rattle.manage.specs.Calls.{call_named, edit_needs, is_at, is_by, permission_for, row}
+use Rattle.manage.specs.Calls.{call_named, edit_needs, is_at, is_by, permission_for}
 use Rattle.manage.specs.Changing as changing
 use Rattle.manage.specs.Changing.{change, settled}
 use Rattle.manage.specs.Edits.{edit_written, edited, written}
@@ -73,9 +71,9 @@ use Rattle.site.specs.Faults as faults
 use Rattle.site.specs.Faults.{Fault, by_shapes, or_stops}
 use Rattle.site.specs.Pages.{page_text}
 use Rattle.site.specs.PageRules.{AreShown, FaultRule, ShownRule, none_shown, through_keeps}
-use Rattle.site.specs.Replies.{by_verb, call_reply, cause_reply, done, fault_reply, message_reply, no_page_reply, page_reply, path_reply, runaway_facts, unauthorized, user_reply}
-use Rattle.site.specs.Site.{answered, authorization, bad_credentials, call_on, call_with, called, change_by, change_for, changed, draft_of, evaluation, is_long, made_by, over_history, page, page_for, path_text, read_as, refused_by, request, seen, shown_page, site, user_name, value_seen, where_granted, whole, with_credentials, with_fields}
-use Rattle.site.specs.TextRules.{HasRightTexts, read_keeps}
+use Rattle.site.specs.Replies.{by_verb, call_reply, cause_reply, fault_reply, message_reply, no_page_reply, page_reply, path_reply, runaway_facts, unauthorized, user_reply}
+use Rattle.site.specs.Site.{answered, authorization, bad_credentials, call_on, call_with, called, change_by, change_for, changed, draft_of, evaluation, is_long, made_by, over_history, page, page_for, path_text, scope_answer, read_as, refused_by, request, seen, shown_page, site, user_name, where_granted, whole, with_credentials, with_fields}
+use Rattle.site.specs.TextRules.{read_keeps}
 use Rattle.site.specs.UserRules.{IsRight, IsRightShown, NameRule, VerdictRule, shape_right, verdict_keeps, who_keeps}
 use Rattle.site.specs.Ways.{Any, ComesTo, Keeps, keeps_then, keeps_else, keeps_any, keeps_facts, keeps_limited, keeps_objects, keeps_run}
 
@@ -171,7 +169,7 @@ shown_page_keeps : (x : (List ℕ × Left) × List Shown) → ShownRule x → As
 shown_page_keeps x are = page_keeps x.0.0 x.1 are
 
 page_for_keeps : (q : Request) (fields : List Field) (o : ℕ) (client : List ℕ) (user : Who) → Asked AnswerRule (page_for q fields o client user)
-unfolding page_for
+unfolding scope_answer
 page_for_keeps q fields o client user =
     let text = page_text user o client (request_names q user fields (cookies_of q)) in
     then_keeps (λ (x : (List ℕ × Left) × List Shown). ShownRule x) AnswerRule (or_else faults.Page (through taken [] text)) shown_page

@@ -1,5 +1,5 @@
 -- What is read of bytes has roles and names of users that keep the rules of texts, whatever the bytes are.
-use Rattle.std.proofs.Common.{ℕ, zero, suc, ◌≡◌, ◌∙◌, ◌&&◌, refl, sym, ap, subst, Bool, true, false, List, [], ◌∷◌, Option, Some, None, Result, Ok, Err, option_map}
+use Rattle.std.proofs.Common.{ℕ, zero, suc, ◌≡◌, refl, subst, Bool, true, false, List, [], ◌∷◌, Option, None, Result, Ok, Err, option_map}
 use Rattle.std.specs.Int.{Width, w16, w32}
 use Rattle.std.specs.List.{AllByRecursion}
 use Rattle.zobject.specs.declared.object.Object.{Object}

@@ -1,9 +1,9 @@
 -- What a verdict is granted by is a role, and the user of a request has a short name, where the texts of objects keep
 -- their rules.
-use Rattle.std.proofs.Common.{ℕ, ◌≤◌, ◌≡◌, ◌&&◌, ◌||◌, ◌==◌, refl, sym, ap, subst, arith, Bool, true, false, List, [], ◌∷◌, ◌++◌, length, Option, Some, None, option_map, codes, nat_le, nat_eq, if◌then◌else◌}
-use Rattle.std.specs.Prelude.{find, filter, drop}
+use Rattle.std.proofs.Common.{ℕ, ◌≤◌, ◌≡◌, ◌&&◌, ◌||◌, ◌==◌, refl, arith, Bool, true, false, List, [], ◌∷◌, ◌++◌, length, Option, Some, None, option_map, codes, nat_eq, if◌then◌else◌}
+use Rattle.std.specs.Prelude.{find, filter}
 use Rattle.std.specs.List.{AllByRecursion}
-use Rattle.std.specs.Str.{bytes_eq, is_utf8, chars}
+use Rattle.std.specs.Str.{is_utf8, chars}
 use Rattle.std.proofs.lemmas.Bool.Decides.{nat_tests}
 use lib.Utf8.{encode}
 use Rattle.zbase.specs.Query.{Done, ◌>>=◌}
@@ -13,16 +13,15 @@ use Rattle.zobject.specs.declared.object.Part2.{Part2}
 use Rattle.zobject.specs.declared.object.Part2.TheVariants as parts
 use Rattle.zobject.specs.declared.object.Setting.{Setting}
 use Rattle.zobject.specs.declared.object.User.{User}
-use Rattle.zobject.specs.declared.version.Rule.TheVariants.{Role, UserName}
+use Rattle.zobject.specs.declared.version.Rule.TheVariants.{UserName}
 use Rattle.zobject.specs.Rules.{comes_before}
 use Rattle.zobject.specs.Shapes.{Form, Shape, form_of, shape_of, child_in}
 use Rattle.zobject.specs.Shapes as forms
-use Rattle.zobject.specs.Texts.{is_between, is_of_length, is_user_name, keeps}
+use Rattle.zobject.specs.Texts.{is_between, is_user_name}
 use Rattle.zobject.specs.TextLaws.{role_is_role}
 use Rattle.zknown.specs.Seen.{Seen, Here, Absent, Unreadable, Shapes, shape_seen}
-use Rattle.acquisition.specs.Acquiring.{Fault, Broken, here, present, containers}
-use Rattle.acquisition.specs.Acquiring as acquiring
-use Rattle.user_folder.specs.Users.{is_user, kept, user_of}
+use Rattle.acquisition.specs.Acquiring.{Fault, here, present, containers}
+use Rattle.user_folder.specs.Users.{is_user, kept}
 use Rattle.permissions.specs.declared.who.Verdict.{Verdict}
 use Rattle.permissions.specs.declared.who.Verdict.TheVariants as verdicts
 use Rattle.permissions.specs.declared.who.Who.{Who}
@@ -33,7 +32,7 @@ use Rattle.permissions.specs.Verdicts.{is_among, judged, least, least_common, le
 use Rattle.evaluator.specs.Change.{longest_text}
 use Rattle.site.specs.Site.{user_name}
 use Rattle.site.specs.TextRules.{AreRoleTexts, HasRightTexts, IsText, PartRule, SettingRule, UserRule}
-use Rattle.site.specs.Ways.{Any, Keeps, keeps_then, keeps_more, keeps_any}
+use Rattle.site.specs.Ways.{Any, Keeps, keeps_then, keeps_any}
 
 -- ---- right answers
 

@@ -1,11 +1,10 @@
 -- Rules that hold on each way through a question: of each value and each cause that it may come to, as long as what it is
 -- answered is right.
-use Rattle.std.proofs.Common.{ℕ, zero, suc, ◌+◌, ◌≡◌, ◌++◌, refl, Bool, true, false, List, [], ◌∷◌, Option, Some, None, Result, Ok, Err, if◌then◌else◌, nat_lt}
+use Rattle.std.proofs.Common.{ℕ, zero, suc, ◌+◌, ◌++◌, Bool, true, false, List, [], ◌∷◌, Option, Some, None, Result, Ok, Err, if◌then◌else◌, nat_lt}
 use Rattle.zbase.specs.Query.{Query, Done, Stops, Asks, Halt, Need, Cause, ◌>>=◌, or_else, run, go_on}
 use Rattle.zobject.specs.declared.object.Object.{Object}
 use Rattle.zobject.specs.Shapes.{Shape}
-use Rattle.zknown.specs.Seen.{Seen, Shapes, Objects, over_objects, shape_seen}
-use Rattle.evaluator.specs.declared.ask.Ask.{Ask}
+use Rattle.zknown.specs.Seen.{Seen, Shapes, over_objects, shape_seen}
 use Rattle.evaluator.specs.declared.fact.Fact.{Fact}
 use Rattle.evaluator.specs.declared.reply.Reply.{Reply}
 use Rattle.evaluator.specs.Facts.{look}

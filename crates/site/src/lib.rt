@@ -2,12 +2,23 @@
 //!
 //! `specs/Site` says what a message asks, answers and changes, as one question (Zope Developer's Guide, "Object
 //! Publishing"), `specs/Pages` what the page of an object is, `specs/Faults` why there is none, and `specs/Replies` how
+//! each is told. `specs/SiteLaws` has that it keeps the laws of an evaluator, and `specs/Access` to whom it shows what.
 #![tactic(auto)]
 
 mod answer;
+mod answering;
+mod asking;
+mod calling;
+mod halted;
 mod laws;
+mod page;
 mod refusal;
+mod replies;
+mod site;
+mod state;
 
 pub use answer::Answer;
 pub use laws::{contents_stay_apart, messages_are_lawful, pages_show_rightly};
 pub use refusal::SiteRefusal;
+pub use site::Site;
+pub use state::SiteState;

@@ -1,0 +1,190 @@
+ghost use Rattle.std.specs.Prelude.{◌≡◌, ◌==◌, ◌&&◌, List, IfOk, length, nat_lt};
+ghost use Rattle.zknown.specs.Seen.{objects};
+ghost use Rattle.evaluator.specs.declared.fact.Fact.{Fact};
+ghost use Rattle.evaluator.specs.declared.outcome.Outcome.{Outcome as OutcomeValue};
+ghost use Rattle.evaluator.specs.Counting.{judged};
+ghost use Rattle.evaluator.specs.Exec.{IsTrail, most_asks};
+ghost use Rattle.evaluator.specs.Facts.{look};
+ghost use Rattle.evaluator.specs.Questions.{most_bytes, outcome};
+ghost use Rattle.http_in.specs.Messages.{one_message};
+ghost use Rattle.manage.specs.Changing.{KeepRules};
+ghost use Rattle.site.specs.Comes.{made_of};
+ghost use Rattle.site.specs.Faults.{comes_to};
+ghost use Rattle.site.specs.Halting as halting;
+ghost use Rattle.site.specs.Keeping as keeping;
+ghost use Rattle.site.specs.Replies as replies;
+ghost use Rattle.site.specs.Site as spec;
+ghost use Rattle.site.specs.SiteLaws.{site_asks_few, site_changes, site_is_lawful, site_replies};
+
+use crate::answer::Answer;
+use crate::answering::answer;
+use crate::halted::Halted;
+use crate::replies::{by_verb, halt_of, line, message_reply};
+use crate::state::SiteState;
+use evaluator::{Evaluator, Facts, Outcome};
+use http_in::{Message, Request, Verb, take_message};
+use std::alloc::Global;
+use zbase::Memory;
+use zknown::Known;
+
+/// The most bytes of values that an evaluation meets.
+const MOST_BYTES: usize = 67_108_864;
+
+/// The most asks of an evaluation.
+const MOST_ASKS: usize = 12_000;
+
+/// A site: it answers whole messages with pages under the security policy, and changes what a call may change.
+///
+/// Zope Developer's Guide, "Object Publishing" and "Security".
+#[derive(Drop)]
+pub struct Site {
+    alloc: Global,
+}
+
+fn refused(verb: Verb, halted: Halted) -> Outcome
+    ensures { result ≡ halting.outcome_of verb halted }
+{
+    match halted {
+        Halted::Need(ask) => Outcome::Need(ask),
+        Halted::Refused(reply) => Outcome::Answer(by_verb(verb, reply)),
+    }
+}
+
+// What a whole message comes to, without limits.
+#[tactic(auto, using(crate::proofs::Limiting::paged, crate::proofs::Limiting::changes_to, crate::proofs::Limiting::halts_at))]
+fn outcome_of(alloc: Global, request: &Request, known: &Known) -> Result<Outcome, Memory>
+    requires lawful { KeepRules (objects known.now) }
+    ensures { IfOk result (λ it. it ≡ outcome (made_of request.now.method (comes_to known.now (spec.request request.now)))) }
+{
+    match answer(alloc, request, known) {
+        Ok(Answer::Page(reply)) => Ok(Outcome::Answer(by_verb(request.method, reply))),
+        Ok(Answer::Change(reply, draft)) => {
+            Ok(Outcome::Change(by_verb(request.method, reply), draft))
+        }
+        Err(cause) => {
+            let halted = halt_of(alloc, &cause)?;
+            Ok(refused(request.method, halted))
+        }
+    }
+}
+
+fn runaway(alloc: Global, verb: Verb) -> Result<Outcome, Memory>
+    ensures { IfOk result (λ it. it ≡ OutcomeValue.Answer (replies.by_verb verb replies.runaway_facts)) }
+{
+    let reply = line(alloc, 500, "runaway: facts")?;
+    Ok(Outcome::Answer(by_verb(verb, reply)))
+}
+
+fn is_need(outcome: &Outcome) -> bool
+    ensures { result ≡ halting.is_need outcome.now }
+{
+    match outcome {
+        Outcome::Need(_) => true,
+        Outcome::Answer(_) | Outcome::Change(_, _) => false,
+    }
+}
+
+// Whether one ask more is needed behind the most.
+fn asks_more(asks: usize, outcome: &Outcome) -> bool
+    ensures { result ≡ ((asks == most_asks) && halting.is_need outcome.now) }
+{
+    asks == MOST_ASKS && is_need(outcome)
+}
+
+fn has_too_many_bytes(state: &SiteState) -> bool
+    ensures { result ≡ nat_lt most_bytes state.now.bytes }
+{
+    MOST_BYTES < state.bytes()
+}
+
+// What a whole message comes to over the facts that were taken over, so many in all.
+#[tactic(auto, using(crate::proofs::Limiting::over_bytes, crate::proofs::Limiting::over_asks, crate::proofs::Limiting::within_both))]
+fn limited(
+    alloc: Global,
+    state: &SiteState,
+    asks: usize,
+    request: &Request,
+) -> Result<Outcome, Memory>
+    requires lawful { KeepRules (objects state.now.known) }
+    ensures { IfOk result (λ it. (facts : List Fact) → keeping.Holds state.now facts → length facts ≡ asks → it ≡ outcome (judged (replies.by_verb request.now.method replies.runaway_facts) facts (made_of request.now.method (comes_to state.now.known (spec.request request.now))))) }
+{
+    if has_too_many_bytes(state) {
+        let runaway = runaway(alloc, request.method)?;
+        return Ok(runaway);
+    }
+    let outcome = outcome_of(alloc, request, state.known())?;
+    if asks_more(asks, &outcome) {
+        let runaway = runaway(alloc, request.method)?;
+        return Ok(runaway);
+    }
+    Ok(outcome)
+}
+
+// What a message comes to over a trail of facts that were taken over.
+#[tactic(auto, using(crate::proofs::Limiting::site_whole))]
+fn evaluated(
+    alloc: Global,
+    state: &SiteState,
+    asks: usize,
+    message: &Message,
+) -> Result<Outcome, Memory>
+    requires lawful { KeepRules (objects state.now.known) }
+    ensures { IfOk result (λ it. (facts : List Fact) → keeping.Holds state.now facts → length facts ≡ asks → IsTrail (λ known. spec.site (look known) message.now) facts → it ≡ spec.site (look facts) message.now) }
+{
+    match message {
+        Message::Refused(cause) => {
+            let reply = message_reply(alloc, *cause)?;
+            Ok(Outcome::Answer(reply))
+        }
+        Message::Whole(request) => {
+            let outcome = limited(alloc, state, asks, request)?;
+            Ok(outcome)
+        }
+    }
+}
+
+impl Site {
+    /// A site. Takes no memory.
+    pub fn new(alloc: Global) -> Site {
+        Site { alloc }
+    }
+}
+
+impl Evaluator for Site {
+    type Request = Message;
+
+    type State = SiteState;
+
+    ghost takes = { one_message };
+
+    ghost meaning = { spec.site };
+
+    ghost fits = { λ state facts _. keeping.Fits state facts };
+
+    fn take(&self, bytes: &[u8]) -> Result<Option<Message>, Memory> {
+        take_message(self.alloc, bytes)
+    }
+
+    fn fresh(&self) -> SiteState {
+        SiteState::new(self.alloc)
+    }
+
+    fn eval(
+        &mut self,
+        state: &mut SiteState,
+        known: &Facts,
+        request: &Message,
+    ) -> Result<Outcome, Memory> {
+        state.learn(self.alloc, known)?;
+        let outcome = evaluated(self.alloc, state, known.len(), request)?;
+        Ok(outcome)
+    }
+
+    ghost lawful = { site_is_lawful };
+
+    ghost few_asks = { site_asks_few };
+
+    ghost changes = { site_changes };
+
+    ghost replies = { site_replies };
+}
