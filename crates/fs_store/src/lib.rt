@@ -7,10 +7,10 @@
 //! A store whose disk failed in a vote, a finish or an abort is stale. Its next load, look or vote opens the disk again,
 //! and settles then whether the transaction of a finish that failed counts.
 //!
-//! Of the file a store keeps where it ends, its numbers and each object's newest place (`specs/Knowing`); all else is
-//! read where it stands (`specs/Finding`). `specs/Stores` says what a store is seen as, `specs/Fronts` which history its
-//! disk's file says, `specs/Verdicts` when a vote is refused, `specs/Moments` what a stop at any moment may leave,
-//! `specs/Opened` what opening makes of a disk, `specs/Staleness` what the disk of a stale store may hold, and
+//! Of the file a store keeps where it ends, its numbers and each object's newest place (`OpenFile`, `specs/Knowing`);
+//! all else is read where it stands (`specs/Finding`). `specs/Stores` says what a store is seen as, `specs/Fronts` which
+//! history its disk's file says, `specs/Verdicts` when a vote is refused, `specs/Moments` what a stop at any moment may
+//! leave, `specs/Opened` what opening makes of a disk, `specs/Staleness` what the disk of a stale store may hold, and
 //! `specs/StaleLaws` what its history becomes.
 #![tactic(auto)]
 

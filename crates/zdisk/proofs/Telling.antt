@@ -1,6 +1,6 @@
 -- What a disk in memory tells after one call more.
-use Rattle.std.proofs.Common.{◌≡◌, ℕ, ◌+◌, ◌-◌, ◌≤◌, max, List, [], ◌∷◌, ◌++◌, length, take, drop, reverse, refl, sym, ap, ◌∙◌, arith}
-use Rattle.std.proofs.lemmas.List.{reverse-append, take-take, drop-take, length-take-le, length-append, length-drop}
+use Rattle.std.proofs.Common.{◌≡◌, ℕ, suc, ◌+◌, ◌-◌, ◌≤◌, max, List, [], ◌∷◌, ◌++◌, length, take, drop, reverse, refl, sym, ap, ◌∙◌, arith}
+use Rattle.std.proofs.lemmas.List.{reverse-append, take-take, drop-take, length-take-le, length-append, length-drop, length-reverse}
 use Rattle.zdisk.specs.Disk.{bytes_at, content, synced}
 use Rattle.zdisk.specs.Calls.{put}
 use Rattle.zdisk.specs.Recorded.{Buffer, file_of, undone, held_after, next, told_back, told_by}
@@ -68,3 +68,14 @@ written_within bytes bytes2 len len2 at piece before within e l =
     ap length e ∙ length-append (take at bytes ++ piece) (drop (at + length piece) bytes)
     ∙ omega (arith, length-append (take at bytes) piece, length-take-le at bytes (omega (arith, before, within)), length-drop (at + length piece) bytes) in
     omega (arith, parts, before, within, l)
+
+-- ---- how many calls the record tells of
+
+earlier_back : (b : Buffer) (es : List Entry) → length (told_back b es).earlier ≡ length es
+earlier_back b [] = refl
+earlier_back b (e ∷ es) = ap suc (earlier_back (undone e b) es)
+
+-- there is one moment before each call
+pub earlier_told : (b : Buffer) (es : List Entry) → length (told_by b es).earlier ≡ length es
+unfolding told_by
+earlier_told b es = earlier_back b (reverse es) ∙ length-reverse es

@@ -29,6 +29,13 @@ after_sync Met.Stopped t = more (content t) t
 abbrev pub image_left : ℕ → Told → List ℕ
 image_left seed t = image_of seed (last_synced t.now) (content t)
 
+-- how many bytes a write of so many brings to the file: on a stopped disk none
+abbrev pub brings : Met → ℕ → ℕ
+brings Met.Nothing n = n
+brings (Met.Failure seed) n = n
+brings (Met.Stop seed) n = n
+brings Met.Stopped n = 0
+
 -- ---- the room for failures
 
 -- for how many calls that fail there must be room before a call, and how much of it is left behind it

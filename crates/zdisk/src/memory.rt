@@ -1,10 +1,10 @@
-ghost use Rattle.std.specs.Prelude.{◌≡◌, ◌+◌, ◌≤◌, [], Some, false, true, length, take, option_map, OnOk, OnErr, IsErr};
+ghost use Rattle.std.specs.Prelude.{◌≡◌, ◌+◌, ◌≤◌, [], Some, false, true, length, take, option_map, IfSome, OnOk, OnErr, IsErr};
 ghost use Rattle.std.specs.declared.option.Option.{Option};
 ghost use Rattle.zbase.specs.Faults.{Counts, IsFaultless, IsWaiting, Once, no_arms};
 ghost use Rattle.zdisk.specs.Arming.{armed, called, counter_of, disarmed, last_seed, met, resumed};
 ghost use Rattle.zdisk.specs.Calls.{Cuts, Follows, Syncs, Writes, put};
 ghost use Rattle.zdisk.specs.Disk.{GivesLength, GivesRange, HasPlace, HasRange, counted, synced};
-ghost use Rattle.zdisk.specs.Effects.{after_change, after_sync, image_left};
+ghost use Rattle.zdisk.specs.Effects.{after_change, after_sync, brings, image_left};
 ghost use Rattle.zdisk.specs.Keeping.{spare_entries, told_in};
 ghost use Rattle.zdisk.specs.Meeting.{Answers};
 
@@ -125,12 +125,14 @@ impl MemoryDisk {
     }
 
     /// The disk goes on after a stop, with a synced file that is the image which the stop's seed names. The entries that wait
-    /// stay armed, and the count of the first begins. Takes no memory.
+    /// stay armed, and the count of the first begins. The record of what the disk has held begins anew, and the room that it
+    /// took is spare again. Takes no memory.
     pub fn after_stop(self) -> MemoryDisk
         requires stopped { (⟦<MemoryDisk as Disk>⟧.counter self).arms.stopped ≡ true }
         ensures told { ⟦<MemoryDisk as Disk>⟧.told result ≡ option_map (λ told. synced (image_left (last_seed (⟦<MemoryDisk as Disk>⟧.counter self).arms.hits) told)) (⟦<MemoryDisk as Disk>⟧.told self) }
         ensures counter { ⟦<MemoryDisk as Disk>⟧.counter result ≡ resumed (⟦<MemoryDisk as Disk>⟧.counter self) }
         ensures spare { (⟦<MemoryDisk as Disk>⟧.spare_calls self ≤ ⟦<MemoryDisk as Disk>⟧.spare_calls result) × (⟦<MemoryDisk as Disk>⟧.spare_bytes result ≡ ⟦<MemoryDisk as Disk>⟧.spare_bytes self) }
+        ensures gives_back { IfSome (⟦<MemoryDisk as Disk>⟧.told self) (λ told. ⟦<MemoryDisk as Disk>⟧.spare_calls result ≡ ⟦<MemoryDisk as Disk>⟧.spare_calls self + length told.earlier) }
     {
         let seed = self.last_seed();
         let mut disk = self;
@@ -194,6 +196,7 @@ impl Disk for MemoryDisk {
         ensures counts { Counts (⟦<MemoryDisk as Disk>⟧.counter self.old) (⟦<MemoryDisk as Disk>⟧.counter self.new) (IsErr result) }
         ensures answers { Answers (met (⟦<MemoryDisk as Disk>⟧.counter self.old).arms) result }
         ensures called { ⟦<MemoryDisk as Disk>⟧.counter self.new ≡ called (⟦<MemoryDisk as Disk>⟧.counter self.old) }
+        ensures spends { (⟦<MemoryDisk as Disk>⟧.spare_calls self.new + 1 ≡ ⟦<MemoryDisk as Disk>⟧.spare_calls self.old) × (⟦<MemoryDisk as Disk>⟧.spare_bytes self.new + brings (met (⟦<MemoryDisk as Disk>⟧.counter self.old).arms) (length bytes.now) ≡ ⟦<MemoryDisk as Disk>⟧.spare_bytes self.old) }
         ensures becomes { ⟦<MemoryDisk as Disk>⟧.told self.new ≡ option_map (after_change (put at bytes.now) (met (⟦<MemoryDisk as Disk>⟧.counter self.old).arms)) (⟦<MemoryDisk as Disk>⟧.told self.old) }
     {
         let meets = self.queue.call();
@@ -211,6 +214,7 @@ impl Disk for MemoryDisk {
         ensures counts { Counts (⟦<MemoryDisk as Disk>⟧.counter self.old) (⟦<MemoryDisk as Disk>⟧.counter self.new) (IsErr result) }
         ensures answers { Answers (met (⟦<MemoryDisk as Disk>⟧.counter self.old).arms) result }
         ensures called { ⟦<MemoryDisk as Disk>⟧.counter self.new ≡ called (⟦<MemoryDisk as Disk>⟧.counter self.old) }
+        ensures spends { (⟦<MemoryDisk as Disk>⟧.spare_calls self.new + 1 ≡ ⟦<MemoryDisk as Disk>⟧.spare_calls self.old) × (⟦<MemoryDisk as Disk>⟧.spare_bytes self.new ≡ ⟦<MemoryDisk as Disk>⟧.spare_bytes self.old) }
         ensures becomes { ⟦<MemoryDisk as Disk>⟧.told self.new ≡ option_map (after_change (take to) (met (⟦<MemoryDisk as Disk>⟧.counter self.old).arms)) (⟦<MemoryDisk as Disk>⟧.told self.old) }
     {
         let meets = self.queue.call();
@@ -227,6 +231,7 @@ impl Disk for MemoryDisk {
         ensures counts { Counts (⟦<MemoryDisk as Disk>⟧.counter self.old) (⟦<MemoryDisk as Disk>⟧.counter self.new) (IsErr result) }
         ensures answers { Answers (met (⟦<MemoryDisk as Disk>⟧.counter self.old).arms) result }
         ensures called { ⟦<MemoryDisk as Disk>⟧.counter self.new ≡ called (⟦<MemoryDisk as Disk>⟧.counter self.old) }
+        ensures spends { (⟦<MemoryDisk as Disk>⟧.spare_calls self.new + 1 ≡ ⟦<MemoryDisk as Disk>⟧.spare_calls self.old) × (⟦<MemoryDisk as Disk>⟧.spare_bytes self.new ≡ ⟦<MemoryDisk as Disk>⟧.spare_bytes self.old) }
         ensures becomes { ⟦<MemoryDisk as Disk>⟧.told self.new ≡ option_map (after_sync (met (⟦<MemoryDisk as Disk>⟧.counter self.old).arms)) (⟦<MemoryDisk as Disk>⟧.told self.old) }
     {
         let meets = self.queue.call();

@@ -40,12 +40,9 @@ pub fn note(entries: &mut Vec<Entry>, entry: Entry)
     requires { vec_len entries.old < vec_capacity entries.old }
     ensures items { entries.new.items ≡ entries.old.items ++ entry ∷ [] }
     ensures len { vec_len entries.new ≡ vec_len entries.old + 1 }
-    ensures capacity { vec_capacity entries.old ≤ vec_capacity entries.new }
+    ensures capacity { vec_capacity entries.new ≡ vec_capacity entries.old }
 {
-    match entries.push(entry) {
-        Ok(()) => {}
-        Err(_) => unreachable!(),
-    }
+    entries.push_reserved(entry);
 }
 
 /// Puts a piece over what stands at a place and past the end, where there is room for it. The bytes that it

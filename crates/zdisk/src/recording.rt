@@ -1,7 +1,7 @@
 ghost use Rattle.std.specs.Prelude.{◌≡◌, ◌+◌, ◌-◌, ◌≤◌, length, take, IfOk, OnErr, OnOk};
 ghost use Rattle.zdisk.specs.Calls.{put};
 ghost use Rattle.zdisk.specs.Disk.{bytes_at, content, synced};
-ghost use Rattle.zdisk.specs.Effects.{after_change, after_sync, faults_left, image_left, more, needs};
+ghost use Rattle.zdisk.specs.Effects.{after_change, after_sync, brings, faults_left, image_left, more, needs};
 ghost use Rattle.zdisk.specs.Keeping.{spare_entries, told_in};
 ghost use Rattle.zdisk.specs.Room.{room_for};
 ghost use Rattle.zdisk.specs.Seeds.{image_of};
@@ -89,7 +89,7 @@ impl RecordedFile {
         requires space { length piece.now ≤ self.old.spare }
         requires faults { needs meets ≤ self.old.faults }
         ensures told { told_in self.new ≡ after_change (put at piece.now) meets (told_in self.old) }
-        ensures spare { (spare_entries self.old ≤ spare_entries self.new + 1) × (self.old.spare ≤ self.new.spare + length piece.now) }
+        ensures spare { (spare_entries self.new + 1 ≡ spare_entries self.old) × (self.new.spare + brings meets (length piece.now) ≡ self.old.spare) }
         ensures faults { self.new.faults ≡ faults_left meets self.old.faults }
     {
         match meets {
@@ -105,7 +105,7 @@ impl RecordedFile {
         requires room { 1 ≤ spare_entries self.old }
         requires faults { needs meets ≤ self.old.faults }
         ensures told { told_in self.new ≡ after_change (take to) meets (told_in self.old) }
-        ensures spare { (spare_entries self.old ≤ spare_entries self.new + 1) × (self.new.spare ≡ self.old.spare) }
+        ensures spare { (spare_entries self.new + 1 ≡ spare_entries self.old) × (self.new.spare ≡ self.old.spare) }
         ensures faults { self.new.faults ≡ faults_left meets self.old.faults }
     {
         match meets {
@@ -120,7 +120,7 @@ impl RecordedFile {
         requires room { 1 ≤ spare_entries self.old }
         requires faults { needs meets ≤ self.old.faults }
         ensures told { told_in self.new ≡ after_sync meets (told_in self.old) }
-        ensures spare { (spare_entries self.old ≤ spare_entries self.new + 1) × (self.new.spare ≡ self.old.spare) }
+        ensures spare { (spare_entries self.new + 1 ≡ spare_entries self.old) × (self.new.spare ≡ self.old.spare) }
         ensures faults { self.new.faults ≡ faults_left meets self.old.faults }
     {
         match meets {
@@ -133,7 +133,7 @@ impl RecordedFile {
     /// The file becomes the image that a stop with this seed leaves, which is synced and has no record.
     pub fn settle(&mut self, seed: u64)
         ensures told { told_in self.new ≡ synced (image_left seed (told_in self.old)) }
-        ensures spare { (spare_entries self.old ≤ spare_entries self.new) × (self.new.spare ≡ self.old.spare) }
+        ensures spare { (spare_entries self.new ≡ spare_entries self.old + length (told_in self.old).earlier) × (self.new.spare ≡ self.old.spare) }
         ensures faults { self.new.faults ≡ self.old.faults }
     {
         self.len = mix(
@@ -151,7 +151,7 @@ impl RecordedFile {
     fn keep(&mut self)
         requires room { 1 ≤ spare_entries self.old }
         ensures told { told_in self.new ≡ more (content (told_in self.old)) (told_in self.old) }
-        ensures spare { (spare_entries self.old ≤ spare_entries self.new + 1) × (self.new.spare ≡ self.old.spare) }
+        ensures spare { (spare_entries self.new + 1 ≡ spare_entries self.old) × (self.new.spare ≡ self.old.spare) }
         ensures faults { self.new.faults ≡ self.old.faults }
     {
         note(&mut self.entries, Entry::Failed);
@@ -162,7 +162,7 @@ impl RecordedFile {
         requires room { 1 ≤ spare_entries self.old }
         requires space { length piece.now ≤ self.old.spare }
         ensures told { told_in self.new ≡ more (put at piece.now (content (told_in self.old))) (told_in self.old) }
-        ensures spare { (spare_entries self.old ≤ spare_entries self.new + 1) × (self.new.spare + length piece.now ≡ self.old.spare) }
+        ensures spare { (spare_entries self.new + 1 ≡ spare_entries self.old) × (self.new.spare + length piece.now ≡ self.old.spare) }
         ensures faults { self.new.faults ≡ self.old.faults }
     {
         let covered = cover(&mut self.bytes, &mut self.covered, at, piece);
@@ -184,7 +184,7 @@ impl RecordedFile {
         requires space { length piece.now ≤ self.old.spare }
         requires faults { 1 ≤ self.old.faults }
         ensures told { told_in self.new ≡ more (image_of seed (content (told_in self.old)) (put at piece.now (content (told_in self.old)))) (told_in self.old) }
-        ensures spare { (spare_entries self.old ≤ spare_entries self.new + 1) × (self.new.spare + length piece.now ≡ self.old.spare) }
+        ensures spare { (spare_entries self.new + 1 ≡ spare_entries self.old) × (self.new.spare + length piece.now ≡ self.old.spare) }
         ensures faults { self.new.faults + 1 ≡ self.old.faults }
     {
         let from = self.covered.len();
@@ -209,7 +209,7 @@ impl RecordedFile {
         requires within { to ≤ length (content (told_in self.old)) }
         requires room { 1 ≤ spare_entries self.old }
         ensures told { told_in self.new ≡ more (take to (content (told_in self.old))) (told_in self.old) }
-        ensures spare { (spare_entries self.old ≤ spare_entries self.new + 1) × (self.new.spare ≡ self.old.spare) }
+        ensures spare { (spare_entries self.new + 1 ≡ spare_entries self.old) × (self.new.spare ≡ self.old.spare) }
         ensures faults { self.new.faults ≡ self.old.faults }
     {
         note(&mut self.entries, Entry::Cut { len: self.len });
@@ -222,7 +222,7 @@ impl RecordedFile {
         requires room { 1 ≤ spare_entries self.old }
         requires faults { 1 ≤ self.old.faults }
         ensures told { told_in self.new ≡ more (image_of seed (content (told_in self.old)) (take to (content (told_in self.old)))) (told_in self.old) }
-        ensures spare { (spare_entries self.old ≤ spare_entries self.new + 1) × (self.new.spare ≡ self.old.spare) }
+        ensures spare { (spare_entries self.new + 1 ≡ spare_entries self.old) × (self.new.spare ≡ self.old.spare) }
         ensures faults { self.new.faults + 1 ≡ self.old.faults }
     {
         let count = self.len - to;
@@ -245,7 +245,7 @@ impl RecordedFile {
         requires room { 1 ≤ spare_entries self.old }
         requires faults { 1 ≤ self.old.faults }
         ensures told { told_in self.new ≡ more (image_left seed (told_in self.old)) (told_in self.old) }
-        ensures spare { (spare_entries self.old ≤ spare_entries self.new + 1) × (self.new.spare ≡ self.old.spare) }
+        ensures spare { (spare_entries self.new + 1 ≡ spare_entries self.old) × (self.new.spare ≡ self.old.spare) }
         ensures faults { self.new.faults + 1 ≡ self.old.faults }
     {
         let kept = self.covered.len();

@@ -1,9 +1,10 @@
 use Rattle.std.proofs.Common.{◌≡◌, length, refl, ap, ◌∙◌, arith}
 use Rattle.std.proofs.lemmas.List.{with_items_is}
 use Rattle.std.specs.Vec.{with_items}
+use Rattle.zdisk.specs.Keeping.{buffer_of}
 use Rattle.zdisk.proofs.Covering.{told_alike, fits_empty}
 use Rattle.zdisk.proofs.Mixing.{left_alike}
-use Rattle.zdisk.proofs.Telling.{told_new}
+use Rattle.zdisk.proofs.Telling.{earlier_told, told_new}
 use Rattle.zdisk.proofs.recorded.RecordedFile.settle.Goals as goal
 
 pub invariant_of-self-clause-fits : goal.invariant_of-self-clause-fits
@@ -22,3 +23,8 @@ returns-clause-told c =
     (c.mix-self.ensures.image ∙ left_alike c.args.seed d.len d.bytes.items c.deref_mut.result.now d.covered.items c.deref.result.now d.entries.items c.deref-2.result.now c.deref_mut.ensures.value c.deref.ensures.value c.deref-2.ensures.value)
     c.clear-2.ensures.items
     )
+
+pub returns-clause-spare : goal.returns-clause-spare
+returns-clause-spare c =
+    let d = c.args.self.now in
+    (omega (arith, earlier_told (buffer_of d) d.entries.items, d.entries.ok, ap length c.clear-2.ensures.items), refl)
