@@ -1,4 +1,5 @@
-pub mod Splits
-pub mod Sources
-pub mod MessageLaws
-pub mod EditedPages
+mod Steps
+mod AccessLaws
+mod Learning
+mod Limiting
+mod PageSteps

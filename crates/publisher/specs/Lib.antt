@@ -1,3 +1,14 @@
-pub mod Messages
+pub mod Faults
+pub mod Replies
+pub mod Pages
 pub mod Site
+pub mod Comes
+pub mod Ways
+pub mod TextRules
+pub mod UserRules
+pub mod PageRules
 pub mod SiteLaws
+pub mod Access
+pub mod Worked
+pub mod Keeping
+pub mod Halting

@@ -1,119 +1,183 @@
--- The site so far: documents without tags, in the root folder, for everyone, who may view and edit them.
+-- What a message means to a site: the question that it is, and what it comes to.
 --
--- Zope Developer's Guide, "Object Publishing": the root is traversed to an object, which is published.
-use Rattle.std.specs.Prelude.{ℕ, false, not, ◌&&◌, ◌||◌, ◌==◌, Bool, List, [], ◌∷◌, ◌++◌, Option, None, Some, if◌then◌else◌, codes}
-use Rattle.std.specs.List.{list_any}
-use Rattle.zbase.specs.Hex.{hex16_text}
+-- A message is evaluated in this order: whether it is refused, its fields, its credentials, its path, its user, the
+-- permission that he needs, and the page or the call. The first refusal is the reply.
+--
+-- Zope Developer's Guide, "Object Publishing" and "Security".
+use Rattle.std.specs.Prelude.{ℕ, nat_lt, Bool, List, [], ◌++◌, length, flat_map, Option, Some, None, Result, Ok, Err, codes, if◌then◌else◌}
+use Rattle.zbase.specs.Query.{Done, Stops, ◌>>=◌, or_else}
 use Rattle.zbase.specs.History.{Value}
-use Rattle.zbase.specs.Query.{Done, Stops, Asks}
-use Rattle.evaluator.specs.declared.ask.Ask.{Ask}
+use Rattle.zobject.specs.declared.object.Object.{Object}
+use Rattle.zknown.specs.Seen.{Seen, Here, Absent, Unreadable, Objects}
+use Rattle.zcodec.specs.Reading.{read}
+use Rattle.acquisition.specs.Acquiring.{first}
+use Rattle.permissions.specs.declared.who.Verdict.{Verdict}
+use Rattle.permissions.specs.declared.who.Verdict.TheVariants as verdicts
+use Rattle.permissions.specs.declared.who.Who.{Who}
+use Rattle.permissions.specs.declared.who.Who.TheVariants as users
+use Rattle.permissions.specs.Users.{Credentials, who}
+use Rattle.permissions.specs.Verdicts.{verdict_on}
+use Rattle.user_folder.specs.Credentials.{credentials_of}
+use Rattle.user_folder.specs.declared.basic.HeaderRefusal.{HeaderRefusal}
 use Rattle.evaluator.specs.declared.draft.Draft.{Draft}
-use Rattle.evaluator.specs.declared.draft.Entry.{Entry}
-use Rattle.evaluator.specs.declared.draft.Name.{Name}
 use Rattle.evaluator.specs.declared.fact.Fact.{Fact}
-use Rattle.evaluator.specs.declared.reply.Kind.{Kind}
 use Rattle.evaluator.specs.declared.reply.Reply.{Reply}
 use Rattle.evaluator.specs.declared.reply.Shown.{Shown}
+use Rattle.evaluator.specs.Change.{longest_text}
 use Rattle.evaluator.specs.Exec.{Eval}
-use Rattle.evaluator.specs.Questions.{Evaluation, Reads, Changes, meaning_of}
-use Rattle.evaluator.specs.Replies.{one_line}
-use Rattle.plain_object.specs.declared.object.Object.{Object}
-use Rattle.plain_object.specs.declared.object.Part2.{Part2}
-use Rattle.plain_object.specs.declared.object.Part2.TheVariants.{Folder, Method, Document, UserFolder}
-use Rattle.plain_object.specs.Documents.{document_with}
-use Rattle.plain_object.specs.Folders.{child_of}
-use Rattle.plain_object.specs.Reading.{bare}
-use Rattle.plain_object.specs.Record.{record_text}
-use Rattle.publisher.specs.declared.message.Action.{Action}
-use Rattle.publisher.specs.declared.message.Message.{Message}
+use Rattle.evaluator.specs.Questions.{Evaluation, Made, Reads, Changes, meaning_of, over_facts, within_limits}
+use Rattle.form_fields.specs.declared.field.Field.{Field}
+use Rattle.form_fields.specs.Cookies.{cookies_of}
+use Rattle.form_fields.specs.Fields.{fields_of}
+use Rattle.http_in.specs.declared.message.HttpRefusal.TheVariants as messages
+use Rattle.http_in.specs.declared.message.Message.{Message}
+use Rattle.http_in.specs.declared.message.Message.TheVariants.{Whole, Refused}
+use Rattle.http_in.specs.declared.message.Request.{Request}
+use Rattle.http_in.specs.declared.message.Verb.{Verb}
+use Rattle.http_in.specs.Headers.{first_value}
+use Rattle.manage.specs.declared.call.Call.{Call}
+use Rattle.manage.specs.declared.changes.Change.{Change}
+use Rattle.manage.specs.Calling.{permission_at}
+use Rattle.manage.specs.Calls.{call_named}
+use Rattle.manage.specs.Changing.{change}
+use Rattle.namespace.specs.Looks.{taken, through, view}
+use Rattle.namespace.specs.Names.{Scope}
+use Rattle.namespace.specs.Requests.{request_names}
+use Rattle.traverse.specs.declared.target.Target.{Target}
+use Rattle.traverse.specs.declared.target.Target.TheVariants as targets
+use Rattle.traverse.specs.Publishing.{NotFound, published}
+use Rattle.dtml_values.specs.Values.{Left}
+use Rattle.publisher.specs.declared.answer.Answer.{Answer}
+use Rattle.publisher.specs.declared.answer.Answer.TheVariants as answer
+use Rattle.publisher.specs.Faults as faults
+use Rattle.publisher.specs.Faults.{Fault, by_shapes, or_stops}
+use Rattle.publisher.specs.Pages.{page_scope, scope_page}
+use Rattle.publisher.specs.Replies.{by_verb, done, fault_reply, message_reply, page_reply, runaway_facts}
 
--- ---- replies
+-- ---- what a fact shows of its object
 
--- the path leads nowhere at this segment
-abbrev pub not_found : List ℕ → Reply
-not_found segment = one_line 404 (codes "not found: " ++ segment)
+abbrev pub read_as : Result Object ℕ → Seen Object
+read_as (Ok object) = Here object
+read_as (Err at) = Unreadable
 
--- the object has a form that isn't read yet
-abbrev pub not_yet : ℕ → Reply
-not_yet o = one_line 500 (codes "not yet: " ++ hex16_text o)
+abbrev pub value_seen : Value → Seen Object
+value_seen None = Absent
+value_seen (Some bytes) = read_as (read bytes)
 
--- everyone may view it
-abbrev pub shown_to_all : ℕ → Shown
-shown_to_all o = record { oid = o; role = codes "Anonymous" }
+-- an object by its record
+unfoldable pub seen : Fact → Seen Object
+seen (Fact.Object o value serial) = value_seen value
+seen (Fact.Transaction t parts) = Absent
+seen (Fact.Log rows) = Absent
 
--- the source as it is
-abbrev pub page_of : ℕ → List ℕ → Reply
-page_of o source = record { status = 200; kind = Kind.Html; head_only = false; body = source; shown = shown_to_all o ∷ []; denied = None }
+-- ---- a page
 
--- the change is made
-abbrev pub done : Reply
-done = one_line 200 (codes "done")
+abbrev pub shown_page : (List ℕ × Left) × List Shown → Objects Fault Answer
+shown_page x = Done (answer.Page (page_reply x.0.0 x.1))
 
--- ---- changes
+-- the page of an object in a scope
+unfoldable pub scope_answer : Scope → ℕ → Objects Fault Answer
+scope_answer scope o = or_else faults.Page (through taken [] (scope_page scope o)) >>= shown_page
 
--- a change's description is the path of its request
-abbrev pub edit_path : List ℕ → List ℕ
-edit_path name = codes "/" ++ name ++ codes "/manage_edit"
+-- the page of an object for a user
+abbrev pub page_for : Request → List Field → ℕ → List ℕ → Who → Objects Fault Answer
+page_for q fields o client user = scope_answer (page_scope user client (request_names q user fields (cookies_of q))) o
 
--- Anonymous gives the object these bytes
-abbrev pub edited : List ℕ → ℕ → List ℕ → Draft
-edited name o bytes = record { user = []; description = edit_path name; entries = Entry.Write (Name.Old o) bytes [] ∷ [] }
+-- a page needs that its user may view the published object
+unfoldable pub page : Request → List Field → Option Credentials → ℕ → List ℕ → Objects Fault Answer
+page q fields credentials o client = by_shapes faults.User (who credentials o view) >>= page_for q fields o client
 
--- ---- the document
+-- ---- a call
 
--- a source with `<` or `&` may have tags or entities
-abbrev pub has_markup : List ℕ → Bool
-has_markup source = list_any (λ b. (b == 60) || (b == 38)) source
+-- the segments of a path, each behind a slash
+abbrev pub path_text : List (List ℕ) → List ℕ
+path_text path = flat_map (λ segment. codes "/" ++ segment) path
 
--- the source of a document of the root, without markup
-abbrev pub plain_source : ℕ → Part2 → Option (List ℕ)
-plain_source parent (Document source) = if (parent == 0) && not (has_markup source) then Some source else None
-plain_source parent (Folder cs) = None
-plain_source parent (Method source) = None
-plain_source parent (UserFolder us) = None
+-- nobody's name is empty
+abbrev pub user_name : Who → List ℕ
+user_name users.Anonymous = []
+user_name (users.Known name roles home) = name
 
--- what is done with a document that has this source: it is shown as it is, or its record is written with the new one
-abbrev pub acted : Message → ℕ → Object → Action → Option (List ℕ) → Evaluation
-acted q o object action None = Stops (not_yet o)
-acted q o object Action.Page (Some source) = Done (Reads (page_of o source))
-acted q o object (Action.Edit new) (Some source) = Done (Changes done (edited q.name o (record_text (document_with object new))))
+-- a change is the user's, and is described by the path of its request
+abbrev pub draft_of : Request → Who → Change → Draft
+draft_of q user change = record { user = user_name user; description = path_text q.path; entries = change.entries }
 
-abbrev pub at_object : Message → ℕ → Option Object → Evaluation
-at_object q o None = Stops (not_yet o)
-at_object q o (Some object) = acted q o object q.action (plain_source object.parent object.part)
+abbrev pub changed : Request → Who → Change → Objects Fault Answer
+changed q user change = Done (answer.Change done (draft_of q user change))
 
-abbrev pub at_child : Message → ℕ → Value → Evaluation
-at_child q o None = Stops (not_yet o)
-at_child q o (Some bytes) = at_object q o (bare bytes)
+abbrev pub where_granted : {A : Type 0} → ℕ → ℕ → Objects Fault A → Verdict → Objects Fault A
+where_granted o permission further (verdicts.Granted role) = further
+where_granted o permission further (verdicts.Denied p) = Stops (faults.Denied o permission)
 
--- ---- the root
+-- the call's change on an object
+unfoldable pub change_by : Request → List Field → Call → ℕ → Who → Objects Fault Answer
+change_by q fields call o user = or_else faults.Call (change call o fields) >>= changed q user
 
-abbrev pub value_in : Fact → Value
-value_in (Fact.Object o value serial) = value
-value_in (Fact.Transaction t parts) = None
-value_in (Fact.Log rows) = None
+-- the user's change, where he is granted the permission on the object
+unfoldable pub change_for : Request → List Field → Call → ℕ → ℕ → Who → Objects Fault Answer
+change_for q fields call o permission user = by_shapes faults.User (verdict_on user o permission) >>= where_granted o permission (change_by q fields call o user)
 
-abbrev pub to_child : Message → Option ℕ → Evaluation
-to_child q None = Stops (not_found q.name)
-to_child q (Some o) = Asks (Ask.Object o) (λ f. at_child q o (value_in f))
+-- a call needs its permission on the object, and the user to whom that is granted
+unfoldable pub call_with : Request → List Field → Option Credentials → Call → ℕ → ℕ → Objects Fault Answer
+call_with q fields credentials call o permission = by_shapes faults.User (who credentials o permission) >>= change_for q fields call o permission
 
-abbrev pub in_folder : Message → Part2 → Evaluation
-in_folder q (Folder cs) = to_child q (child_of q.name cs)
-in_folder q (Document source) = Stops (not_yet 0)
-in_folder q (Method source) = Stops (not_yet 0)
-in_folder q (UserFolder us) = Stops (not_yet 0)
+unfoldable pub call_on : Request → List Field → Option Credentials → Call → ℕ → Objects Fault Answer
+call_on q fields credentials call o = by_shapes faults.Call (permission_at call q.method o) >>= call_with q fields credentials call o
 
-abbrev pub in_root : Message → Option Object → Evaluation
-in_root q None = Stops (not_yet 0)
-in_root q (Some object) = in_folder q object.part
+-- ---- a whole message
 
-abbrev pub at_root : Message → Value → Evaluation
-at_root q None = Stops (not_found (codes "/"))
-at_root q (Some bytes) = in_root q (bare bytes)
+abbrev pub called : Request → List Field → Option Credentials → List ℕ → ℕ → Option Call → Objects Fault Answer
+called q fields credentials name o None = Stops (faults.Path (NotFound name))
+called q fields credentials name o (Some call) = call_on q fields credentials call o
 
--- the root is asked for, then the child of that name
-abbrev pub question : Message → Evaluation
-question q = Asks (Ask.Object 0) (λ f. at_root q (value_in f))
+abbrev pub answered : Request → List Field → Option Credentials → Target → Objects Fault Answer
+answered q fields credentials (targets.Page object client) = page q fields credentials (first object) client
+answered q fields credentials (targets.Call name on) = called q fields credentials name (first on) (call_named name)
 
+abbrev pub authorization : Request → Option (List ℕ)
+authorization q = first_value (codes "Authorization") q.headers
+
+abbrev pub bad_credentials : HeaderRefusal → Fault
+bad_credentials cause = faults.BadCredentials
+
+-- the path leads to a page or a call
+unfoldable pub with_credentials : Request → List Field → Option Credentials → Objects Fault Answer
+with_credentials q fields credentials = by_shapes faults.Path (published q.path) >>= answered q fields credentials
+
+unfoldable pub with_fields : Request → List Field → Objects Fault Answer
+with_fields q fields = or_stops bad_credentials (credentials_of (authorization q)) >>= with_credentials q fields
+
+-- its fields, its credentials, and then its path
+unfoldable pub whole : Request → Objects Fault Answer
+whole q = or_stops faults.NotANumber (fields_of q) >>= with_fields q
+
+-- a path that is too long for the description of a change; no message has one
+abbrev pub is_long : Request → Bool
+is_long q = nat_lt longest_text (length (path_text q.path))
+
+unfoldable pub request : Request → Objects Fault Answer
+request q = if is_long q then Stops (faults.Message messages.PathTooLong) else whole q
+
+-- ---- an evaluation
+
+-- an answer to a message of that method
+abbrev pub made_by : Verb → Answer → Made
+made_by verb (answer.Page x) = Reads (by_verb verb x)
+made_by verb (answer.Change x draft) = Changes (by_verb verb x) draft
+
+abbrev pub refused_by : Verb → Fault → Reply
+refused_by verb fault = by_verb verb (fault_reply fault)
+
+-- the question over facts that a request is
+abbrev pub over_history : Request → Evaluation
+over_history q = over_facts seen (or_else (refused_by q.method) (request q)) >>= λ x. Done (made_by q.method x)
+
+-- A refused message is answered at once. A whole one asks at most 12,000 times, and meets at most 67,108,864 bytes of
+-- values.
+abbrev pub evaluation : Message → Evaluation
+evaluation (Refused cause) = Stops (message_reply cause)
+evaluation (Whole q) = within_limits (by_verb q.method runaway_facts) (over_history q)
+
+-- what a message means to a site
 abbrev pub site : Eval Message
-site = meaning_of question
+site = meaning_of evaluation

@@ -1,172 +1,452 @@
--- The site keeps the laws of an evaluator: its question asks at most two objects, and its changes and replies keep
--- their rules.
-use Rattle.std.proofs.Common.{◌≡◌, ℕ, suc, ◌≤◌, ◌<◌, ◌==◌, ◌&&◌, Bool, true, false, List, [], ◌∷◌, length, Option, None, Some, refl, subst, arith, lit<, lit≤, nat_le, not, codes, length-append}
-use Rattle.std.specs.Prelude.{◌≢◌}
-use Rattle.std.specs.List.{list_all, AllByRecursion}
+-- A site keeps the laws of an evaluator: what is decided is decided on the whole, a change rests on what lasts, no message
+-- asks for more than 12,000 facts, and its changes and replies keep their rules.
+use Rattle.std.proofs.Common.{ℕ, ◌<◌, ◌≤◌, ◌≡◌, ◌==◌, ◌&&◌, refl, sym, subst, arith, lit<, Bool, true, false, List, [], ◌∷◌, length, Option, Some, None, Result, Ok, Err, nat_lt, if◌then◌else◌}
+use Rattle.std.specs.List.{list_any}
 use Rattle.std.proofs.lemmas.Bool.Decides.{nat_tests}
-use Rattle.zbase.specs.Roles.{IsRole}
-use Rattle.zbase.specs.History.{Value}
-use Rattle.zbase.specs.Query.{Stops, Asks, run, go_on, IsWithin}
+use Rattle.zbase.specs.Query.{Done, Stops, Halt, Need, Cause, ◌>>=◌, or_else, run}
+use Rattle.zobject.specs.declared.object.Object.{Object}
+use Rattle.zobject.specs.declared.version.Kind.{Kind}
+use Rattle.zobject.specs.declared.version.Kind.TheVariants as kinds
+use Rattle.zobject.specs.declared.version.Version.TheVariants.{Second}
+use Rattle.zobject.specs.Shapes.{Shape}
+use Rattle.zknown.specs.Seen.{Shapes, Objects}
+use Rattle.zcodec.specs.Reading.{read}
+use Rattle.zcodec.specs.Record.{record_text}
+use Rattle.acquisition.specs.Acquiring as acquiring
+use Rattle.acquisition.specs.Acquiring.{first}
 use Rattle.evaluator.specs.declared.ask.Ask.{Ask}
 use Rattle.evaluator.specs.declared.draft.Draft.{Draft}
+use Rattle.evaluator.specs.declared.draft.Entry.{Entry}
+use Rattle.evaluator.specs.declared.draft.Name.{Name}
 use Rattle.evaluator.specs.declared.fact.Fact.{Fact}
 use Rattle.evaluator.specs.declared.outcome.Outcome.{Outcome}
+use Rattle.evaluator.specs.declared.reply.Kind.{Kind as ReplyKind}
 use Rattle.evaluator.specs.declared.reply.Reply.{Reply}
-use Rattle.evaluator.specs.Change.{IsChange, IsReply}
+use Rattle.evaluator.specs.declared.reply.Shown.{Shown}
+use Rattle.evaluator.specs.Change.{IsChange, IsPermission, IsReply, longest_text, statuses}
 use Rattle.evaluator.specs.Exec.{IsLawful, IsTrail, most_asks}
 use Rattle.evaluator.specs.Facts.{look}
-use Rattle.evaluator.specs.Questions.{Evaluation, IsCareful, outcome}
-use Rattle.evaluator.specs.QuestionLaws.{lawful, object_lasts, trail_short}
-use Rattle.plain_object.specs.declared.object.Object.{Object}
-use Rattle.plain_object.specs.declared.object.Part2.{Part2}
-use Rattle.plain_object.specs.declared.object.Part2.TheVariants.{Folder, Method, Document, UserFolder}
-use Rattle.plain_object.specs.Documents.{document_with}
-use Rattle.plain_object.specs.Folders.{child_of}
-use Rattle.plain_object.specs.Reading.{bare}
-use Rattle.plain_object.specs.ReadingLaws.{child_is_named, child_name_is_short}
-use Rattle.plain_object.specs.Record.{record_text}
-use Rattle.publisher.specs.declared.message.Action.{Action}
-use Rattle.publisher.specs.declared.message.Message.{Message}
-use Rattle.publisher.specs.Site.{acted, at_child, at_object, at_root, done, edit_path, edited, in_folder, in_root, not_found, not_yet, page_of, plain_source, question, site, to_child, value_in}
+use Rattle.evaluator.specs.LimitLaws.{careful_limited, limited_within}
+use Rattle.evaluator.specs.QuestionLaws.{careful_over, lawful, trail_short}
+use Rattle.evaluator.specs.Questions.{IsCareful, Made, Reads, Changes, most_bytes, outcome, over_facts}
+use Rattle.form_fields.specs.declared.field.Field.{Field}
+use Rattle.http_in.specs.declared.message.HttpRefusal.{HttpRefusal}
+use Rattle.http_in.specs.declared.message.HttpRefusal.TheVariants as messages
+use Rattle.http_in.specs.declared.message.Message.{Message}
+use Rattle.http_in.specs.declared.message.Message.TheVariants.{Whole, Refused}
+use Rattle.http_in.specs.declared.message.Request.{Request}
+use Rattle.http_in.specs.declared.message.Verb.{Verb}
+use Rattle.manage.specs.declared.call.Call.{Call}
+use Rattle.manage.specs.declared.call.Call.TheVariants as calls
+use Rattle.manage.specs.declared.changes.Change.{Change}
+use Rattle.manage.specs.declared.refusal.ManageRefusal.{ManageRefusal}
+use Rattle.manage.specs.declared.refusal.ManageRefusal.TheVariants as refusals
+use Rattle.manage.specs.Calling as calling
+use Rattle.manage.specs.Calling.{if_lawful, is_built, kind_of, permission_at}
+use Rattle.manage.specs.Calls.{call_named, edit_needs, is_at, is_by, permission_for}
+use Rattle.manage.specs.Changing as changing
+use Rattle.manage.specs.Changing.{change, settled}
+use Rattle.manage.specs.Edits.{edit_written, edited, written}
+use Rattle.manage.specs.Fields as checks
+use Rattle.manage.specs.Fields.{Checked}
+use Rattle.namespace.specs.Looks as looks
+use Rattle.namespace.specs.Looks.{taken, through, view}
+use Rattle.namespace.specs.Requests.{request_names}
+use Rattle.permissions.specs.declared.who.Verdict.{Verdict}
+use Rattle.permissions.specs.declared.who.Verdict.TheVariants as verdicts
+use Rattle.permissions.specs.declared.who.Who.{Who}
+use Rattle.permissions.specs.Users.{Credentials, who}
+use Rattle.permissions.specs.Verdicts.{verdict_on}
+use Rattle.form_fields.specs.Cookies.{cookies_of}
+use Rattle.form_fields.specs.Fields.{fields_of}
+use Rattle.user_folder.specs.Credentials.{credentials_of}
+use Rattle.traverse.specs.declared.target.Target.{Target}
+use Rattle.traverse.specs.declared.target.Target.TheVariants as targets
+use Rattle.traverse.specs.Publishing as publishing
+use Rattle.traverse.specs.Publishing.{published}
+use Rattle.dtml_values.specs.Values.{Left}
+use Rattle.publisher.specs.declared.answer.Answer.{Answer}
+use Rattle.publisher.specs.declared.answer.Answer.TheVariants as answer
+use Rattle.publisher.specs.Faults as faults
+use Rattle.publisher.specs.Faults.{Fault, by_shapes, or_stops}
+use Rattle.publisher.specs.Pages.{page_text}
+use Rattle.publisher.specs.PageRules.{AreShown, FaultRule, ShownRule, none_shown, through_keeps}
+use Rattle.publisher.specs.Replies.{by_verb, call_reply, cause_reply, fault_reply, message_reply, no_page_reply, page_reply, path_reply, runaway_facts, unauthorized, user_reply}
+use Rattle.publisher.specs.Site.{answered, authorization, bad_credentials, call_on, call_with, called, change_by, change_for, changed, draft_of, evaluation, is_long, made_by, over_history, page, page_for, path_text, scope_answer, read_as, refused_by, request, seen, shown_page, site, user_name, where_granted, whole, with_credentials, with_fields}
+use Rattle.publisher.specs.TextRules.{read_keeps}
+use Rattle.publisher.specs.UserRules.{IsRight, IsRightShown, NameRule, VerdictRule, shape_right, verdict_keeps, who_keeps}
+use Rattle.publisher.specs.Ways.{Any, ComesTo, Keeps, keeps_then, keeps_else, keeps_any, keeps_facts, keeps_limited, keeps_objects, keeps_run}
 
--- ---- the rules of replies and changes
+-- ---- replies
 
-not_found_keeps : (segment : List ℕ) → IsReply (not_found segment)
-not_found_keeps segment = record { status = refl; denied = tt; distinct = λ i j d h k. absurd (omega arith); roles = tt }
+abbrev plain : ℕ → List ℕ → Reply
+plain status body = record { status = status; kind = ReplyKind.Plain; head_only = false; body = body; shown = []; denied = None }
 
-not_yet_keeps : (o : ℕ) → IsReply (not_yet o)
-not_yet_keeps o = record { status = refl; denied = tt; distinct = λ i j d h k. absurd (omega arith); roles = tt }
+line_keeps : (status : ℕ) (body : List ℕ) → list_any (λ n. n == status) statuses ≡ true → IsReply (plain status body)
+line_keeps status body is = record { status = is; denied = tt; distinct = λ i j d h k. absurd (omega arith); roles = tt }
 
-done_keeps : IsReply done
-done_keeps = record { status = refl; denied = tt; distinct = λ i j d h k. absurd (omega arith); roles = tt }
+by_verb_keeps : (verb : Verb) (x : Reply) → IsReply x → IsReply (by_verb verb x)
+by_verb_keeps verb x is = record { status = is.status; denied = is.denied; distinct = is.distinct; roles = is.roles }
 
--- a role, by its bytes
-abbrev is_role_byte : ℕ → Bool
-is_role_byte b = nat_le 32 b && nat_le b 126 && not (b == 44)
+page_keeps : (text : List ℕ) (shown : List Shown) → AreShown shown → IsReply (page_reply text shown)
+page_keeps text shown are = record { status = refl; denied = tt; distinct = are.distinct; roles = are.roles }
 
-role_byte : (b : ℕ) → is_role_byte b ≡ true → (32 ≤ b) × (b ≤ 126) × (b ≢ 44)
-role_byte b e = grind (arith, nat_tests)
+unauthorized_keeps : (o permission : ℕ) → IsPermission permission → IsReply (unauthorized o permission)
+unauthorized_keeps o permission is = record { status = refl; denied = is; distinct = λ i j d h k. absurd (omega arith); roles = tt }
 
-abbrev AreRoleBytes : List ℕ → Type 0
-AreRoleBytes = AllByRecursion (λ b. (32 ≤ b) × (b ≤ 126) × (b ≢ 44))
+message_keeps : (cause : HttpRefusal) → IsReply (message_reply cause)
+message_keeps messages.HeadTooLarge = line_keeps 431 _ refl
+message_keeps messages.BadHead = line_keeps 400 _ refl
+message_keeps messages.Method = line_keeps 501 _ refl
+message_keeps messages.PathTooLong = line_keeps 414 _ refl
+message_keeps messages.Chunked = line_keeps 411 _ refl
+message_keeps messages.BodyTooLarge = line_keeps 413 _ refl
+message_keeps messages.Multipart = line_keeps 415 _ refl
 
-one_more_byte : (t : Bool) (b : ℕ) (bs : List ℕ) → is_role_byte b ≡ t → (t && list_all is_role_byte bs) ≡ true → (list_all is_role_byte bs ≡ true → AreRoleBytes bs) → AreRoleBytes (b ∷ bs)
-one_more_byte true b bs is e others = (role_byte b is, others e)
-one_more_byte false b bs is e others = absurd cc
+path_keeps : (cause : publishing.Fault) → IsReply (path_reply cause)
+path_keeps (publishing.Broken o) = line_keeps 500 _ refl
+path_keeps (publishing.NotFound segment) = line_keeps 404 _ refl
+path_keeps publishing.TooDeep = line_keeps 500 _ refl
 
-role_bytes : (bs : List ℕ) → list_all is_role_byte bs ≡ true → AreRoleBytes bs
-role_bytes [] e = tt
-role_bytes (b ∷ bs) e = one_more_byte (is_role_byte b) b bs refl e (role_bytes bs)
+user_keeps : (cause : acquiring.Fault) → IsReply (user_reply cause)
+user_keeps (acquiring.Broken o) = line_keeps 500 _ refl
+user_keeps acquiring.TooDeep = line_keeps 500 _ refl
 
-anonymous : IsRole (codes "Anonymous")
-anonymous = (lit< tt, lit≤ tt, role_bytes (codes "Anonymous") refl)
+cause_keeps : (cause : looks.Cause) → IsReply (cause_reply cause)
+cause_keeps (looks.NoName name) = line_keeps 500 _ refl
+cause_keeps (looks.BadValue at) = line_keeps 500 _ refl
+cause_keeps (looks.Runaway limit) = line_keeps 500 _ refl
+cause_keeps (looks.BadSource o cause) = line_keeps 500 _ refl
 
-page_keeps : (o : ℕ) (source : List ℕ) → IsReply (page_of o source)
-page_keeps o source = record { status = refl; denied = tt; distinct = λ i j d h k. absurd (omega arith); roles = (anonymous, tt) }
+no_page_keeps : (cause : looks.Fault) → FaultRule cause → IsReply (no_page_reply cause)
+no_page_keeps (looks.Broken o) is = line_keeps 500 _ refl
+no_page_keeps looks.TooDeep is = line_keeps 500 _ refl
+no_page_keeps (looks.Unauthorized o permission) is = unauthorized_keeps o permission is
+no_page_keeps (looks.Of cause) is = cause_keeps cause
 
-record_is_some : (o : Object) → 0 < length (record_text o)
+call_keeps : (cause : ManageRefusal) → IsReply (call_reply cause)
+call_keeps refusals.Memory = line_keeps 503 _ refl
+call_keeps (refusals.Need ask) = line_keeps 503 _ refl
+call_keeps (refusals.Broken o) = line_keeps 500 _ refl
+call_keeps (refusals.NotFound call) = line_keeps 404 _ refl
+call_keeps (refusals.NotYet o) = line_keeps 500 _ refl
+call_keeps (refusals.Missing field) = line_keeps 400 _ refl
+call_keeps (refusals.BadField field) = line_keeps 400 _ refl
+call_keeps (refusals.TooLong field) = line_keeps 400 _ refl
+call_keeps (refusals.BadSource cause) = line_keeps 400 _ refl
+
+-- ---- the rules of a request
+
+abbrev HasReply : Fault → Type 0
+HasReply fault = IsReply (fault_reply fault)
+
+abbrev AnswerRule : Answer → Type 0
+AnswerRule (answer.Page x) = IsReply x
+AnswerRule (answer.Change x d) = IsReply x × ((known : Ask → Option Fact) → IsChange known d)
+
+abbrev Asked : {A : Type 0} → (A → Type 0) → Objects Fault A → Type 0
+Asked V q = Keeps IsRight HasReply V q
+
+then_keeps : {A B : Type 0} (V : A → Type 0) (W : B → Type 0) (q : Objects Fault A) (next : A → Objects Fault B) → Asked V q → ((x : A) → V x → Asked W (next x)) → Asked W (q >>= next)
+then_keeps V W q next k each = keeps_then IsRight HasReply V W q next k each
+
+shapes_keep : {E A : Type 0} (C : E → Type 0) (V : A → Type 0) (reword : E → Fault) (q : Shapes E A) → Keeps IsRightShown C V q → ((cause : E) → C cause → HasReply (reword cause)) → Asked V (by_shapes reword q)
+shapes_keep C V reword q k each = keeps_objects IsRightShown IsRight HasReply V (or_else reword q) shape_right (keeps_else IsRightShown C HasReply V reword q k each)
+
+stops_keep : {E A : Type 0} (reword : E → Fault) (r : Result A E) → ((cause : E) → HasReply (reword cause)) → Asked (λ (x : A). Any x) (or_stops reword r)
+stops_keep reword (Ok x) each = tt
+stops_keep reword (Err cause) each = each cause
+
+of_user : (cause : acquiring.Fault) → Any cause → HasReply (faults.User cause)
+of_user cause any = user_keeps cause
+
+user_asked : (credentials : Option Credentials) (o permission : ℕ) → Asked NameRule (by_shapes faults.User (who credentials o permission))
+user_asked credentials o permission = shapes_keep (λ cause. Any cause) NameRule faults.User (who credentials o permission) (who_keeps credentials o permission) of_user
+
+-- ---- a page
+
+shown_page_keeps : (x : (List ℕ × Left) × List Shown) → ShownRule x → Asked AnswerRule (shown_page x)
+shown_page_keeps x are = page_keeps x.0.0 x.1 are
+
+page_for_keeps : (q : Request) (fields : List Field) (o : ℕ) (client : List ℕ) (user : Who) → Asked AnswerRule (page_for q fields o client user)
+unfolding scope_answer
+page_for_keeps q fields o client user =
+    let text = page_text user o client (request_names q user fields (cookies_of q)) in
+    then_keeps (λ (x : (List ℕ × Left) × List Shown). ShownRule x) AnswerRule (or_else faults.Page (through taken [] text)) shown_page
+    (keeps_else IsRight FaultRule HasReply (λ (x : (List ℕ × Left) × List Shown). ShownRule x) faults.Page (through taken [] text) (through_keeps [] text none_shown) no_page_keeps)
+    shown_page_keeps
+
+page_asked : (q : Request) (fields : List Field) (credentials : Option Credentials) (o : ℕ) (client : List ℕ) → Asked AnswerRule (page q fields credentials o client)
+unfolding page
+page_asked q fields credentials o client = then_keeps NameRule AnswerRule (by_shapes faults.User (who credentials o view)) _ (user_asked credentials o view) (λ user is. page_for_keeps q fields o client user)
+
+-- ---- a call
+
+-- the record of one object is written
+abbrev ChangeRule : Change → Type 0
+ChangeRule c = (o : ℕ) × (bytes : List ℕ) × (0 < length bytes) × (c.entries ≡ Entry.Write (Name.Old o) bytes [] ∷ [])
+
+record_is_some : (o : Object) → 0 < length (record_text Second o)
 unfolding record_text
 record_is_some o = omega arith
 
-path_is_short : (name : List ℕ) → length name ≤ 100 → length (edit_path name) ≤ 65535
-path_is_short name short = omega (arith, short, length-append name (codes "/manage_edit"))
+written_keeps : (o : ℕ) (object : Object) → ChangeRule (written o object)
+written_keeps o object = (o, record_text Second object, record_is_some object, refl)
+
+abbrev Settled : Checked Change → Type 0
+Settled r = Keeps IsRight (λ (cause : ManageRefusal). Any cause) ChangeRule (settled r)
+
+edit_settled : (o : ℕ) (object : Object) (fields : List Field) → Settled (edit_written o object fields)
+edit_settled o object fields = at (edited object fields)
+  where
+    at : (new : Checked Object) → Settled (checks.◌>>=◌ new (λ x. Ok (written o x)))
+    at (Ok new) = written_keeps o new
+    at (Err cause) = tt
+
+changed_settled : (call : Call) (o : ℕ) (object : Object) (fields : List Field) → Settled (changing.changed call o object fields)
+changed_settled calls.Edit o object fields = edit_settled o object fields
+changed_settled calls.AddFolder o object fields = tt
+changed_settled calls.AddMethod o object fields = tt
+changed_settled calls.AddDocument o object fields = tt
+changed_settled calls.AddUserFolder o object fields = tt
+changed_settled calls.DeleteObjects o object fields = tt
+changed_settled calls.RenameObject o object fields = tt
+changed_settled calls.SetPermission o object fields = tt
+changed_settled calls.SetLocalRoles o object fields = tt
+changed_settled calls.DeleteLocalRoles o object fields = tt
+changed_settled calls.AddProperty o object fields = tt
+changed_settled calls.DeleteProperties o object fields = tt
+changed_settled calls.SetProxyRoles o object fields = tt
+changed_settled calls.AddUser o object fields = tt
+changed_settled calls.UndoTransactions o object fields = tt
+changed_settled calls.ListTransactions o object fields = tt
+
+change_keeps : (call : Call) (o : ℕ) (fields : List Field) → Keeps IsRight (λ (cause : ManageRefusal). Any cause) ChangeRule (change call o fields)
+unfolding change
+change_keeps call o fields =
+    keeps_then IsRight (λ (cause : ManageRefusal). Any cause) (λ (x : Object). Any x) ChangeRule (calling.here o) _ (keeps_any IsRight (calling.here o)) (λ object any. changed_settled call o object fields)
+
+of_call : (cause : ManageRefusal) → Any cause → HasReply (faults.Call cause)
+of_call cause any = call_keeps cause
+
+named_is : Entry → Name
+named_is (Entry.Write name bytes holes) = name
+named_is (Entry.Restore o t) = Name.Old o
 
 -- one object is written, which has a value
-edit_keeps : (known : Ask → Option Fact) (name : List ℕ) (o : ℕ) (object : Object) → length name ≤ 100 → IsChange known (edited name o (record_text object))
-edit_keeps known name o object short = record {
-  user = lit≤ tt;
-  description = path_is_short name short;
+draft_keeps : (known : Ask → Option Fact) (user description : List ℕ) (o : ℕ) (bytes : List ℕ) → length user ≤ longest_text → length description ≤ longest_text → 0 < length bytes →
+    IsChange known (record { user = user; description = description; entries = Entry.Write (Name.Old o) bytes [] ∷ [] })
+draft_keeps known user description o bytes few short some = record {
+  user = few;
+  description = short;
   distinct = λ i j d h k. absurd (omega arith);
   numbered = λ k h. absurd (omega arith);
   few = lit< tt;
-  each = ((λ h. absurd (omega arith), record_is_some object, tt, λ i j d h k. absurd (omega arith)), tt);
+  each = ((λ h. absurd (omega arith), some, tt, λ i j d h k. absurd (omega arith)), tt);
 }
 
--- what an evaluation comes to keeps the rules; it asks for an object
-abbrev KeepsRules : (Ask → Option Fact) → Outcome → Type 0
-KeepsRules known (Outcome.Need ask) = (o : ℕ) × (ask ≡ Ask.Object o)
-KeepsRules known (Outcome.Answer x) = IsReply x
-KeepsRules known (Outcome.Change x d) = IsChange known d × IsReply x
+abbrev drafted : List ℕ → List ℕ → List Entry → Draft
+drafted user description entries = record { user = user; description = description; entries = entries }
 
--- ---- the question
+change_is : (known : Ask → Option Fact) (q : Request) (user : Who) (c : Change) → NameRule user → length (path_text q.path) ≤ longest_text → ChangeRule c → IsChange known (draft_of q user c)
+change_is known q user c named short rule =
+    subst (λ entries. IsChange known (drafted (user_name user) (path_text q.path) entries)) (sym rule.3) (draft_keeps known (user_name user) (path_text q.path) rule.0 rule.1 named short rule.2)
 
--- it changes nothing by what passes, asks so many objects at most, and keeps the rules
-record Keeps (n : ℕ) (q : Evaluation) : Type 0 where
-  careful : IsCareful q
-  within : IsWithin n q
-  rules : (known : Ask → Option Fact) → KeepsRules known (outcome (run known q))
+module _ (q : Request) (short : length (path_text q.path) ≤ longest_text) where
+  changed_keeps : (user : Who) (c : Change) → NameRule user → ChangeRule c → Asked AnswerRule (changed q user c)
+  changed_keeps user c named rule = (line_keeps 200 _ refl, λ known. change_is known q user c named short rule)
 
-stops : (n : ℕ) (x : Reply) → IsReply x → Keeps n (Stops x)
-stops n x is = record { careful = tt; within = tt; rules = λ known. is }
+  change_by_keeps : (fields : List Field) (call : Call) (o : ℕ) (user : Who) → NameRule user → Asked AnswerRule (change_by q fields call o user)
+  unfolding change_by
+  change_by_keeps fields call o user named =
+      then_keeps ChangeRule AnswerRule (or_else faults.Call (change call o fields)) _
+      (keeps_else IsRight (λ (cause : ManageRefusal). Any cause) HasReply ChangeRule faults.Call (change call o fields) (change_keeps call o fields) of_call)
+      (λ c rule. changed_keeps user c named rule)
 
-asks : (n o : ℕ) (go : Fact → Evaluation) → ((f : Fact) → Keeps n (go f)) → Keeps (suc n) (Asks (Ask.Object o) go)
-asks n o go keeps = record {
-  careful = λ f is. (λ l. (keeps f).careful, λ l. absurd (let lasts = object_lasts o f is in cc));
-  within = λ f. (keeps f).within;
-  rules = λ known. met known (known (Ask.Object o));
-}
+  granted_keeps : (o permission : ℕ) (further : Objects Fault Answer) (v : Verdict) → IsPermission permission → Asked AnswerRule further → Asked AnswerRule (where_granted o permission further v)
+  granted_keeps o permission further (verdicts.Granted role) is k = k
+  granted_keeps o permission further (verdicts.Denied p) is k = unauthorized_keeps o permission is
+
+  change_for_keeps : (fields : List Field) (call : Call) (o permission : ℕ) (user : Who) → IsPermission permission → NameRule user → Asked AnswerRule (change_for q fields call o permission user)
+  unfolding change_for
+  change_for_keeps fields call o permission user is named =
+      then_keeps VerdictRule AnswerRule (by_shapes faults.User (verdict_on user o permission)) _
+      (shapes_keep (λ cause. Any cause) VerdictRule faults.User (verdict_on user o permission) (verdict_keeps user o permission) of_user)
+      (λ v rule. granted_keeps o permission (change_by q fields call o user) v is (change_by_keeps fields call o user named))
+
+  call_with_keeps : (fields : List Field) (credentials : Option Credentials) (call : Call) (o permission : ℕ) → IsPermission permission → Asked AnswerRule (call_with q fields credentials call o permission)
+  unfolding call_with
+  call_with_keeps fields credentials call o permission is =
+      then_keeps NameRule AnswerRule (by_shapes faults.User (who credentials o permission)) _ (user_asked credentials o permission) (λ user named. change_for_keeps fields call o permission user is named)
+
+-- what is built needs one of the first twelve permissions
+abbrev Needs : Option ℕ → Type 0
+Needs None = Unit {0}
+Needs (Some permission) = IsPermission permission
+
+is_permission : (n : ℕ) → 0 < n → n ≤ 12 → IsPermission n
+is_permission n more few = (more, few)
+
+edits_need : (kind : Kind) → Needs (edit_needs kind)
+edits_need kinds.Folder = is_permission 8 (omega arith) (omega arith)
+edits_need kinds.Method = is_permission 5 (omega arith) (omega arith)
+edits_need kinds.Document = is_permission 6 (omega arith) (omega arith)
+edits_need kinds.UserFolder = tt
+
+needs_if : (test : Bool) (permission : Option ℕ) → Needs permission → Needs (if test then permission else None)
+needs_if true permission is = is
+needs_if false permission is = tt
+
+abbrev Lawful : Shapes ManageRefusal ℕ → Type 0
+Lawful q = Keeps IsRightShown (λ (cause : ManageRefusal). Any cause) IsPermission q
+
+edit_lawful : (o : ℕ) (permission : Option ℕ) → Needs permission → Lawful (if_lawful calls.Edit o permission)
+edit_lawful o None is = tt
+edit_lawful o (Some permission) is = is
+
+other_lawful : (call : Call) (o : ℕ) (permission : Option ℕ) → is_built call ≡ false → Lawful (if_lawful call o permission)
+other_lawful call o None no_call = tt
+other_lawful call o (Some permission) no_call = at (is_built call) no_call
   where
-    met : (known : Ask → Option Fact) (found : Option Fact) → KeepsRules known (outcome (go_on (Ask.Object o) (λ f. run known (go f)) found))
-    met known None = (o, refl)
-    met known (Some f) = (keeps f).rules known
+    at : (built : Bool) → built ≡ false → Lawful (if built then Done permission else Stops (refusals.NotYet o))
+    at true e = absurd (let bad = e in cc)
+    at false e = tt
 
-acted_keeps : (q : Message) (o : ℕ) (object : Object) (action : Action) (source : Option (List ℕ)) → length q.name ≤ 100 → Keeps 0 (acted q o object action source)
-acted_keeps q o object action None short = stops 0 (not_yet o) (not_yet_keeps o)
-acted_keeps q o object Action.Page (Some source) short = record { careful = tt; within = tt; rules = λ known. page_keeps o source }
-acted_keeps q o object (Action.Edit new) (Some source) short = record { careful = tt; within = tt; rules = λ known. (edit_keeps known q.name o (document_with object new) short, done_keeps) }
+lawful_keeps : (call : Call) (verb : Verb) (o : ℕ) (kind : Kind) → Lawful (if_lawful call o (permission_for call verb o kind))
+lawful_keeps calls.Edit verb o kind = edit_lawful o _ (needs_if (is_by calls.Edit verb && is_at calls.Edit o) (edit_needs kind) (edits_need kind))
+lawful_keeps calls.AddFolder verb o kind = other_lawful calls.AddFolder o _ refl
+lawful_keeps calls.AddMethod verb o kind = other_lawful calls.AddMethod o _ refl
+lawful_keeps calls.AddDocument verb o kind = other_lawful calls.AddDocument o _ refl
+lawful_keeps calls.AddUserFolder verb o kind = other_lawful calls.AddUserFolder o _ refl
+lawful_keeps calls.DeleteObjects verb o kind = other_lawful calls.DeleteObjects o _ refl
+lawful_keeps calls.RenameObject verb o kind = other_lawful calls.RenameObject o _ refl
+lawful_keeps calls.SetPermission verb o kind = other_lawful calls.SetPermission o _ refl
+lawful_keeps calls.SetLocalRoles verb o kind = other_lawful calls.SetLocalRoles o _ refl
+lawful_keeps calls.DeleteLocalRoles verb o kind = other_lawful calls.DeleteLocalRoles o _ refl
+lawful_keeps calls.AddProperty verb o kind = other_lawful calls.AddProperty o _ refl
+lawful_keeps calls.DeleteProperties verb o kind = other_lawful calls.DeleteProperties o _ refl
+lawful_keeps calls.SetProxyRoles verb o kind = other_lawful calls.SetProxyRoles o _ refl
+lawful_keeps calls.AddUser verb o kind = other_lawful calls.AddUser o _ refl
+lawful_keeps calls.UndoTransactions verb o kind = other_lawful calls.UndoTransactions o _ refl
+lawful_keeps calls.ListTransactions verb o kind = other_lawful calls.ListTransactions o _ refl
 
-object_keeps : (q : Message) (o : ℕ) (object : Option Object) → length q.name ≤ 100 → Keeps 0 (at_object q o object)
-object_keeps q o None short = stops 0 (not_yet o) (not_yet_keeps o)
-object_keeps q o (Some object) short = acted_keeps q o object q.action (plain_source object.parent object.part) short
+permission_keeps : (call : Call) (verb : Verb) (o : ℕ) → Lawful (permission_at call verb o)
+unfolding permission_at
+permission_keeps call verb o =
+    keeps_then IsRightShown (λ (cause : ManageRefusal). Any cause) (λ (shape : Shape). Any shape) IsPermission (calling.here o) _ (keeps_any IsRightShown (calling.here o)) (λ shape any. lawful_keeps call verb o (kind_of shape.form))
 
-child_keeps : (q : Message) (o : ℕ) (value : Value) → length q.name ≤ 100 → Keeps 0 (at_child q o value)
-child_keeps q o None short = stops 0 (not_yet o) (not_yet_keeps o)
-child_keeps q o (Some bytes) short = object_keeps q o (bare bytes) short
+-- ---- a whole message
 
-to_child_keeps : (q : Message) (child : Option ℕ) → ((o : ℕ) → child ≡ Some o → length q.name ≤ 100) → Keeps 1 (to_child q child)
-to_child_keeps q None short = stops 1 (not_found q.name) (not_found_keeps q.name)
-to_child_keeps q (Some o) short = asks 0 o (λ f. at_child q o (value_in f)) (λ f. child_keeps q o (value_in f) (short o refl))
+module _ (q : Request) (short : length (path_text q.path) ≤ longest_text) where
+  call_on_keeps : (fields : List Field) (credentials : Option Credentials) (call : Call) (o : ℕ) → Asked AnswerRule (call_on q fields credentials call o)
+  unfolding call_on
+  call_on_keeps fields credentials call o =
+      then_keeps IsPermission AnswerRule (by_shapes faults.Call (permission_at call q.method o)) _
+      (shapes_keep (λ (cause : ManageRefusal). Any cause) IsPermission faults.Call (permission_at call q.method o) (permission_keeps call q.method o) of_call)
+      (λ permission is. call_with_keeps q short fields credentials call o permission is)
 
--- the children of a folder that is read have short names
-folder_keeps : (q : Message) (bytes : List ℕ) (object : Object) → bare bytes ≡ Some object → (part : Part2) → object.part ≡ part → Keeps 1 (in_folder q part)
-folder_keeps q bytes object is (Folder cs) part = to_child_keeps q (child_of q.name cs) (λ o found. child_name_is_short q.name (child_is_named bytes object cs q.name o is part found))
-folder_keeps q bytes object is (Document source) part = stops 1 (not_yet 0) (not_yet_keeps 0)
-folder_keeps q bytes object is (Method source) part = stops 1 (not_yet 0) (not_yet_keeps 0)
-folder_keeps q bytes object is (UserFolder us) part = stops 1 (not_yet 0) (not_yet_keeps 0)
+  called_keeps : (fields : List Field) (credentials : Option Credentials) (name : List ℕ) (o : ℕ) (call : Option Call) → Asked AnswerRule (called q fields credentials name o call)
+  called_keeps fields credentials name o None = line_keeps 404 _ refl
+  called_keeps fields credentials name o (Some call) = call_on_keeps fields credentials call o
 
-root_keeps : (q : Message) (value : Value) → Keeps 1 (at_root q value)
-root_keeps q None = stops 1 (not_found (codes "/")) (not_found_keeps (codes "/"))
-root_keeps q (Some bytes) = go (bare bytes) refl
+  answered_keeps : (fields : List Field) (credentials : Option Credentials) (target : Target) → Asked AnswerRule (answered q fields credentials target)
+  answered_keeps fields credentials (targets.Page object client) = page_asked q fields credentials (first object) client
+  answered_keeps fields credentials (targets.Call name on) = called_keeps fields credentials name (first on) (call_named name)
+
+  with_credentials_keeps : (fields : List Field) (credentials : Option Credentials) → Asked AnswerRule (with_credentials q fields credentials)
+  unfolding with_credentials
+  with_credentials_keeps fields credentials =
+      then_keeps (λ (x : Target). Any x) AnswerRule (by_shapes faults.Path (published q.path)) _
+      (shapes_keep (λ (cause : publishing.Fault). Any cause) (λ (x : Target). Any x) faults.Path (published q.path) (keeps_any IsRightShown (published q.path)) (λ cause any. path_keeps cause))
+      (λ target any. answered_keeps fields credentials target)
+
+  with_fields_keeps : (fields : List Field) → Asked AnswerRule (with_fields q fields)
+  unfolding with_fields
+  with_fields_keeps fields =
+      then_keeps (λ (x : Option Credentials). Any x) AnswerRule (or_stops bad_credentials (credentials_of (authorization q))) _
+      (stops_keep bad_credentials (credentials_of (authorization q)) (λ cause. line_keeps 400 _ refl)) (λ credentials any. with_credentials_keeps fields credentials)
+
+  whole_keeps : Asked AnswerRule (whole q)
+  unfolding whole
+  whole_keeps =
+      then_keeps (λ (x : List Field). Any x) AnswerRule (or_stops faults.NotANumber (fields_of q)) _ (stops_keep faults.NotANumber (fields_of q) (λ name. line_keeps 400 _ refl)) (λ fields any. with_fields_keeps fields)
+
+few : (most n : ℕ) → nat_lt most n ≡ false → n ≤ most
+few most n e = grind (arith, nat_tests)
+
+request_keeps : (q : Request) → Asked AnswerRule (request q)
+unfolding request
+request_keeps q = at (is_long q) refl
   where
-    go : (object : Option Object) → bare bytes ≡ object → Keeps 1 (in_root q object)
-    go None is = stops 1 (not_yet 0) (not_yet_keeps 0)
-    go (Some object) is = folder_keeps q bytes object is object.part refl
+    at : (long : Bool) → is_long q ≡ long → Asked AnswerRule (if long then Stops (faults.Message messages.PathTooLong) else whole q)
+    at true e = message_keeps messages.PathTooLong
+    at false e = whole_keeps q (few longest_text (length (path_text q.path)) e)
 
-question_keeps : (q : Message) → Keeps 2 (question q)
-question_keeps q = asks 1 0 (λ f. at_root q (value_in f)) (λ f. root_keeps q (value_in f))
+-- ---- over facts
+
+right_value : (bytes : List ℕ) (r : Result Object ℕ) → read bytes ≡ r → IsRight (read_as r)
+right_value bytes (Ok object) e = read_keeps bytes object e
+right_value bytes (Err at) e = tt
+
+right_seen : (f : Fact) → IsRight (seen f)
+unfolding seen
+right_seen (Fact.Object o None serial) = tt
+right_seen (Fact.Object o (Some bytes) serial) = right_value bytes (read bytes) refl
+right_seen (Fact.Transaction t parts) = tt
+right_seen (Fact.Log rows) = tt
+
+abbrev MadeRule : Made → Type 0
+MadeRule (Reads x) = IsReply x
+MadeRule (Changes x d) = IsReply x × ((known : Ask → Option Fact) → IsChange known d)
+
+made_keeps : (verb : Verb) (a : Answer) → AnswerRule a → MadeRule (made_by verb a)
+made_keeps verb (answer.Page x) is = by_verb_keeps verb x is
+made_keeps verb (answer.Change x d) is = (by_verb_keeps verb x is.0, is.1)
+
+over_history_keeps : (q : Request) → Keeps (λ (f : Fact). Any f) IsReply MadeRule (over_history q)
+over_history_keeps q =
+    keeps_then (λ (f : Fact). Any f) IsReply AnswerRule MadeRule (over_facts seen (or_else (refused_by q.method) (request q))) _
+    (keeps_facts IsRight IsReply AnswerRule seen (or_else (refused_by q.method) (request q)) right_seen
+    (keeps_else IsRight HasReply IsReply AnswerRule (refused_by q.method) (request q) (request_keeps q) (λ fault is. by_verb_keeps q.method (fault_reply fault) is)))
+    (λ a is. made_keeps q.method a is)
+
+evaluation_keeps : (m : Message) → Keeps (λ (f : Fact). Any f) IsReply MadeRule (evaluation m)
+evaluation_keeps (Refused cause) = message_keeps cause
+evaluation_keeps (Whole q) =
+    keeps_limited IsReply MadeRule (by_verb q.method runaway_facts) most_bytes [] most_asks 0 (over_history q) (by_verb_keeps q.method runaway_facts (line_keeps 500 _ refl)) (over_history_keeps q)
 
 -- ---- the laws
 
-pub site_is_careful : (q : Message) → IsCareful (question q)
-site_is_careful q = (question_keeps q).careful
+site_is_careful : (m : Message) → IsCareful (evaluation m)
+site_is_careful (Refused cause) = tt
+site_is_careful (Whole q) =
+    careful_limited (by_verb q.method runaway_facts) most_bytes [] most_asks 0 (over_history q)
+    (careful_over seen (or_else (refused_by q.method) (request q)) (λ x. Done (made_by q.method x)) (λ x. tt))
 
 pub site_is_lawful : IsLawful site
-site_is_lawful = lawful question site_is_careful
+site_is_lawful = lawful evaluation site_is_careful
 
-pub site_is_within : (q : Message) → IsWithin 2 (question q)
-site_is_within q = (question_keeps q).within
+pub site_asks_few : (facts : List Fact) (m : Message) → IsTrail (λ known. site (look known) m) facts → length facts ≤ most_asks
+site_asks_few facts (Refused cause) trail = (let none = trail_short 0 (Stops (message_reply cause)) tt [] facts trail in omega (arith, none))
+site_asks_few facts (Whole q) trail = trail_short most_asks (evaluation (Whole q)) (limited_within (by_verb q.method runaway_facts) most_bytes [] most_asks 0 (over_history q)) [] facts trail
 
-pub site_asks_two : (facts : List Fact) (q : Message) → IsTrail (λ known. site (look known) q) facts → length facts ≤ 2
-site_asks_two facts q trail = trail_short 2 (question q) (question_keeps q).within [] facts trail
+change_comes : (known : Ask → Option Fact) (r : Result Made (Halt Ask Reply)) (x : Reply) (d : Draft) → ComesTo IsReply MadeRule r → outcome r ≡ Outcome.Change x d → IsChange known d × IsReply x
+change_comes known (Ok (Reads y)) x d is e = absurd (let bad = e in cc)
+change_comes known (Ok (Changes y c)) x d is e =
+    let same_reply : y ≡ x = cc in
+    let same_draft : c ≡ d = cc in
+    (subst (IsChange known) same_draft (is.1 known), subst IsReply same_reply is.0)
+change_comes known (Err (Cause y)) x d is e = absurd (let bad = e in cc)
+change_comes known (Err (Need ask)) x d is e = absurd (let bad = e in cc)
 
-pub site_asks_objects : (known : Ask → Option Fact) (q : Message) (ask : Ask) → site known q ≡ Outcome.Need ask → (o : ℕ) × (ask ≡ Ask.Object o)
-site_asks_objects known q ask e = subst (KeepsRules known) e ((question_keeps q).rules known)
+reply_comes : (r : Result Made (Halt Ask Reply)) (x : Reply) → ComesTo IsReply MadeRule r → outcome r ≡ Outcome.Answer x → IsReply x
+reply_comes (Ok (Reads y)) x is e = let same : y ≡ x = cc in subst IsReply same is
+reply_comes (Ok (Changes y c)) x is e = absurd (let bad = e in cc)
+reply_comes (Err (Cause y)) x is e = let same : y ≡ x = cc in subst IsReply same is
+reply_comes (Err (Need ask)) x is e = absurd (let bad = e in cc)
 
-pub site_asks_few : (facts : List Fact) (q : Message) → IsTrail (λ known. site (look known) q) facts → length facts ≤ most_asks
-site_asks_few facts q trail = (let two = site_asks_two facts q trail in omega (arith, two))
+pub site_changes : (known : Ask → Option Fact) (m : Message) (x : Reply) (d : Draft) → site known m ≡ Outcome.Change x d → IsChange known d × IsReply x
+site_changes known m x d e = change_comes known (run known (evaluation m)) x d (keeps_run IsReply MadeRule known (evaluation m) (evaluation_keeps m)) e
 
-pub site_changes : (known : Ask → Option Fact) (q : Message) (x : Reply) (d : Draft) → site known q ≡ Outcome.Change x d → IsChange known d × IsReply x
-site_changes known q x d e = subst (KeepsRules known) e ((question_keeps q).rules known)
-
-pub site_replies : (known : Ask → Option Fact) (q : Message) (x : Reply) → site known q ≡ Outcome.Answer x → IsReply x
-site_replies known q x e = subst (KeepsRules known) e ((question_keeps q).rules known)
+pub site_replies : (known : Ask → Option Fact) (m : Message) (x : Reply) → site known m ≡ Outcome.Answer x → IsReply x
+site_replies known m x e = reply_comes (run known (evaluation m)) x (keeps_run IsReply MadeRule known (evaluation m) (evaluation_keeps m)) e

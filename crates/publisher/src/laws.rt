@@ -1,40 +1,44 @@
-ghost use Rattle.std.specs.Prelude.{◌≡◌, ◌≤◌, ◌<◌, Bool, ℕ, List, Option, Some, get_or, length};
-ghost use Rattle.zbase.specs.Query.{Done, IsWithin};
+ghost use Rattle.std.specs.Prelude.{◌≡◌, ◌≤◌, ℕ, List, Option, length};
 ghost use Rattle.evaluator.specs.declared.ask.Ask.{Ask};
+ghost use Rattle.evaluator.specs.declared.draft.Draft.{Draft};
 ghost use Rattle.evaluator.specs.declared.fact.Fact.{Fact};
 ghost use Rattle.evaluator.specs.declared.outcome.Outcome.{Outcome};
-ghost use Rattle.evaluator.specs.Exec.{IsTrail};
+ghost use Rattle.evaluator.specs.declared.reply.Reply.{Reply};
+ghost use Rattle.evaluator.specs.Change.{IsChange, IsReply};
+ghost use Rattle.evaluator.specs.Exec.{IsLawful, IsTrail, most_asks};
 ghost use Rattle.evaluator.specs.Facts.{look};
-ghost use Rattle.evaluator.specs.Questions.{IsCareful, Reads};
-ghost use Rattle.plain_object.specs.declared.object.Object.{Object};
-ghost use Rattle.plain_object.specs.Documents.{document_with};
-ghost use Rattle.plain_object.specs.Reading.{bare};
-ghost use Rattle.plain_object.specs.Record.{record_text};
-ghost use Rattle.plain_object.specs.Texts.{is_id};
-ghost use Rattle.publisher.specs.declared.message.Action.{Action};
-ghost use Rattle.publisher.specs.declared.message.Message.{Message};
-ghost use Rattle.publisher.specs.Messages.{edit, edit_text, is_plain_source, message_of, page};
-ghost use Rattle.publisher.specs.Site.{at_child, page_of, plain_source, question, site};
+ghost use Rattle.http_in.specs.declared.message.Message.{Message};
+ghost use Rattle.publisher.specs.Access.{ContentsStayApart, PagesShowRightly, RefusalsAreDenied};
+ghost use Rattle.publisher.specs.Site.{site};
 
-use plain_object::documents_are_read_again;
+use dtml_render::{pages_are_for_their_users, pages_are_their_users_own};
 
-/// A request asks for two objects at most, and for nothing else, so that what it changes rests on what lasts.
-pub fn site_asks_two_objects()
-    ensures within { (request : Message) → IsWithin 2 (question request) }
-    ensures trail { (facts : List Fact) (request : Message) → IsTrail (λ known. site (look known) request) facts → length facts ≤ 2 }
-    ensures objects { (known : Ask → Option Fact) (request : Message) (ask : Ask) → site known request ≡ Outcome.Need ask → (oid : ℕ) × (ask ≡ Ask.Object oid) }
-    ensures lasting { (request : Message) → IsCareful (question request) }
+/// What a message means to a site keeps the laws of an evaluator: what is decided on true facts is decided so on the whole
+/// history, a change rests on lasting facts alone, what is asked for isn't known, no message asks for more than 12,000
+/// facts, and changes and replies keep their rules.
+pub fn messages_are_lawful()
+    ensures lawful { IsLawful site }
+    ensures few_asks { (facts : List Fact) (message : Message) → IsTrail (λ known. site (look known) message) facts → length facts ≤ most_asks }
+    ensures changes { (known : Ask → Option Fact) (message : Message) (reply : Reply) (draft : Draft) → site known message ≡ Outcome.Change reply draft → IsChange known draft × IsReply reply }
+    ensures replies { (known : Ask → Option Fact) (message : Message) (reply : Reply) → site known message ≡ Outcome.Answer reply → IsReply reply }
 {}
 
-/// An edit is read from its text, and from no other bytes.
-pub fn edits_have_one_text()
-    ensures read { (name source : List ℕ) → is_id name ≡ Bool.true → is_plain_source source ≡ Bool.true → message_of (edit_text name source) ≡ Some (edit name source) }
-    ensures text { (bytes : List ℕ) (request : Message) (source : List ℕ) → message_of bytes ≡ Some request → request.action ≡ Action.Edit source → (bytes ≡ edit_text request.name source) × (is_id request.name ≡ Bool.true) × (is_plain_source source ≡ Bool.true) }
-{}
-
-/// The page of a document shows what an edit sent: over the record that an edit writes, a page is that source.
-pub fn edited_pages_are_shown()
-    ensures { (name : List ℕ) (oid : ℕ) (bytes : List ℕ) (object : Object) (old new : List ℕ) → ((i : ℕ) → get_or bytes i 0 < 256) → bare bytes ≡ Some object → plain_source object.parent object.part ≡ Some old → is_plain_source new ≡ Bool.true → at_child (page name) oid (Some (record_text (document_with object new))) ≡ Done (Reads (page_of oid new)) }
+/// Each 200 is a page that shows rightly: each object that it shows was granted to its user, or to someone who has the
+/// proxy roles of an object, by the role that is told; and each object whose title, source or property it uses is shown.
+/// What a refusal denies is an object and a permission that isn't granted to the request's user, or to someone who has the
+/// proxy roles of an object.
+pub fn pages_show_rightly()
+    ensures shown { PagesShowRightly }
+    ensures denied { RefusalsAreDenied }
 {
-    documents_are_read_again();
+    pages_are_for_their_users();
+}
+
+/// Contents that a user may not view make no difference to his pages: over two histories that differ at their ends in such
+/// contents alone, where no object has proxy roles, a request for a page has one reply, unless one of both has too much to
+/// look at.
+pub fn contents_stay_apart()
+    ensures { ContentsStayApart }
+{
+    pages_are_their_users_own();
 }

@@ -1,15 +1,24 @@
-//! The site's evaluator: messages are read, the root is traversed to a document, and the document is shown or edited.
+//! The site's evaluator: what a message means to a site, from its bytes to a reply or a change.
 //!
-//! `specs/Messages` says which bytes are which message, `specs/Site` what a request asks, answers and changes, as one
-//! question, and `specs/SiteLaws` that it keeps the laws of an evaluator (Zope Developer's Guide, "Object Publishing").
+//! `specs/Site` says what a message asks, answers and changes, as one question (Zope Developer's Guide, "Object
+//! Publishing"), `specs/Pages` what the page of an object is, `specs/Faults` why there is none, and `specs/Replies` how
+//! each is told. `specs/SiteLaws` has that it keeps the laws of an evaluator, and `specs/Access` to whom it shows what.
 #![tactic(auto)]
 
-mod edit;
+mod answer;
+mod answering;
+mod asking;
+mod calling;
+mod halted;
 mod laws;
-mod message;
+mod page;
+mod refusal;
 mod replies;
 mod site;
+mod state;
 
-pub use laws::{edited_pages_are_shown, edits_have_one_text, site_asks_two_objects};
-pub use message::{Action, Message};
+pub use answer::Answer;
+pub use laws::{contents_stay_apart, messages_are_lawful, pages_show_rightly};
+pub use refusal::SiteRefusal;
 pub use site::Site;
+pub use state::SiteState;

@@ -1,68 +1,145 @@
-ghost use Rattle.std.specs.Prelude.{◌≡◌, IfOk, Option, Some};
-ghost use Rattle.std.specs.Option.{option_copied, option_map};
-ghost use Rattle.zbase.specs.Query.{run};
-ghost use Rattle.evaluator.specs.declared.ask.Ask.{Ask};
+ghost use Rattle.std.specs.Prelude.{◌≡◌, ◌==◌, ◌&&◌, List, IfOk, length, nat_lt};
+ghost use Rattle.zknown.specs.Seen.{objects};
 ghost use Rattle.evaluator.specs.declared.fact.Fact.{Fact};
-ghost use Rattle.evaluator.specs.declared.outcome.Outcome.{Outcome};
+ghost use Rattle.evaluator.specs.declared.outcome.Outcome.{Outcome as OutcomeValue};
+ghost use Rattle.evaluator.specs.Counting.{judged};
+ghost use Rattle.evaluator.specs.Exec.{IsTrail, most_asks};
 ghost use Rattle.evaluator.specs.Facts.{look};
-ghost use Rattle.evaluator.specs.Questions.{outcome};
-ghost use Rattle.plain_object.specs.Documents.{document_with};
-ghost use Rattle.plain_object.specs.Record.{record_text};
-ghost use Rattle.publisher.specs.Messages.{message_of};
-ghost use Rattle.publisher.specs.Site as question;
+ghost use Rattle.evaluator.specs.Questions.{most_bytes, outcome};
+ghost use Rattle.http_in.specs.Messages.{one_message};
+ghost use Rattle.manage.specs.Changing.{KeepRules};
+ghost use Rattle.publisher.specs.Comes.{made_of};
+ghost use Rattle.publisher.specs.Faults.{comes_to};
+ghost use Rattle.publisher.specs.Halting as halting;
+ghost use Rattle.publisher.specs.Keeping as keeping;
+ghost use Rattle.publisher.specs.Replies as replies;
+ghost use Rattle.publisher.specs.Site as spec;
 ghost use Rattle.publisher.specs.SiteLaws.{site_asks_few, site_changes, site_is_lawful, site_replies};
 
-use crate::message::{Action, Message, read_message};
-use crate::replies::{edited, not_found, not_yet, one_line, page_of};
-use evaluator::{Ask, Evaluator, Fact, Facts, Outcome, look};
-use plain_object::{Object, Part2, document_with, find_child, read_bare, write_object};
+use crate::answer::Answer;
+use crate::answering::answer;
+use crate::halted::Halted;
+use crate::replies::{by_verb, halt_of, line, message_reply};
+use crate::state::SiteState;
+use evaluator::{Evaluator, Facts, Outcome};
+use http_in::{Message, Request, Verb, take_message};
 use std::alloc::Global;
-use zbase::{Bytes, Memory, Oid, Text};
+use zbase::Memory;
+use zknown::Known;
 
-const ROOT: Oid = Oid(0);
+/// The most bytes of values that an evaluation meets.
+const MOST_BYTES: usize = 67_108_864;
 
-/// The site as far as it goes: a request is for a document without tags, in the root folder, or edits it. It keeps
-/// nothing between two evaluations.
+/// The most asks of an evaluation.
+const MOST_ASKS: usize = 12_000;
+
+/// A site: it answers whole messages with pages under the security policy, and changes what a call may change.
 ///
-/// Zope Developer's Guide, "Object Publishing".
+/// Zope Developer's Guide, "Object Publishing" and "Security".
 #[derive(Drop)]
 pub struct Site {
     alloc: Global,
 }
 
-// Whether a source may have tags or entities.
-fn has_markup(source: &str) -> bool
-    ensures { result ≡ question.has_markup source.now }
+fn refused(verb: Verb, halted: Halted) -> Outcome
+    ensures { result ≡ halting.outcome_of verb halted }
 {
-    source
-        .as_bytes()
-        .iter()
-        .any(|byte| *byte == b'<' || *byte == b'&')
-}
-
-// The source of a document of the root, without markup.
-fn plain_source(object: &Object) -> Option<&str>
-    ensures { option_map (λ source. source.now) result ≡ question.plain_source object.now.parent object.now.part }
-{
-    match &object.part {
-        Part2::Document(source) => {
-            if object.parent == ROOT && !has_markup(source.as_str()) {
-                Some(source.as_str())
-            } else {
-                None
-            }
-        }
-        Part2::Folder(_) | Part2::Method(_) | Part2::UserFolder(_) => None,
+    match halted {
+        Halted::Need(ask) => Outcome::Need(ask),
+        Halted::Refused(reply) => Outcome::Answer(by_verb(verb, reply)),
     }
 }
 
-// The bytes that a fact tells of its object.
-fn value_in(fact: &Fact) -> Option<&Bytes>
-    ensures { option_copied result ≡ question.value_in fact.now }
+// What a whole message comes to, without limits.
+#[tactic(auto, using(crate::proofs::Limiting::paged, crate::proofs::Limiting::changes_to, crate::proofs::Limiting::halts_at))]
+fn outcome_of(alloc: Global, request: &Request, known: &Known) -> Result<Outcome, Memory>
+    requires lawful { KeepRules (objects known.now) }
+    ensures { IfOk result (λ it. it ≡ outcome (made_of request.now.method (comes_to known.now (spec.request request.now)))) }
 {
-    match fact {
-        Fact::Object { value, .. } => value.as_ref(),
-        Fact::Transaction { .. } | Fact::Log(_) => None,
+    match answer(alloc, request, known) {
+        Ok(Answer::Page(reply)) => Ok(Outcome::Answer(by_verb(request.method, reply))),
+        Ok(Answer::Change(reply, draft)) => {
+            Ok(Outcome::Change(by_verb(request.method, reply), draft))
+        }
+        Err(cause) => {
+            let halted = halt_of(alloc, &cause)?;
+            Ok(refused(request.method, halted))
+        }
+    }
+}
+
+fn runaway(alloc: Global, verb: Verb) -> Result<Outcome, Memory>
+    ensures { IfOk result (λ it. it ≡ OutcomeValue.Answer (replies.by_verb verb replies.runaway_facts)) }
+{
+    let reply = line(alloc, 500, "runaway: facts")?;
+    Ok(Outcome::Answer(by_verb(verb, reply)))
+}
+
+fn is_need(outcome: &Outcome) -> bool
+    ensures { result ≡ halting.is_need outcome.now }
+{
+    match outcome {
+        Outcome::Need(_) => true,
+        Outcome::Answer(_) | Outcome::Change(_, _) => false,
+    }
+}
+
+// Whether one ask more is needed behind the most.
+fn asks_more(asks: usize, outcome: &Outcome) -> bool
+    ensures { result ≡ ((asks == most_asks) && halting.is_need outcome.now) }
+{
+    asks == MOST_ASKS && is_need(outcome)
+}
+
+fn has_too_many_bytes(state: &SiteState) -> bool
+    ensures { result ≡ nat_lt most_bytes state.now.bytes }
+{
+    MOST_BYTES < state.bytes()
+}
+
+// What a whole message comes to over the facts that were taken over, so many in all.
+#[tactic(auto, using(crate::proofs::Limiting::over_bytes, crate::proofs::Limiting::over_asks, crate::proofs::Limiting::within_both))]
+fn limited(
+    alloc: Global,
+    state: &SiteState,
+    asks: usize,
+    request: &Request,
+) -> Result<Outcome, Memory>
+    requires lawful { KeepRules (objects state.now.known) }
+    ensures { IfOk result (λ it. (facts : List Fact) → keeping.Holds state.now facts → length facts ≡ asks → it ≡ outcome (judged (replies.by_verb request.now.method replies.runaway_facts) facts (made_of request.now.method (comes_to state.now.known (spec.request request.now))))) }
+{
+    if has_too_many_bytes(state) {
+        let runaway = runaway(alloc, request.method)?;
+        return Ok(runaway);
+    }
+    let outcome = outcome_of(alloc, request, state.known())?;
+    if asks_more(asks, &outcome) {
+        let runaway = runaway(alloc, request.method)?;
+        return Ok(runaway);
+    }
+    Ok(outcome)
+}
+
+// What a message comes to over a trail of facts that were taken over.
+#[tactic(auto, using(crate::proofs::Limiting::site_whole))]
+fn evaluated(
+    alloc: Global,
+    state: &SiteState,
+    asks: usize,
+    message: &Message,
+) -> Result<Outcome, Memory>
+    requires lawful { KeepRules (objects state.now.known) }
+    ensures { IfOk result (λ it. (facts : List Fact) → keeping.Holds state.now facts → length facts ≡ asks → IsTrail (λ known. spec.site (look known) message.now) facts → it ≡ spec.site (look facts) message.now) }
+{
+    match message {
+        Message::Refused(cause) => {
+            let reply = message_reply(alloc, *cause)?;
+            Ok(Outcome::Answer(reply))
+        }
+        Message::Whole(request) => {
+            let outcome = limited(alloc, state, asks, request)?;
+            Ok(outcome)
+        }
     }
 }
 
@@ -71,129 +148,36 @@ impl Site {
     pub fn new(alloc: Global) -> Site {
         Site { alloc }
     }
-
-    fn is_not_yet(&self, oid: Oid) -> Result<Outcome, Memory>
-        ensures { IfOk result (λ it. it ≡ Outcome.Answer (question.not_yet oid)) }
-    {
-        Ok(Outcome::Answer(not_yet(self.alloc, oid)?))
-    }
-
-    fn is_not_found(&self, segment: &str) -> Result<Outcome, Memory>
-        ensures { IfOk result (λ it. it ≡ Outcome.Answer (question.not_found segment.now)) }
-    {
-        Ok(Outcome::Answer(not_found(self.alloc, segment)?))
-    }
-
-    // The change that gives the document this source.
-    fn edit(&self, name: &Text, oid: Oid, object: Object, source: &Text) -> Result<Outcome, Memory>
-        ensures { IfOk result (λ it. it ≡ Outcome.Change question.done (question.edited name.now oid (record_text (document_with object source.now)))) }
-    {
-        let object = document_with(object, source.copy()?);
-        let bytes = write_object(self.alloc, &object)?;
-        let draft = edited(self.alloc, name.as_str(), oid, bytes)?;
-        Ok(Outcome::Change(one_line(self.alloc, 200, "done")?, draft))
-    }
-
-    // What is done with an object: a document that is shown or edited.
-    fn act(&self, request: &Message, oid: Oid, object: Object) -> Result<Outcome, Memory>
-        ensures { IfOk result (λ it. (known : Ask → Option Fact) → it ≡ outcome (run known (question.at_object request.now oid (Some object)))) }
-    {
-        match plain_source(&object) {
-            None => self.is_not_yet(oid),
-            Some(source) => match &request.action {
-                Action::Page => Ok(Outcome::Answer(page_of(self.alloc, oid, source)?)),
-                Action::Edit(sent) => self.edit(&request.name, oid, object, sent),
-            },
-        }
-    }
-
-    // The child of the name, once it is known.
-    fn at_child(&self, request: &Message, oid: Oid, fact: &Fact) -> Result<Outcome, Memory>
-        ensures { IfOk result (λ it. (known : Ask → Option Fact) → it ≡ outcome (run known (question.at_child request.now oid (question.value_in fact.now)))) }
-    {
-        match value_in(fact) {
-            None => self.is_not_yet(oid),
-            Some(bytes) => match read_bare(self.alloc, bytes.as_slice())? {
-                None => self.is_not_yet(oid),
-                Some(object) => self.act(request, oid, object),
-            },
-        }
-    }
-
-    // The child that the root has under the name: it is asked for.
-    fn to_child(
-        &self,
-        known: &Facts,
-        request: &Message,
-        child: Option<Oid>,
-    ) -> Result<Outcome, Memory>
-        ensures { IfOk result (λ it. it ≡ outcome (run (look known.now) (question.to_child request.now child))) }
-    {
-        match child {
-            None => self.is_not_found(request.name.as_str()),
-            Some(oid) => match look(known, Ask::Object(oid)) {
-                None => Ok(Outcome::Need(Ask::Object(oid))),
-                Some(fact) => self.at_child(request, oid, fact),
-            },
-        }
-    }
-
-    fn in_folder(&self, known: &Facts, request: &Message, part: &Part2) -> Result<Outcome, Memory>
-        ensures { IfOk result (λ it. it ≡ outcome (run (look known.now) (question.in_folder request.now part.now))) }
-    {
-        match part {
-            Part2::Folder(children) => {
-                self.to_child(
-                    known,
-                    request,
-                    find_child(children, request.name.as_bytes()),
-                )
-            }
-            Part2::Document(_) | Part2::Method(_) | Part2::UserFolder(_) => self.is_not_yet(ROOT),
-        }
-    }
-
-    // The root, once it is known.
-    fn at_root(&self, known: &Facts, request: &Message, fact: &Fact) -> Result<Outcome, Memory>
-        ensures { IfOk result (λ it. it ≡ outcome (run (look known.now) (question.at_root request.now (question.value_in fact.now)))) }
-    {
-        match value_in(fact) {
-            None => self.is_not_found("/"),
-            Some(bytes) => match read_bare(self.alloc, bytes.as_slice())? {
-                None => self.is_not_yet(ROOT),
-                Some(root) => self.in_folder(known, request, &root.part),
-            },
-        }
-    }
 }
 
 impl Evaluator for Site {
     type Request = Message;
 
-    type State = ();
+    type State = SiteState;
 
-    ghost takes = { message_of };
+    ghost takes = { one_message };
 
-    ghost meaning = { question.site };
+    ghost meaning = { spec.site };
 
-    ghost fits = { λ _ _ _. Unit {0} };
+    ghost fits = { λ state facts _. keeping.Fits state facts };
 
     fn take(&self, bytes: &[u8]) -> Result<Option<Message>, Memory> {
-        read_message(self.alloc, bytes)
+        take_message(self.alloc, bytes)
     }
 
-    fn fresh(&self) {}
+    fn fresh(&self) -> SiteState {
+        SiteState::new(self.alloc)
+    }
 
     fn eval(
         &mut self,
-        _state: &mut (),
+        state: &mut SiteState,
         known: &Facts,
         request: &Message,
     ) -> Result<Outcome, Memory> {
-        match look(known, Ask::Object(ROOT)) {
-            None => Ok(Outcome::Need(Ask::Object(ROOT))),
-            Some(fact) => self.at_root(known, request, fact),
-        }
+        state.learn(self.alloc, known)?;
+        let outcome = evaluated(self.alloc, state, known.len(), request)?;
+        Ok(outcome)
     }
 
     ghost lawful = { site_is_lawful };

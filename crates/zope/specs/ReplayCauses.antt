@@ -12,7 +12,7 @@ use Rattle.schedule.specs.declared.reader.ScheduleRefusal.{ScheduleRefusal}
 use Rattle.zope.specs.declared.refusal.FileRefusal.{FileRefusal}
 use Rattle.zope.specs.declared.refusal.InputRefusal.{InputRefusal}
 use Rattle.zope.specs.declared.refusal.Refusal.{Refusal}
-use Rattle.publisher.specs.Messages.{message_of}
+use Rattle.http_in.specs.Messages.{one_message}
 use Rattle.publisher.specs.Site.{site}
 use Rattle.replay.specs.declared.refusal.RunRefusal.{RunRefusal}
 use Rattle.replay.specs.Replayed.{AreOpened, Breaks}
@@ -37,7 +37,7 @@ FileCause files name failed _ = ⊥
 
 -- the run over these bytes was broken off at the line of that number
 abbrev pub Broke : ℕ → List ℕ → List Item2 → Option (List ℕ) → Option (List ℕ) → ℕ → Type 0
-Broke limit bytes items old new n = Breaks message_of site limit bytes items n old new
+Broke limit bytes items old new n = Breaks one_message site limit bytes items n old new
 
 -- what a run over these bytes is refused for; where that is their damage, nothing was written
 abbrev pub RunCause : (limit : ℕ) (bytes : List ℕ) (items : List Item2) (failed : Type 0) (old new : Option (List ℕ)) → Refusal → Type 0

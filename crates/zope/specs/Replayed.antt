@@ -6,7 +6,7 @@ use Rattle.schedule.specs.declared.item.Item2.{Item2}
 use Rattle.schedule.specs.declared.line.Line.{Line}
 use Rattle.schedule.specs.Explained.{Explained}
 use Rattle.fs_store.specs.Moments.{OpensTo}
-use Rattle.publisher.specs.Messages.{message_of}
+use Rattle.http_in.specs.Messages.{one_message}
 use Rattle.publisher.specs.Site.{site}
 use Rattle.replay.specs.Printed.{Prints, terms_of}
 use Rattle.zope.specs.Given.{Scheduled, Stored}
@@ -17,7 +17,7 @@ pub record Explains (limit : ℕ) (bytes : List ℕ) (items : List Item2) (old n
   pub end : ℕ
   pub opens : OpensTo bytes history end
   pub report : List Line
-  pub explained : Explained (terms_of message_of site limit end) history items report
+  pub explained : Explained (terms_of one_message site limit end) history items report
   pub printed : Prints old new report
 
 pub record Replayed (name : List ℕ) (limit : ℕ) (files : Option (List Entry)) (input old new : Option (List ℕ)) : Type 0 where

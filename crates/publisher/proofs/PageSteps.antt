@@ -1,0 +1,84 @@
+-- The steps of a page: its published object, its template, and its text.
+use Rattle.std.proofs.Common.{ℕ, zero, suc, ◌≡◌, ◌∙◌, sym, ap, subst, List, [], length, Option, Result, Ok, Err, arith}
+use Rattle.std.specs.Str.{IsUtf8}
+use Rattle.zbase.specs.Query.{Halt, Cause, Told, or_else}
+use Rattle.zobject.specs.declared.object.Object.{Object}
+use Rattle.zknown.specs.declared.kept.Kept.{Kept}
+use Rattle.zknown.specs.Seen.{Seen, objects}
+use Rattle.evaluator.specs.declared.reply.Shown.{Shown}
+use Rattle.dtml_lex.specs.declared.refusal.DtmlRefusal.{DtmlRefusal}
+use Rattle.dtml_lex.specs.declared.refusal.DtmlRefusal.TheVariants.{Memory}
+use Rattle.dtml_parse.specs.Grammar.{Reads}
+use Rattle.dtml_parse.specs.Refusals.{Refuses}
+use Rattle.dtml_parse.specs.TreeReading.{ReadsRefusals, ReadsTrees, template}
+use Rattle.dtml_parse.specs.Trees.{Items}
+use Rattle.dtml_values.specs.Values.{Left}
+use Rattle.dtml_render.specs.Rendering.{or_bad, source_text, tree_text, whole_text}
+use Rattle.dtml_values.specs.StepLaws.{stops}
+use Rattle.dtml_values.specs.Told as values
+use Rattle.dtml_values.specs.declared.refusal.RenderRefusal.{RenderRefusal}
+use Rattle.namespace.specs.LookLaws.{looked_goes}
+use Rattle.namespace.specs.Looks.{BadSource, Fault, Of, Renders, Runaway, Stops, looked, taken, through}
+use Rattle.namespace.specs.Names.{Scope, viewing, whose}
+use Rattle.publisher.specs.declared.answer.Answer.TheVariants as answer
+use Rattle.publisher.specs.declared.refusal.SiteRefusal.TheVariants as refusals
+use Rattle.publisher.specs.Faults as faults
+use Rattle.publisher.specs.Faults.{comes_to, told}
+use Rattle.publisher.specs.Pages.{scope_page, source_page}
+use Rattle.publisher.specs.Replies.{page_reply}
+use Rattle.publisher.specs.Site.{scope_answer, shown_page}
+use Rattle.publisher.proofs.Steps.{goes, pages_are, pages_stop, passes}
+
+-- a source that is a template
+pub read_so : ReadsTrees → (source : List ℕ) (tree : Items) → IsUtf8 source → Reads source tree → template source ≡ Ok tree
+read_so reads source tree utf8 is = (reads source (length source) tree utf8 (omega arith)).1 is
+
+unread_at : (k : ℕ → Option (Seen Object)) (shown : List Shown) (renders : ℕ) (scope : Scope) (o : ℕ) (source : List ℕ) (left : Left) (refusal : DtmlRefusal) → template source ≡ Err refusal →
+    looked k shown (source_text renders scope o source left) ≡ Err (Cause (Of (BadSource o refusal)))
+unfolding source_text
+unread_at k shown zero scope o source left refusal e = ap (λ r. looked k shown (or_bad o (λ tree. Stops (Runaway Renders)) r)) e
+unread_at k shown (suc renders) scope o source left refusal e = ap (λ r. looked k shown (or_bad o (λ tree. whole_text (source_text renders) scope tree left) r)) e
+
+-- one that is none
+pub unread : ReadsRefusals → (k : ℕ → Option (Seen Object)) (shown : List Shown) (renders : ℕ) (scope : Scope) (o : ℕ) (source : List ℕ) (left : Left) (refusal : DtmlRefusal) → IsUtf8 source → Refuses source refusal → (refusal ≡ Memory → ⊥) →
+    looked k shown (source_text renders scope o source left) ≡ Err (Cause (Of (BadSource o refusal)))
+unread refuses k shown renders scope o source left refusal utf8 is not = unread_at k shown renders scope o source left refusal ((refuses source (length source) refusal utf8 (omega arith)).1 (is, not))
+
+-- a template that was read is rendered
+pub source_is : (k : ℕ → Option (Seen Object)) (shown : List Shown) (renders : ℕ) (scope : Scope) (o : ℕ) (source : List ℕ) (left : Left) (tree : Items) → template source ≡ Ok tree →
+    looked k shown (source_text (suc renders) scope o source left) ≡ looked k shown (tree_text renders scope tree left)
+unfolding source_text tree_text
+source_is k shown renders scope o source left tree e = ap (λ r. looked k shown (or_bad o (λ tree. whole_text (source_text renders) scope tree left) r)) e
+
+-- ---- the page of an object in a scope
+
+pub page_is : (k : ℕ → Option (Seen Object)) (shown : List Shown) (scope behind : Scope) (o : ℕ) (object : Object) (mid : List Shown) (r : Result ((List ℕ × Left) × List Shown) (Halt ℕ Fault)) →
+    looked k shown (viewing (whose scope) o) ≡ Ok (object, mid) → behind ≡ scope → looked k mid (source_page behind o object) ≡ r → looked k shown (scope_page scope o) ≡ r
+unfolding scope_page
+page_is k shown scope behind o object mid r e same is =
+    looked_goes k shown (viewing (whose scope) o) (source_page scope o) (object, mid) e ∙ subst (λ (s : Scope). looked k mid (source_page s o object) ≡ r) same is
+
+pub page_told : (k : ℕ → Option (Seen Object)) (shown : List Shown) (scope behind : Scope) (o : ℕ) (object : Object) (mid : List Shown) (halt : Option (Halt ℕ Fault)) →
+    looked k shown (viewing (whose scope) o) ≡ Ok (object, mid) → behind ≡ scope → Told halt (looked k mid (source_page behind o object)) → Told halt (looked k shown (scope_page scope o))
+unfolding scope_page
+page_told k shown scope behind o object mid halt e same is =
+    subst (Told halt) (sym (looked_goes k shown (viewing (whose scope) o) (source_page scope o) (object, mid) e)) (subst (λ (s : Scope). Told halt (looked k mid (source_page s o object))) same is)
+
+pub page_stops : (k : ℕ → Option (Seen Object)) (shown : List Shown) (scope : Scope) (o : ℕ) (halt : Option (Halt ℕ Fault)) → Told halt (looked k shown (viewing (whose scope) o)) → Told halt (looked k shown (scope_page scope o))
+unfolding scope_page
+page_stops k shown scope o halt t = stops k shown (viewing (whose scope) o) (source_page scope o) halt t
+
+-- ---- its answer
+
+pub page_done : (rows : List (ℕ × Kept)) (scope : Scope) (o : ℕ) (before : List Shown) (text : List ℕ) (left : Left) (shown : List Shown) → before ≡ [] → looked (objects rows) before (scope_page scope o) ≡ Ok ((text, left), shown) →
+    comes_to rows (scope_answer scope o) ≡ Ok (answer.Page (page_reply text shown))
+unfolding scope_answer
+page_done rows scope o before text left shown none e =
+    let text_is = subst (λ (s : List Shown). looked (objects rows) s (scope_page scope o) ≡ Ok ((text, left), shown)) none e in
+    goes rows (or_else faults.Page (through taken [] (scope_page scope o))) shown_page ((text, left), shown) (pages_are rows faults.Page (through taken [] (scope_page scope o)) ((text, left), shown) text_is)
+
+pub page_halts : (rows : List (ℕ × Kept)) (scope : Scope) (o : ℕ) (before : List Shown) (e : RenderRefusal) → before ≡ [] → Told (values.told e) (looked (objects rows) before (scope_page scope o)) → Told (told (refusals.Page e)) (comes_to rows (scope_answer scope o))
+unfolding scope_answer
+page_halts rows scope o before e none t =
+    passes rows (or_else faults.Page (through taken [] (scope_page scope o))) shown_page (told (refusals.Page e))
+    (pages_stop rows faults.Page (through taken [] (scope_page scope o)) (values.told e) (subst (λ (s : List Shown). Told (values.told e) (looked (objects rows) s (scope_page scope o))) none t))

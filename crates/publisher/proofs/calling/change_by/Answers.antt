@@ -1,0 +1,14 @@
+use Rattle.std.proofs.Common.{◌∙◌, ap, sym, Ok}
+use Rattle.zbase.specs.Query.{or_else}
+use Rattle.acquisition.specs.Acquiring.{first}
+use Rattle.manage.specs.Changing.{change}
+use Rattle.publisher.specs.Faults as faults
+use Rattle.publisher.specs.Site.{change_by, changed}
+use Rattle.publisher.proofs.Steps.{goes}
+use Rattle.publisher.proofs.calling.change_by.Goals as goal
+
+pub returns : goal.returns
+unfolding change_by
+returns c =
+    goes c.args.known.now (or_else faults.Call (change c.args.call (first c.args.on.now) c.args.fields.now)) (changed c.args.request.now c.args.user.now) c.in_ok-change.change c.in_ok-change.ensures
+    ∙ ap (λ a. Ok a) (sym c.in_ok-answer.ensures)

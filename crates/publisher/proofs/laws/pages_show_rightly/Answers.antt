@@ -1,0 +1,5 @@
+use Rattle.publisher.proofs.AccessLaws.{are_denied, show_rightly}
+use Rattle.publisher.proofs.laws.pages_show_rightly.Goals as goal
+
+pub returns : goal.returns
+returns c = record { shown = show_rightly c.pages_are_for_their_users.ensures; denied = are_denied c.pages_are_for_their_users.ensures }

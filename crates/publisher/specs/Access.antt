@@ -1,0 +1,110 @@
+-- To whom a site shows what.
+--
+-- Zope Developer's Guide, "Security"; Zope Book, "Users and Security": proxy roles.
+use Rattle.std.specs.Prelude.{ℕ, ◌≡◌, ◌≢◌, ◌⊎◌, List, Option, Some, Ok}
+use Rattle.std.specs.List.{AllByRecursion}
+use Rattle.zbase.specs.History.{History}
+use Rattle.zbase.specs.Query.{run}
+use Rattle.zobject.specs.declared.object.Object.{Object}
+use Rattle.zknown.specs.Seen.{Seen}
+use Rattle.acquisition.specs.Acquiring.{first}
+use Rattle.permissions.specs.declared.who.Verdict.TheVariants.{Granted, Denied}
+use Rattle.permissions.specs.declared.who.Who.{Who}
+use Rattle.permissions.specs.Users.{Credentials, who}
+use Rattle.permissions.specs.Verdicts.{verdict_on}
+use Rattle.user_folder.specs.Credentials.{credentials_of}
+use Rattle.evaluator.specs.declared.ask.Ask.{Ask}
+use Rattle.evaluator.specs.declared.fact.Fact.{Fact}
+use Rattle.evaluator.specs.declared.outcome.Outcome.{Outcome}
+use Rattle.evaluator.specs.declared.reply.Reply.{Reply}
+use Rattle.evaluator.specs.declared.reply.Denial.{Denial}
+use Rattle.evaluator.specs.declared.reply.Shown.{Shown}
+use Rattle.evaluator.specs.Exec.{exec}
+use Rattle.evaluator.specs.Facts.{fact}
+use Rattle.evaluator.specs.Questions.{objects_of}
+use Rattle.form_fields.specs.declared.field.Field.{Field}
+use Rattle.form_fields.specs.Cookies.{cookies_of}
+use Rattle.form_fields.specs.Fields.{fields_of}
+use Rattle.http_in.specs.declared.message.Message.TheVariants.{Whole}
+use Rattle.http_in.specs.declared.message.Request.{Request}
+use Rattle.namespace.specs.LookLaws.{IsShown, Same, Views}
+use Rattle.namespace.specs.Looks.{veiled, view}
+use Rattle.namespace.specs.Requests.{request_names}
+use Rattle.traverse.specs.declared.target.Target.{Target}
+use Rattle.traverse.specs.declared.target.Target.TheVariants as targets
+use Rattle.traverse.specs.Publishing.{published}
+use Rattle.dtml_render.specs.Access.{HasProxyRoles, NoneHasProxyRoles}
+use Rattle.publisher.specs.Comes.{Tells}
+use Rattle.publisher.specs.Pages.{page_text}
+use Rattle.publisher.specs.Replies.{by_verb, runaway_facts}
+use Rattle.publisher.specs.Site.{authorization, seen, site}
+
+-- the objects that facts show
+abbrev pub shown_by : (Ask → Option Fact) → ℕ → Option (Seen Object)
+shown_by known o = objects_of seen known o
+
+-- the objects of a whole history
+abbrev pub objects_in : History → ℕ → Option (Seen Object)
+objects_in h o = Some (seen (fact h (Ask.Object o)))
+
+-- ---- pages
+
+-- A request publishes an object: its path leads to it, with a client, and this is the user who may view it, or nobody.
+pub record Publishes (k : ℕ → Option (Seen Object)) (q : Request) (o : ℕ) (client : List ℕ) (fields : List Field) (user : Who) : Type 0 where
+  pub read : fields_of q ≡ Ok fields
+  pub credentials : Option Credentials
+  pub carried : credentials_of (authorization q) ≡ Ok credentials
+  pub object : List ℕ
+  pub is_object : first object ≡ o
+  pub target : run (veiled k) (published q.path) ≡ Ok (targets.Page object client)
+  pub is_user : run (veiled k) (who credentials o view) ≡ Ok user
+
+-- for whom a page takes verdicts: its user, and someone who has the proxy roles of an object
+abbrev pub IsOfPage : (ℕ → Option (Seen Object)) → Who → Who → Type 0
+IsOfPage k user w = (w ≡ user) ⊎ HasProxyRoles k w
+
+-- one of these is granted to view the object, by the role that is told
+abbrev pub IsGrantedTo : (ℕ → Option (Seen Object)) → Who → Shown → Type 0
+IsGrantedTo k user s = (w : Who) × IsOfPage k user w × (run (veiled k) (verdict_on w s.oid view) ≡ Ok (Granted s.role))
+
+-- one of these isn't granted the permission on the object
+abbrev pub IsDeniedTo : (ℕ → Option (Seen Object)) → Who → Denial → Type 0
+IsDeniedTo k user d = (w : Who) × IsOfPage k user w × (permission : ℕ) × (run (veiled k) (verdict_on w d.oid d.permission) ≡ Ok (Denied permission))
+
+-- what a page shows: each object was granted, and each whose contents it uses is shown
+pub record ShowsRightly (k : ℕ → Option (Seen Object)) (q : Request) (x : Reply) : Type 0 where
+  pub o : ℕ
+  pub client : List ℕ
+  pub fields : List Field
+  pub user : Who
+  pub publishes : Publishes k q o client fields user
+  pub granted : AllByRecursion (IsGrantedTo k user) x.shown
+  pub used : (p : ℕ) → Views k p (page_text user o client (request_names q user fields (cookies_of q))) → IsShown p x.shown
+
+-- Each 200 shows rightly.
+abbrev pub PagesShowRightly : Type 0
+PagesShowRightly = (known : Ask → Option Fact) (q : Request) (x : Reply) → Tells known → site known (Whole q) ≡ Outcome.Answer x → x.status ≡ 200 → ShowsRightly (shown_by known) q x
+
+-- a user of the request: of its page, or of its call
+abbrev pub IsItsUser : (ℕ → Option (Seen Object)) → Request → Who → Type 0
+IsItsUser k q user = (credentials : Option Credentials) × (o : ℕ) × (permission : ℕ) × (credentials_of (authorization q) ≡ Ok credentials) × (run (veiled k) (who credentials o permission) ≡ Ok user)
+
+-- What is denied is denied to the user of the request, or to someone who has the proxy roles of an object.
+abbrev pub RefusalsAreDenied : Type 0
+RefusalsAreDenied = (known : Ask → Option Fact) (q : Request) (x : Reply) (d : Denial) → Tells known → site known (Whole q) ≡ Outcome.Answer x → x.denied ≡ Some d → (user : Who) × IsItsUser (shown_by known) q user × IsDeniedTo (shown_by known) user d
+
+-- ---- contents stay apart
+
+-- the request is for a page, or leads nowhere, and its user can be nobody but this one
+abbrev pub IsTargetFor : Who → (ℕ → Option (Seen Object)) → Option Credentials → Target → Type 0
+IsTargetFor w k credentials (targets.Page object client) = (user : Who) → run (veiled k) (who credentials (first object) view) ≡ Ok user → user ≡ w
+IsTargetFor w k credentials (targets.Call name on) = ⊥
+
+abbrev pub IsPageFor : Who → (ℕ → Option (Seen Object)) → Request → Type 0
+IsPageFor w k q = (credentials : Option Credentials) (target : Target) → credentials_of (authorization q) ≡ Ok credentials → run (veiled k) (published q.path) ≡ Ok target → IsTargetFor w k credentials target
+
+-- Where the histories differ at their ends in contents alone that the user may not view, and no object has proxy roles, a
+-- request for a page by this user comes to the same over both, unless one has too much to look at.
+abbrev pub ContentsStayApart : Type 0
+ContentsStayApart = (w : Who) (h1 h2 : History) (q : Request) → Same w (objects_in h1) (objects_in h2) → NoneHasProxyRoles (objects_in h1) → IsPageFor w (objects_in h1) q →
+    exec site h1 (Whole q) ≢ Outcome.Answer (by_verb q.method runaway_facts) → exec site h2 (Whole q) ≢ Outcome.Answer (by_verb q.method runaway_facts) → exec site h1 (Whole q) ≡ exec site h2 (Whole q)

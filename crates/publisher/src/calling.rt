@@ -1,0 +1,168 @@
+ghost use Rattle.std.specs.Prelude.{◌≡◌, ◌++◌, codes, IfOk, OnOk, option_map};
+ghost use Rattle.zbase.specs.Query.{Answers};
+ghost use Rattle.zknown.specs.Seen.{objects};
+ghost use Rattle.acquisition.specs.Acquiring.{first};
+ghost use Rattle.manage.specs.Changing.{KeepRules};
+ghost use Rattle.publisher.specs.Faults.{told, comes_to};
+ghost use Rattle.publisher.specs.declared.answer.Answer.TheVariants as answers;
+ghost use Rattle.publisher.specs.Replies as replies;
+ghost use Rattle.publisher.specs.Site as spec;
+
+use crate::answer::Answer;
+use crate::asking::{change_on, permission, user_on, verdict};
+use crate::refusal::SiteRefusal;
+use crate::replies::line;
+use acquisition::Wrapped;
+use evaluator::Draft;
+use form_fields::Fields;
+use http_in::Request;
+use manage::{Call, Change};
+use permissions::{Verdict, Who};
+use std::alloc::Global;
+use zbase::{Memory, Text};
+use zknown::Known;
+
+/// The segments of a path, each behind a slash.
+pub(crate) fn path_text(alloc: Global, path: &[Text]) -> Result<Text, Memory>
+    ensures { IfOk result (λ text. text ≡ spec.path_text path.now) }
+{
+    let mut text = Text::new(alloc);
+    for segment in path {
+        text.push_str("/")?;
+        text.push_str(segment.as_str())?;
+    }
+    Ok(text)
+}
+
+fn user_name(alloc: Global, user: &Who) -> Result<Text, Memory>
+    ensures { IfOk result (λ name. name ≡ spec.user_name user.now) }
+{
+    match user {
+        Who::Anonymous => Ok(Text::new(alloc)),
+        Who::Known { name, .. } => name.copy(),
+    }
+}
+
+// The change of a request by a user.
+fn draft_of(alloc: Global, request: &Request, user: &Who, change: Change) -> Result<Draft, Memory>
+    ensures { IfOk result (λ draft. draft ≡ spec.draft_of request.now user.now change) }
+{
+    Ok(Draft {
+        user: user_name(alloc, user)?,
+        description: path_text(alloc, request.path.as_slice())?,
+        entries: change.entries,
+    })
+}
+
+fn changed(alloc: Global, request: &Request, user: &Who, change: Change) -> Result<Answer, Memory>
+    ensures { IfOk result (λ answer. answer ≡ answers.Change replies.done (spec.draft_of request.now user.now change)) }
+{
+    let draft = draft_of(alloc, request, user, change)?;
+    Ok(Answer::Change(line(alloc, 200, "done")?, draft))
+}
+
+// The call's change on an object.
+#[tactic(auto, using(crate::proofs::Steps::goes, crate::proofs::Steps::passes), unfolding(crate::specs::Site::change_by))]
+fn change_by(
+    alloc: Global,
+    request: &Request,
+    fields: &Fields,
+    call: Call,
+    on: &Wrapped,
+    known: &Known,
+    user: &Who,
+) -> Result<Answer, SiteRefusal>
+    requires lawful { KeepRules (objects known.now) }
+    ensures { Answers told (λ a. a) result (comes_to known.now (spec.change_by request.now fields.now call (first on.now) user.now)) }
+{
+    let change = change_on(alloc, call, on, known, fields)?;
+    let answer = changed(alloc, request, user, change)?;
+    Ok(answer)
+}
+
+fn where_granted(
+    alloc: Global,
+    request: &Request,
+    fields: &Fields,
+    call: Call,
+    on: &Wrapped,
+    permission: u8,
+    known: &Known,
+    user: &Who,
+    verdict: Verdict,
+) -> Result<Answer, SiteRefusal>
+    requires lawful { KeepRules (objects known.now) }
+    ensures { Answers told (λ a. a) result (comes_to known.now (spec.where_granted (first on.now) permission (spec.change_by request.now fields.now call (first on.now) user.now) verdict)) }
+{
+    match verdict {
+        Verdict::Granted(_) => change_by(alloc, request, fields, call, on, known, user),
+        Verdict::Denied(_) => Err(SiteRefusal::Denied(on.oid(), permission)),
+    }
+}
+
+// The user's change, where he is granted the permission on the object.
+#[tactic(auto, using(crate::proofs::Steps::goes_so, crate::proofs::Steps::passes), unfolding(crate::specs::Site::change_for))]
+fn change_for(
+    alloc: Global,
+    request: &Request,
+    fields: &Fields,
+    call: Call,
+    on: &Wrapped,
+    permission: u8,
+    known: &Known,
+    user: &Who,
+) -> Result<Answer, SiteRefusal>
+    requires lawful { KeepRules (objects known.now) }
+    ensures { Answers told (λ a. a) result (comes_to known.now (spec.change_for request.now fields.now call (first on.now) permission user.now)) }
+{
+    let verdict = verdict(alloc, known, user, on, permission)?;
+    where_granted(
+        alloc, request, fields, call, on, permission, known, user, verdict,
+    )
+}
+
+// The user to whom the permission of a call is granted, and his change.
+#[tactic(auto, using(crate::proofs::Steps::goes_so, crate::proofs::Steps::passes), unfolding(crate::specs::Site::call_with))]
+fn call_with(
+    alloc: Global,
+    request: &Request,
+    fields: &Fields,
+    credentials: Option<&(Text, Text)>,
+    call: Call,
+    on: &Wrapped,
+    permission: u8,
+    known: &Known,
+) -> Result<Answer, SiteRefusal>
+    requires lawful { KeepRules (objects known.now) }
+    ensures { Answers told (λ a. a) result (comes_to known.now (spec.call_with request.now fields.now (option_map (λ pair. pair.now) credentials.entry) call (first on.now) permission)) }
+{
+    let user = user_on(alloc, known, credentials, on, permission)?;
+    change_for(alloc, request, fields, call, on, permission, known, &user)
+}
+
+/// What a call on an object comes to.
+#[tactic(auto, using(crate::proofs::Steps::goes_so, crate::proofs::Steps::passes), unfolding(crate::specs::Site::call_on))]
+pub(crate) fn call_on(
+    alloc: Global,
+    request: &Request,
+    fields: &Fields,
+    credentials: Option<&(Text, Text)>,
+    call: Call,
+    on: &Wrapped,
+    known: &Known,
+) -> Result<Answer, SiteRefusal>
+    requires lawful { KeepRules (objects known.now) }
+    ensures { Answers told (λ a. a) result (comes_to known.now (spec.call_on request.now fields.now (option_map (λ pair. pair.now) credentials.entry) call (first on.now))) }
+{
+    let permission = permission(known, call, request.method, on)?;
+    call_with(
+        alloc,
+        request,
+        fields,
+        credentials,
+        call,
+        on,
+        permission,
+        known,
+    )
+}

@@ -1,0 +1,207 @@
+ghost use Rattle.std.specs.Prelude.{◌≡◌, [], List, ℕ, IfErr, IfOk, Ok, Option, option_map};
+ghost use Rattle.zbase.specs.Query.{Answers, Told};
+ghost use Rattle.zobject.specs.Shapes.{shape_of};
+ghost use Rattle.zobject.specs.declared.object.Object.{Object as ObjectValue};
+ghost use Rattle.zknown.specs.Seen.{Seen, objects};
+ghost use Rattle.evaluator.specs.declared.reply.Shown.{Shown as ShownValue};
+ghost use Rattle.permissions.specs.Verdicts.{proxy_user};
+ghost use Rattle.dtml_parse.specs.TreeReading.{template};
+ghost use Rattle.dtml_parse.specs.Views.{view as tree_view};
+ghost use Rattle.dtml_render.specs.Rendering as rendering;
+ghost use Rattle.dtml_values.specs.Told as values;
+ghost use Rattle.dtml_values.specs.Told.{left_of};
+ghost use Rattle.dtml_values.specs.Values.{Left};
+ghost use Rattle.namespace.specs.Looks.{looked};
+ghost use Rattle.namespace.specs.Names as names;
+ghost use Rattle.namespace.specs.Requests as requests;
+ghost use Rattle.namespace.specs.Told.{Shows};
+ghost use Rattle.form_fields.specs.Cookies.{cookies_of};
+ghost use Rattle.publisher.specs.Faults.{told, comes_to};
+ghost use Rattle.publisher.specs.Pages as pages;
+ghost use Rattle.publisher.specs.Site as spec;
+
+use crate::answer::Answer;
+use crate::asking::user;
+use crate::refusal::SiteRefusal;
+use crate::replies::page_reply;
+use acquisition::Wrapped;
+use dtml_lex::DtmlRefusal;
+use dtml_parse::{Tree, parse, template_reader_agrees};
+use dtml_render::{Budget, RenderRefusal, render};
+use evaluator::{Shown, ShownList};
+use form_fields::{Fields, cookies};
+use http_in::Request;
+use namespace::{Names, Stack, request_names};
+use permissions::{Who, acting};
+use std::alloc::Global;
+use zbase::{Memory, Oid, Text};
+use zknown::Known;
+use zobject::{Object, Part2};
+
+/// The permission `View`.
+const VIEW: u8 = 1;
+
+/// How many tags a page may evaluate.
+const MOST_TAGS: u32 = 10_000;
+
+/// How many renderings may stand inside that of the published object.
+const MOST_INSIDE: u32 = 31;
+
+/// How many bytes of text a page may make.
+const MOST_OUTPUT: u32 = 1_048_576;
+
+fn source_of(part: &Part2) -> &str
+    ensures { result.now ≡ rendering.source_of part.now }
+{
+    match part {
+        Part2::Method { source, .. } | Part2::Document { source, .. } => source.as_str(),
+        Part2::Folder(_) | Part2::UserFolder(_) => "",
+    }
+}
+
+// The template that the source of a published object is.
+#[tactic(auto, using(crate::proofs::PageSteps::read_so, crate::proofs::PageSteps::unread))]
+fn read_source(alloc: Global, oid: Oid, source: &str) -> Result<Tree, RenderRefusal>
+    ensures read { IfOk result (λ tree. template source.now ≡ Ok (tree_view tree)) }
+    ensures refused { IfErr result (λ e. (k : ℕ → Option (Seen ObjectValue)) (shown : List ShownValue) (renders : ℕ) (scope : names.Scope) (left : Left) → Told (values.told e) (looked k shown (rendering.source_text renders scope oid source.now left))) }
+{
+    template_reader_agrees();
+    match parse(alloc, source) {
+        Ok(tree) => Ok(tree),
+        Err(DtmlRefusal::Memory) => Err(RenderRefusal::Memory),
+        Err(refusal) => Err(RenderRefusal::BadSource(oid, refusal)),
+    }
+}
+
+// What is left to a page that has begun.
+fn whole_budget() -> Budget
+    ensures renders { result.renders ≡ 31 }
+    ensures left { left_of result ≡ pages.whole_budget }
+{
+    Budget {
+        tags: MOST_TAGS,
+        renders: MOST_INSIDE,
+        output: MOST_OUTPUT,
+    }
+}
+
+// The source of the published object, rendered.
+#[tactic(auto, using(crate::proofs::PageSteps::source_is))]
+fn source_page(
+    alloc: Global,
+    oid: Oid,
+    object: &Object,
+    known: &Known,
+    stack: &mut Stack,
+    budget: &mut Budget,
+) -> Result<Text, RenderRefusal>
+    requires renders { budget.old.renders ≡ 31 }
+    requires left { left_of budget.old ≡ pages.whole_budget }
+    ensures { Shows values.told (λ t. (t, left_of budget.new)) stack.new.shown result (looked (objects known.now) stack.old.shown (pages.source_page stack.old.scope oid object.now)) }
+{
+    let acting = acting(alloc, object)?;
+    let _former = stack.act(acting);
+    let tree = read_source(alloc, oid, source_of(&object.part))?;
+    render(alloc, &tree, stack, known, budget)
+}
+
+// The object, which its user must be granted to view.
+#[tactic(auto, using(dtml_values::specs::StepLaws::named_told))]
+fn open<'k>(oid: Oid, known: &'k Known, stack: &mut Stack) -> Result<&'k Object, RenderRefusal>
+    ensures is { Shows values.told (λ o. o.now) stack.new.shown result (looked (objects known.now) stack.old.shown (names.viewing (names.whose stack.old.scope) oid)) }
+    ensures scope { stack.new.scope ≡ stack.old.scope }
+{
+    let object = stack.open(known, oid)?;
+    Ok(object)
+}
+
+// The page of an object, and what is left then.
+fn scope_page(
+    alloc: Global,
+    oid: Oid,
+    known: &Known,
+    stack: &mut Stack,
+) -> Result<(Text, Budget), RenderRefusal>
+    ensures { Shows values.told (λ x. (x.0, left_of x.1)) stack.new.shown result (looked (objects known.now) stack.old.shown (pages.scope_page stack.old.scope oid)) }
+{
+    let object = open(oid, known, stack)?;
+    let mut budget = whole_budget();
+    let text = source_page(alloc, oid, object, known, stack, &mut budget)?;
+    Ok((text, budget))
+}
+
+fn copy_shown(alloc: Global, shown: &[Shown]) -> Result<ShownList, Memory>
+    ensures { IfOk result (λ copies. copies ≡ shown.now) }
+{
+    let mut copies = ShownList::new(alloc);
+    for object in shown {
+        copies.push(Shown {
+            oid: object.oid,
+            role: object.role.copy()?,
+        })?;
+    }
+    Ok(copies)
+}
+
+// The page of an object in the scope of a stack on which nothing was shown.
+#[tactic(auto, using(crate::proofs::PageSteps::page_done, crate::proofs::PageSteps::page_halts))]
+fn answer_in(
+    alloc: Global,
+    oid: Oid,
+    known: &Known,
+    stack: &mut Stack,
+) -> Result<Answer, SiteRefusal>
+    requires none_shown { stack.old.shown ≡ [] }
+    ensures { Answers told (λ a. a) result (comes_to known.now (spec.scope_answer stack.old.scope oid)) }
+{
+    let (text, _left) = scope_page(alloc, oid, known, stack)?;
+    let shown = copy_shown(alloc, stack.shown().as_slice())?;
+    Ok(Answer::Page(page_reply(text, shown)))
+}
+
+// The names of a request by a user.
+fn page_names(
+    alloc: Global,
+    request: &Request,
+    fields: &Fields,
+    user: &Who,
+) -> Result<Names, Memory>
+    ensures { IfOk result (λ names. names ≡ requests.request_names request.now user.now fields.now (cookies_of request.now)) }
+{
+    let cookies = cookies(alloc, request)?;
+    request_names(alloc, request, user, fields, &cookies)
+}
+
+// The page of an object for a user.
+fn page_for(
+    alloc: Global,
+    request: &Request,
+    fields: &Fields,
+    oid: Oid,
+    client: Wrapped,
+    known: &Known,
+    user: Who,
+) -> Result<Answer, SiteRefusal>
+    ensures { Answers told (λ a. a) result (comes_to known.now (spec.page_for request.now fields.now oid client user)) }
+{
+    let names = page_names(alloc, request, fields, &user)?;
+    let mut stack = Stack::new(alloc, user, client, names);
+    answer_in(alloc, oid, known, &mut stack)
+}
+
+/// The page of a published object.
+#[tactic(auto, using(crate::proofs::Steps::goes_so, crate::proofs::Steps::passes), unfolding(crate::specs::Site::page))]
+pub(crate) fn page(
+    alloc: Global,
+    request: &Request,
+    fields: &Fields,
+    credentials: Option<&(Text, Text)>,
+    oid: Oid,
+    client: Wrapped,
+    known: &Known,
+) -> Result<Answer, SiteRefusal>
+    ensures { Answers told (λ a. a) result (comes_to known.now (spec.page request.now fields.now (option_map (λ pair. pair.now) credentials.entry) oid client)) }
+{
+    let user = user(alloc, known, credentials, oid, VIEW)?;
+    page_for(alloc, request, fields, oid, client, known, user)
+}

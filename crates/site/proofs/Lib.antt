@@ -1,5 +1,0 @@
-mod Steps
-mod AccessLaws
-mod Learning
-mod Limiting
-mod PageSteps

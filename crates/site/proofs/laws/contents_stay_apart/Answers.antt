@@ -1,5 +1,0 @@
-use Rattle.site.proofs.AccessLaws.{stay_apart}
-use Rattle.site.proofs.laws.contents_stay_apart.Goals as goal
-
-pub returns : goal.returns
-returns c = stay_apart c.pages_are_their_users_own.ensures.own

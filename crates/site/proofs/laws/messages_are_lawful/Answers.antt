@@ -1,5 +1,0 @@
-use Rattle.site.specs.SiteLaws.{site_asks_few, site_changes, site_is_lawful, site_replies}
-use Rattle.site.proofs.laws.messages_are_lawful.Goals as goal
-
-pub returns : goal.returns
-returns c = record { lawful = site_is_lawful; few_asks = site_asks_few; changes = site_changes; replies = site_replies }

@@ -1,4 +1,0 @@
-use Rattle.site.proofs.site.limited.Goals as goal
-
-pub outcome_of-requires : goal.outcome_of-requires
-outcome_of-requires c = rw c.known.ensures c.requires

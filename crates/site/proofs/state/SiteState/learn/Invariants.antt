@@ -1,7 +1,0 @@
-use Rattle.std.proofs.Common.{◌≤◌, length, take}
-use Rattle.site.specs.Keeping.{Holds}
-use Rattle.site.proofs.state.SiteState.learn.Given as goal
-
--- the facts before this place are taken over
-abbrev pub invariant-loop-at : goal.invariant-loop-at
-invariant-loop-at l = (l.at ≤ length l.facts) × Holds l.self (take l.at l.facts)
