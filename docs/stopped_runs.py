@@ -254,17 +254,21 @@ def cells(request, known):
     return "change", b"", [(int(words[2], 16) if words[0] == b"copy" else None, data)]
 
 
+# the setting by which anyone is granted `Change DTML Documents`
+SETTINGS = number(1, 2) + number(6, 1) + number(0, 1) + number(1, 2) + number(9, 2) + b"Anonymous"
+DOCUMENT = b"Z2D" + number(1, 2) + b"a" + number(0) + number(0, 2) + SETTINGS + number(0, 2) * 2
+
+
 def document(source):
-    texts = number(0, 2) * 3
-    return b"Z1D" + number(1, 2) + b"a" + number(0) + number(0, 2) + texts + number(len(source), 4) + source
+    return DOCUMENT + number(len(source), 4) + source + number(0, 2)
 
 
 def pages(request, known):
-    """The small site: the page of the document `a`, and the edit of it."""
+    """A site in which anyone may edit the document `a`: its page, and the edit of it."""
     for oid in (0, 1):
         if oid not in known:
             return "need", oid
-    source = known[1][len(document(b"")) :]
+    source = known[1][len(DOCUMENT) + 4 : -2]
     if request.startswith(b"GET"):
         return "answer", source, "html", [(1, "Anonymous")]
     return "change", b"/a/manage_edit", [(1, document(request.partition(b"data=")[2]))]
@@ -557,7 +561,7 @@ def put_file(head, pieces, tables):
 
 T0 = 0x0331620000000000
 CELLS = b"FS21" + transaction(T0, b" ", b"", [record(1, T0, 0, 4, b"a"), record(2, T0, 0, 4, b"b")])
-FOLDER = b"Z1F" + number(0, 2) + number(0) + number(0, 2) * 4 + number(1, 2) + number(1, 2) + b"a" + number(1)
+FOLDER = b"Z2F" + number(0, 2) + number(0) + number(0, 2) * 4 + number(1, 2) + number(1, 2) + b"a" + number(1)
 SITE = b"FS21" + transaction(T0, b" ", b"", [record(0, T0, 0, 4, FOLDER), record(1, T0, 0, 4, document(b"hello"))])
 
 
@@ -591,7 +595,7 @@ class Words:
 
     def __init__(self, program):
         if program == "zope":
-            self.content, self.file, self.before = SITE, "hello", 4
+            self.content, self.file, self.before = SITE, "editable", 4
             self.write = lambda w: edit(w, b"hi")
             self.less = lambda w: edit(w, b"")
             self.read = get

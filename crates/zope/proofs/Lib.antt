@@ -10,3 +10,4 @@ pub mod Commands
 pub mod NoCauses
 pub mod Endings
 pub mod GivingUp
+pub mod Showing

@@ -11,4 +11,5 @@ pub mod Outside
 pub mod Causes
 pub mod Ends
 pub mod Worked
+pub mod Access
 pub mod EndLaws

@@ -1,0 +1,46 @@
+-- To whom a report shows what.
+--
+-- Zope Developer's Guide, "Security".
+use Rattle.std.specs.Prelude.{ℕ, ◌≡◌, List, [], ◌∷◌, ◌++◌, Some, None}
+use Rattle.std.specs.List.{AllByRecursion}
+use Rattle.zbase.specs.History.{History}
+use Rattle.zbase.specs.Values.{upto}
+use Rattle.permissions.specs.declared.who.Who.{Who}
+use Rattle.evaluator.specs.declared.outcome.Outcome.{Outcome}
+use Rattle.evaluator.specs.declared.reply.Denial.{Denial}
+use Rattle.evaluator.specs.declared.reply.Mark.{Mark}
+use Rattle.evaluator.specs.declared.reply.Reply.{Reply}
+use Rattle.evaluator.specs.Exec.{exec}
+use Rattle.http_in.specs.declared.message.Message.{Message}
+use Rattle.http_in.specs.declared.message.Message.TheVariants.{Whole, Refused}
+use Rattle.http_out.specs.Replies.{answer}
+use Rattle.schedule.specs.declared.line.Line.{Line}
+use Rattle.schedule.specs.Causes.{denied_line, shown_lines}
+use Rattle.schedule.specs.Courses.{Place}
+use Rattle.publisher.specs.Access.{IsDeniedTo, IsItsUser, ShowsRightly, objects_in}
+use Rattle.publisher.specs.Site.{site}
+
+-- What a reply over a history shows was granted, and all whose contents the page uses is shown; what it denies isn't granted. A
+-- refused message shows and denies nothing.
+abbrev pub AnswersRightly : History → Message → Reply → Type 0
+AnswersRightly h (Whole q) x =
+    (x.status ≡ 200 → ShowsRightly (objects_in h) q x)
+    × ((d : Denial) → x.denied ≡ Some d → (user : Who) × IsItsUser (objects_in h) q user × IsDeniedTo (objects_in h) user d)
+AnswersRightly h (Refused cause) x = (x.shown ≡ []) × (x.denied ≡ None)
+
+-- These bytes are the reply to a message over the history up to t, and these lines behind it tell what it shows and denies,
+-- rightly.
+pub record TellsRightly (h : History) (w t : ℕ) (bytes : List ℕ) (lines : List Line) : Type 0 where
+  pub message : Message
+  pub reply : Reply
+  pub read : exec site (upto h t) message ≡ Outcome.Answer reply
+  pub written : bytes ≡ answer reply (Mark.Read t)
+  pub told : lines ≡ shown_lines w reply ++ denied_line w reply.denied
+  pub rightly : AnswersRightly (upto h t) message reply
+
+-- at a place of a run that prints a reading reply, that reply and the lines behind it are right
+abbrev pub ShowsRightlyAt : History → Place Message → Type 0
+ShowsRightlyAt h p = (w t : ℕ) (bytes : List ℕ) (lines : List Line) → p.lines ≡ Line.ReplyRead w t bytes ∷ lines → TellsRightly h w t bytes lines
+
+abbrev pub AllShowRightly : History → List (Place Message) → Type 0
+AllShowRightly h places = AllByRecursion (ShowsRightlyAt h) places
