@@ -40,7 +40,7 @@ def fed_by_bytes(words, text):
 def main():
     demo = HOME / "demo"
     # builds the program where that is due
-    with open(demo / "site.schedule", "rb") as lines:
+    with open(demo / "pages.schedule", "rb") as lines:
         subprocess.run([PROGRAM, "replay", demo / "site.fs"], stdin=lines, stdout=subprocess.DEVNULL, check=True)
     with tempfile.TemporaryDirectory() as folder:
         file, lines = pathlib.Path(folder) / "site.fs", pathlib.Path(folder) / "site.schedule"

@@ -110,7 +110,7 @@ def main():
     options.add_argument("--rounds", type=int, default=5)
     given = options.parse_args()
     # builds the program where that is due
-    subprocess.run([PROGRAM, "replay", HOME / "demo" / "site.fs"], stdin=open(HOME / "demo" / "site.schedule", "rb"), stdout=subprocess.DEVNULL, check=True)
+    subprocess.run([PROGRAM, "replay", HOME / "demo" / "site.fs"], stdin=open(HOME / "demo" / "pages.schedule", "rb"), stdout=subprocess.DEVNULL, check=True)
     with tempfile.TemporaryDirectory() as folder_name:
         at = pathlib.Path(folder_name)
         write_site(at / "site.fs", given.transactions, given.size)
