@@ -14,6 +14,7 @@ use Rattle.permissions.specs.Users.{Credentials, who}
 use Rattle.permissions.specs.Verdicts.{verdict_on}
 use Rattle.user_folder.specs.Credentials.{credentials_of}
 use Rattle.evaluator.specs.declared.ask.Ask.{Ask}
+use Rattle.evaluator.specs.declared.draft.Draft.{Draft}
 use Rattle.evaluator.specs.declared.fact.Fact.{Fact}
 use Rattle.evaluator.specs.declared.outcome.Outcome.{Outcome}
 use Rattle.evaluator.specs.declared.reply.Reply.{Reply}
@@ -27,6 +28,11 @@ use Rattle.form_fields.specs.Cookies.{cookies_of}
 use Rattle.form_fields.specs.Fields.{fields_of}
 use Rattle.http_in.specs.declared.message.Message.TheVariants.{Whole}
 use Rattle.http_in.specs.declared.message.Request.{Request}
+use Rattle.manage.specs.declared.call.Call.{Call}
+use Rattle.manage.specs.declared.changes.Change.{Change}
+use Rattle.manage.specs.Calling.{permission_at}
+use Rattle.manage.specs.Calls.{call_named}
+use Rattle.manage.specs.Changing.{change as call_change}
 use Rattle.namespace.specs.LookLaws.{IsShown, Same, Views}
 use Rattle.namespace.specs.Looks.{veiled, view}
 use Rattle.namespace.specs.Requests.{request_names}
@@ -37,7 +43,7 @@ use Rattle.dtml_render.specs.Access.{HasProxyRoles, NoneHasProxyRoles}
 use Rattle.publisher.specs.Comes.{Tells}
 use Rattle.publisher.specs.Pages.{page_text}
 use Rattle.publisher.specs.Replies.{by_verb, runaway_facts}
-use Rattle.publisher.specs.Site.{authorization, seen, site}
+use Rattle.publisher.specs.Site.{authorization, draft_of, seen, site}
 
 -- the objects that facts show
 abbrev pub shown_by : (Ask → Option Fact) → ℕ → Option (Seen Object)
@@ -92,6 +98,34 @@ IsItsUser k q user = (credentials : Option Credentials) × (o : ℕ) × (permiss
 -- What is denied is denied to the user of the request, or to someone who has the proxy roles of an object.
 abbrev pub RefusalsAreDenied : Type 0
 RefusalsAreDenied = (known : Ask → Option Fact) (q : Request) (x : Reply) (d : Denial) → Tells known → site known (Whole q) ≡ Outcome.Answer x → x.denied ≡ Some d → (user : Who) × IsItsUser (shown_by known) q user × IsDeniedTo (shown_by known) user d
+
+-- ---- changes
+
+-- A change was granted: the path leads to a call on an object, which needs this permission there, this is the user of the
+-- request, to whom it is granted, and what is written is the call's change, told as his.
+pub record IsGrantedChange (k : ℕ → Option (Seen Object)) (q : Request) (d : Draft) : Type 0 where
+  pub fields : List Field
+  pub read : fields_of q ≡ Ok fields
+  pub credentials : Option Credentials
+  pub carried : credentials_of (authorization q) ≡ Ok credentials
+  pub name : List ℕ
+  pub on : List ℕ
+  pub target : run (veiled k) (published q.path) ≡ Ok (targets.Call name on)
+  pub call : Call
+  pub named : call_named name ≡ Some call
+  pub permission : ℕ
+  pub needed : run (veiled k) (permission_at call q.method (first on)) ≡ Ok permission
+  pub user : Who
+  pub is_user : run (veiled k) (who credentials (first on) permission) ≡ Ok user
+  pub role : List ℕ
+  pub granted : run (veiled k) (verdict_on user (first on) permission) ≡ Ok (Granted role)
+  pub change : Change
+  pub changed : run k (call_change call (first on) fields) ≡ Ok change
+  pub told : d ≡ draft_of q user change
+
+-- Each change was granted.
+abbrev pub ChangesAreGranted : Type 0
+ChangesAreGranted = (known : Ask → Option Fact) (q : Request) (x : Reply) (d : Draft) → Tells known → site known (Whole q) ≡ Outcome.Change x d → IsGrantedChange (shown_by known) q d
 
 -- ---- contents stay apart
 

@@ -8,7 +8,7 @@ ghost use Rattle.evaluator.specs.Change.{IsChange, IsReply};
 ghost use Rattle.evaluator.specs.Exec.{IsLawful, IsTrail, most_asks};
 ghost use Rattle.evaluator.specs.Facts.{look};
 ghost use Rattle.http_in.specs.declared.message.Message.{Message};
-ghost use Rattle.publisher.specs.Access.{ContentsStayApart, PagesShowRightly, RefusalsAreDenied};
+ghost use Rattle.publisher.specs.Access.{ChangesAreGranted, ContentsStayApart, PagesShowRightly, RefusalsAreDenied};
 ghost use Rattle.publisher.specs.Site.{site};
 
 use dtml_render::{pages_are_for_their_users, pages_are_their_users_own};
@@ -33,6 +33,12 @@ pub fn pages_show_rightly()
 {
     pages_are_for_their_users();
 }
+
+/// Each change is that of a call on the object to which the path leads, by the request's user, to whom the permission is granted
+/// that the call needs there.
+pub fn changes_are_granted()
+    ensures { ChangesAreGranted }
+{}
 
 /// Contents that a user may not view make no difference to his pages: over two histories that differ at their ends in such
 /// contents alone, where no object has proxy roles, a request for a page has one reply, unless one of both has too much to

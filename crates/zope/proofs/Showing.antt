@@ -1,8 +1,9 @@
--- What the reading replies of a run show.
-use Rattle.std.proofs.Common.{ℕ, ◌≡◌, List, [], ◌∷◌, Option, refl, subst}
-use Rattle.zbase.specs.History.{History}
-use Rattle.zbase.specs.Values.{upto}
+-- What the reading replies of a run show, and that its changes were granted.
+use Rattle.std.proofs.Common.{ℕ, ◌≡◌, ◌⊎◌, inl, inr, List, [], ◌∷◌, Option, Some, refl, subst}
+use Rattle.zbase.specs.History.{History, Transaction, added}
+use Rattle.zbase.specs.Values.{before, upto}
 use Rattle.evaluator.specs.declared.ask.Ask.{Ask}
+use Rattle.evaluator.specs.declared.draft.Draft.{Draft}
 use Rattle.evaluator.specs.declared.outcome.Outcome.{Outcome}
 use Rattle.evaluator.specs.declared.reply.Reply.{Reply}
 use Rattle.evaluator.specs.Exec.{exec}
@@ -15,13 +16,13 @@ use Rattle.http_in.specs.Messages.{one_message}
 use Rattle.schedule.specs.declared.line.Line.{Line}
 use Rattle.schedule.specs.Courses.{Place, request_of, worker_of}
 use Rattle.schedule.specs.Moments.{Moment, doing}
-use Rattle.schedule.specs.Right.{AreRight, RightReply}
-use Rattle.publisher.specs.Access.{PagesShowRightly, RefusalsAreDenied}
+use Rattle.schedule.specs.Right.{AreRight, RightGrowth, RightReply}
+use Rattle.publisher.specs.Access.{ChangesAreGranted, PagesShowRightly, RefusalsAreDenied}
 use Rattle.publisher.specs.Comes.{history_tells}
 use Rattle.publisher.specs.Replies.{message_reply}
 use Rattle.publisher.specs.Site.{site}
 use Rattle.replay.specs.Printed.{terms_of}
-use Rattle.zope.specs.Access.{AllShowRightly, AnswersRightly, ShowsRightlyAt, TellsRightly}
+use Rattle.zope.specs.Access.{AllGrowRightly, AllShowRightly, AnswersRightly, ChangesRightly, IsGranted, TellsRightly}
 
 -- a refused message shows and denies nothing
 plain : (h : History) (cause : HttpRefusal) (x : Reply) → message_reply cause ≡ x → AnswersRightly h (Refused cause) x
@@ -52,4 +53,24 @@ module _ (shows : PagesShowRightly) (denies : RefusalsAreDenied) where
   all_rightly limit end (p ∷ places) last right = (
     λ w t bytes lines e. at limit end last.standing (request_of (doing p.before (worker_of p.item))) p.lines w t bytes lines right.0.reply e,
     all_rightly limit end places last right.1,
+  )
+
+module _ (grants : ChangesAreGranted) where
+  changes_rightly : (h : History) (message : Message) (x : Reply) (d : Draft) → exec site h message ≡ Outcome.Change x d → ChangesRightly h message d
+  changes_rightly h (Whole q) x d e = grants (λ ask. Some (fact h ask)) q x d (history_tells h) e
+  changes_rightly h (Refused cause) x d e = absurd (let bad = e in cc)
+
+  grows : (limit end : ℕ) (h : History) (q : Option Message) (old new : History) → RightGrowth (terms_of one_message site limit end) h q old new → (new ≡ old) ⊎ ((t : Transaction) × (new ≡ added old t) × IsGranted h t)
+  grows limit end h q old new (inl same) = inl same
+  grows limit end h q old new (inr (message, of_worker, x, t, made, grown)) = inr (
+    t,
+    grown,
+    record { message = message; reply = x; draft = made.draft; change = made.change; stands = made.stands; granted = changes_rightly (before h t.tid) message x made.draft made.change },
+  )
+
+  pub all_grow : (limit end : ℕ) (places : List (Place Message)) (last : Moment Message) → AreRight (terms_of one_message site limit end) places last → AllGrowRightly last.standing places
+  all_grow limit end [] last right = tt
+  all_grow limit end (p ∷ places) last right = (
+    grows limit end last.standing (request_of (doing p.before (worker_of p.item))) p.before.standing p.after.standing right.0.growth,
+    all_grow limit end places last right.1,
   )

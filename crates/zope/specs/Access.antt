@@ -1,23 +1,25 @@
--- To whom a report shows what.
+-- To whom a report shows what, and who may change what.
 --
 -- Zope Developer's Guide, "Security".
-use Rattle.std.specs.Prelude.{ℕ, ◌≡◌, List, [], ◌∷◌, ◌++◌, Some, None}
+use Rattle.std.specs.Prelude.{ℕ, ◌≡◌, ◌⊎◌, List, [], ◌∷◌, ◌++◌, Some, None}
 use Rattle.std.specs.List.{AllByRecursion}
-use Rattle.zbase.specs.History.{History}
-use Rattle.zbase.specs.Values.{upto}
+use Rattle.zbase.specs.History.{History, Transaction, added}
+use Rattle.zbase.specs.Values.{before, transaction, upto}
 use Rattle.permissions.specs.declared.who.Who.{Who}
+use Rattle.evaluator.specs.declared.draft.Draft.{Draft}
 use Rattle.evaluator.specs.declared.outcome.Outcome.{Outcome}
 use Rattle.evaluator.specs.declared.reply.Denial.{Denial}
 use Rattle.evaluator.specs.declared.reply.Mark.{Mark}
 use Rattle.evaluator.specs.declared.reply.Reply.{Reply}
 use Rattle.evaluator.specs.Exec.{exec}
+use Rattle.evaluator.specs.Settle.{settle}
 use Rattle.http_in.specs.declared.message.Message.{Message}
 use Rattle.http_in.specs.declared.message.Message.TheVariants.{Whole, Refused}
 use Rattle.http_out.specs.Replies.{answer}
 use Rattle.schedule.specs.declared.line.Line.{Line}
 use Rattle.schedule.specs.Causes.{denied_line, shown_lines}
 use Rattle.schedule.specs.Courses.{Place}
-use Rattle.publisher.specs.Access.{IsDeniedTo, IsItsUser, ShowsRightly, objects_in}
+use Rattle.publisher.specs.Access.{IsDeniedTo, IsGrantedChange, IsItsUser, ShowsRightly, objects_in}
 use Rattle.publisher.specs.Site.{site}
 
 -- What a reply over a history shows was granted, and all whose contents the page uses is shown; what it denies isn't granted. A
@@ -42,5 +44,30 @@ pub record TellsRightly (h : History) (w t : ℕ) (bytes : List ℕ) (lines : Li
 abbrev pub ShowsRightlyAt : History → Place Message → Type 0
 ShowsRightlyAt h p = (w t : ℕ) (bytes : List ℕ) (lines : List Line) → p.lines ≡ Line.ReplyRead w t bytes ∷ lines → TellsRightly h w t bytes lines
 
+-- ---- changes
+
+-- the change of a message over a history was granted; a refused message has none
+abbrev pub ChangesRightly : History → Message → Draft → Type 0
+ChangesRightly h (Whole q) d = IsGrantedChange (objects_in h) q d
+ChangesRightly h (Refused cause) d = ⊥
+
+-- the transaction is what a message makes of the part before it, by a change that was granted there
+pub record IsGranted (h : History) (t : Transaction) : Type 0 where
+  pub message : Message
+  pub reply : Reply
+  pub draft : Draft
+  pub change : exec site (before h t.tid) message ≡ Outcome.Change reply draft
+  pub stands : transaction h t.tid ≡ Some (settle (before h t.tid) draft t.tid)
+  pub granted : ChangesRightly (before h t.tid) message draft
+
+-- at a place of a run the history grows by nothing, or by a transaction whose change was granted
+abbrev pub GrowsRightlyAt : History → Place Message → Type 0
+GrowsRightlyAt h p = (p.after.standing ≡ p.before.standing) ⊎ ((t : Transaction) × (p.after.standing ≡ added p.before.standing t) × IsGranted h t)
+
+-- ---- all places of a run
+
 abbrev pub AllShowRightly : History → List (Place Message) → Type 0
 AllShowRightly h places = AllByRecursion (ShowsRightlyAt h) places
+
+abbrev pub AllGrowRightly : History → List (Place Message) → Type 0
+AllGrowRightly h places = AllByRecursion (GrowsRightlyAt h) places

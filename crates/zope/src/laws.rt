@@ -1,12 +1,12 @@
 ghost use Rattle.std.specs.Prelude.{◌≡◌, ℕ, List, Option};
 ghost use Rattle.schedule.specs.declared.item.Item2.{Item2};
-ghost use Rattle.zope.specs.Access.{AllShowRightly};
+ghost use Rattle.zope.specs.Access.{AllGrowRightly, AllShowRightly};
 ghost use Rattle.zope.specs.Ends.{Ends};
 ghost use Rattle.zope.specs.Replayed.{Explains};
 ghost use Rattle.zope.specs.Worked.{checking, untouched};
 
 use fs_record::one_opening;
-use publisher::pages_show_rightly;
+use publisher::{changes_are_granted, pages_show_rightly};
 use schedule::{one_bad_line, one_schedule};
 
 /// A run that gives up at once isn't one that ends: over a file that opens, where nothing fails, no status but want of
@@ -22,9 +22,12 @@ pub fn giving_up_is_refuted()
 /// Of what a replay prints, each reading reply and the lines behind it are right: a page with status 200 shows each object
 /// whose title, source or property it uses, and each that it shows was granted to its user, or to someone who has the proxy
 /// roles of an object, by the role that its line tells; what a `denied` line names isn't granted. All this by the objects of
-/// the history up to the transaction that the reply names.
-pub fn replayed_pages_show_rightly()
-    ensures { (limit : ℕ) (bytes : List ℕ) (items : List Item2) (old new : Option (List ℕ)) (did : Explains limit bytes items old new) → AllShowRightly did.explained.end.standing did.explained.trace }
+/// the history up to the transaction that the reply names. And each transaction by which its history grew, acknowledged or
+/// not, is the change of a call whose permission its user was granted before it.
+pub fn replays_keep_access()
+    ensures shown { (limit : ℕ) (bytes : List ℕ) (items : List Item2) (old new : Option (List ℕ)) (did : Explains limit bytes items old new) → AllShowRightly did.explained.end.standing did.explained.trace }
+    ensures changed { (limit : ℕ) (bytes : List ℕ) (items : List Item2) (old new : Option (List ℕ)) (did : Explains limit bytes items old new) → AllGrowRightly did.explained.end.standing did.explained.trace }
 {
     pages_show_rightly();
+    changes_are_granted();
 }

@@ -12,5 +12,5 @@ mod refusal;
 mod replaying;
 mod top;
 
-pub use laws::{giving_up_is_refuted, replayed_pages_show_rightly};
+pub use laws::{giving_up_is_refuted, replays_keep_access};
 pub use top::{Status, run};

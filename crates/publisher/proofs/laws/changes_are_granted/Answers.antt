@@ -1,0 +1,5 @@
+use Rattle.publisher.proofs.AccessLaws.{are_granted}
+use Rattle.publisher.proofs.laws.changes_are_granted.Goals as goal
+
+pub returns : goal.returns
+returns c = are_granted
