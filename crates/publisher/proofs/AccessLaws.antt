@@ -409,7 +409,7 @@ module _ (k : ℕ → Option (Seen Object)) where
       let user = came k (by_shapes faults.User (who credentials o permission.0)) (change_for q fields call o permission.0) (answer.Change y d) permission.2 in
       let v = came k (by_shapes faults.User (verdict_on user.0 o permission.0)) (where_granted o permission.0 (change_by q fields call o user.0)) (answer.Change y d) user.2 in
       let granted = granted_came o permission.0 (change_by q fields call o user.0) v.0 y d v.2 in
-      let c = came k (or_else faults.Call (change call o fields)) (changed q user.0) (answer.Change y d) granted.2.1 in
+      let c = came k (or_else faults.Call (change call o fields)) (changed q user.0) (answer.Change y d) granted.2 in
       record {
         fields = fields;
         read = read;
