@@ -25,14 +25,17 @@ use Rattle.replay.specs.Printed.{terms_of}
 use Rattle.zope.specs.Access.{AllGrowRightly, AllShowRightly, AnswersRightly, ChangesRightly, IsGranted, TellsRightly}
 
 -- a refused message shows and denies nothing
-plain : (h : History) (cause : HttpRefusal) (x : Reply) → message_reply cause ≡ x → AnswersRightly h (Refused cause) x
-plain h messages.HeadTooLarge _ refl = (refl, refl)
-plain h messages.BadHead _ refl = (refl, refl)
-plain h messages.Method _ refl = (refl, refl)
-plain h messages.PathTooLong _ refl = (refl, refl)
-plain h messages.Chunked _ refl = (refl, refl)
-plain h messages.BodyTooLarge _ refl = (refl, refl)
-plain h messages.Multipart _ refl = (refl, refl)
+silent : (h : History) (cause : HttpRefusal) → AnswersRightly h (Refused cause) (message_reply cause)
+silent h messages.HeadTooLarge = (refl, refl)
+silent h messages.BadHead = (refl, refl)
+silent h messages.Method = (refl, refl)
+silent h messages.PathTooLong = (refl, refl)
+silent h messages.Chunked = (refl, refl)
+silent h messages.BodyTooLarge = (refl, refl)
+silent h messages.Multipart = (refl, refl)
+
+answer_is : (x y : Reply) → Outcome.Answer x ≡ Outcome.Answer y → x ≡ y
+answer_is x y e = cc
 
 module _ (shows : PagesShowRightly) (denies : RefusalsAreDenied) where
   rightly : (h : History) (message : Message) (x : Reply) → exec site h message ≡ Outcome.Answer x → AnswersRightly h message x
@@ -40,7 +43,7 @@ module _ (shows : PagesShowRightly) (denies : RefusalsAreDenied) where
     shows (λ ask. Some (fact h ask)) q x (history_tells h) e,
     λ d denied. denies (λ ask. Some (fact h ask)) q x d (history_tells h) e denied,
   )
-  rightly h (Refused cause) x e = plain h cause x (let same = e in cc)
+  rightly h (Refused cause) x e = subst (λ (y : Reply). AnswersRightly h (Refused cause) y) (answer_is (message_reply cause) x e) (silent h cause)
 
   at : (limit end : ℕ) (h : History) (q : Option Message) (all : List Line) (w t : ℕ) (bytes : List ℕ) (lines : List Line) → RightReply (terms_of one_message site limit end) h q all → all ≡ Line.ReplyRead w t bytes ∷ lines → TellsRightly h w t bytes lines
   at limit end h q all w t bytes lines right e =
