@@ -13,4 +13,5 @@ mod showing;
 
 pub use dtml_values::{Budget, Limit, RenderRefusal};
 pub use laws::{pages_are_for_their_users, pages_are_their_users_own, pages_show_what_is_granted};
+pub use reading::{read_source, source_of};
 pub use rendering::render;

@@ -16,10 +16,21 @@ use dtml_parse::{Tree, parse, template_reader_agrees};
 use dtml_values::RenderRefusal;
 use std::alloc::Global;
 use zbase::Oid;
+use zobject::Part2;
 
-/// The template that an object's source is.
+/// The source of a method or a document; of any other object there is none.
+pub fn source_of(part: &Part2) -> &str
+    ensures { result.now ≡ rendering.source_of part.now }
+{
+    match part {
+        Part2::Method { source, .. } | Part2::Document { source, .. } => source.as_str(),
+        Part2::Folder(_) | Part2::UserFolder(_) => "",
+    }
+}
+
+/// The template that an object's source is, or why a page with it has no text.
 #[tactic(auto, using(crate::proofs::Steps::refused_so))]
-pub(crate) fn read_source(alloc: Global, oid: Oid, source: &str) -> Result<Tree, RenderRefusal>
+pub fn read_source(alloc: Global, oid: Oid, source: &str) -> Result<Tree, RenderRefusal>
     ensures read { IfOk result (λ tree. template source.now ≡ Ok (view tree)) }
     ensures refused { IfErr result (λ e. (k : ℕ → Option (Seen Object)) (shown : List Shown) (renders : ℕ) (scope : Scope) (left : Left) → Told (told e) (looked k shown (rendering.source_text renders scope oid source.now left))) }
 {

@@ -15,7 +15,7 @@ ghost use Rattle.dtml_render.specs.Told.{KeepsUnder};
 
 use crate::asking::{cut, find, has_turn, open, sourced};
 use crate::items::{item_names, one_name, turned};
-use crate::reading::read_source;
+use crate::reading::{read_source, source_of};
 use crate::showing::{name_of, put_value};
 use acquisition::Wrapped;
 use dtml_parse::{Arg, Arm, Binding, Node, Tree, VarTag};
@@ -620,15 +620,6 @@ fn inside(
     let result = pushed(alloc, object, &whole.part, known, stack, budget);
     let _acted = stack.act(former);
     result
-}
-
-fn source_of(part: &Part2) -> &str
-    ensures { result.now ≡ rendering.source_of part.now }
-{
-    match part {
-        Part2::Method { source, .. } | Part2::Document { source, .. } => source.as_str(),
-        Part2::Folder(_) | Part2::UserFolder(_) => "",
-    }
 }
 
 // A source, with its document pushed.

@@ -1,16 +1,11 @@
 -- The steps of a page: its published object, its template, and its text.
-use Rattle.std.proofs.Common.{ℕ, zero, suc, ◌≡◌, ◌∙◌, sym, ap, subst, List, [], length, Option, Result, Ok, Err, arith}
-use Rattle.std.specs.Str.{IsUtf8}
-use Rattle.zbase.specs.Query.{Halt, Cause, Told, or_else}
+use Rattle.std.proofs.Common.{ℕ, suc, ◌≡◌, ◌∙◌, sym, ap, subst, List, [], Option, Result, Ok}
+use Rattle.zbase.specs.Query.{Halt, Told, or_else}
 use Rattle.zobject.specs.declared.object.Object.{Object}
 use Rattle.zknown.specs.declared.kept.Kept.{Kept}
 use Rattle.zknown.specs.Seen.{Seen, objects}
 use Rattle.evaluator.specs.declared.reply.Shown.{Shown}
-use Rattle.dtml_lex.specs.declared.refusal.DtmlRefusal.{DtmlRefusal}
-use Rattle.dtml_lex.specs.declared.refusal.DtmlRefusal.TheVariants.{Memory}
-use Rattle.dtml_parse.specs.Grammar.{Reads}
-use Rattle.dtml_parse.specs.Refusals.{Refuses}
-use Rattle.dtml_parse.specs.TreeReading.{ReadsRefusals, ReadsTrees, template}
+use Rattle.dtml_parse.specs.TreeReading.{template}
 use Rattle.dtml_parse.specs.Trees.{Items}
 use Rattle.dtml_values.specs.Values.{Left}
 use Rattle.dtml_render.specs.Rendering.{or_bad, source_text, tree_text, whole_text}
@@ -18,7 +13,7 @@ use Rattle.dtml_values.specs.StepLaws.{stops}
 use Rattle.dtml_values.specs.Told as values
 use Rattle.dtml_values.specs.declared.refusal.RenderRefusal.{RenderRefusal}
 use Rattle.namespace.specs.LookLaws.{looked_goes}
-use Rattle.namespace.specs.Looks.{BadSource, Fault, Of, Renders, Runaway, Stops, looked, taken, through}
+use Rattle.namespace.specs.Looks.{Fault, looked, taken, through}
 use Rattle.namespace.specs.Names.{Scope, viewing, whose}
 use Rattle.publisher.specs.declared.answer.Answer.TheVariants as answer
 use Rattle.publisher.specs.declared.refusal.SiteRefusal.TheVariants as refusals
@@ -28,21 +23,6 @@ use Rattle.publisher.specs.Pages.{scope_page, source_page}
 use Rattle.publisher.specs.Replies.{page_reply}
 use Rattle.publisher.specs.Site.{scope_answer, shown_page}
 use Rattle.publisher.proofs.Steps.{goes, pages_are, pages_stop, passes}
-
--- a source that is a template
-pub read_so : ReadsTrees → (source : List ℕ) (tree : Items) → IsUtf8 source → Reads source tree → template source ≡ Ok tree
-read_so reads source tree utf8 is = (reads source (length source) tree utf8 (omega arith)).1 is
-
-unread_at : (k : ℕ → Option (Seen Object)) (shown : List Shown) (renders : ℕ) (scope : Scope) (o : ℕ) (source : List ℕ) (left : Left) (refusal : DtmlRefusal) → template source ≡ Err refusal →
-    looked k shown (source_text renders scope o source left) ≡ Err (Cause (Of (BadSource o refusal)))
-unfolding source_text
-unread_at k shown zero scope o source left refusal e = ap (λ r. looked k shown (or_bad o (λ tree. Stops (Runaway Renders)) r)) e
-unread_at k shown (suc renders) scope o source left refusal e = ap (λ r. looked k shown (or_bad o (λ tree. whole_text (source_text renders) scope tree left) r)) e
-
--- one that is none
-pub unread : ReadsRefusals → (k : ℕ → Option (Seen Object)) (shown : List Shown) (renders : ℕ) (scope : Scope) (o : ℕ) (source : List ℕ) (left : Left) (refusal : DtmlRefusal) → IsUtf8 source → Refuses source refusal → (refusal ≡ Memory → ⊥) →
-    looked k shown (source_text renders scope o source left) ≡ Err (Cause (Of (BadSource o refusal)))
-unread refuses k shown renders scope o source left refusal utf8 is not = unread_at k shown renders scope o source left refusal ((refuses source (length source) refusal utf8 (omega arith)).1 (is, not))
 
 -- a template that was read is rendered
 pub source_is : (k : ℕ → Option (Seen Object)) (shown : List Shown) (renders : ℕ) (scope : Scope) (o : ℕ) (source : List ℕ) (left : Left) (tree : Items) → template source ≡ Ok tree →

@@ -1,16 +1,10 @@
-ghost use Rattle.std.specs.Prelude.{◌≡◌, [], List, ℕ, IfErr, IfOk, Ok, Option, option_map};
-ghost use Rattle.zbase.specs.Query.{Answers, Told};
+ghost use Rattle.std.specs.Prelude.{◌≡◌, [], IfOk, option_map};
+ghost use Rattle.zbase.specs.Query.{Answers};
 ghost use Rattle.zobject.specs.Shapes.{shape_of};
-ghost use Rattle.zobject.specs.declared.object.Object.{Object as ObjectValue};
-ghost use Rattle.zknown.specs.Seen.{Seen, objects};
-ghost use Rattle.evaluator.specs.declared.reply.Shown.{Shown as ShownValue};
+ghost use Rattle.zknown.specs.Seen.{objects};
 ghost use Rattle.permissions.specs.Verdicts.{proxy_user};
-ghost use Rattle.dtml_parse.specs.TreeReading.{template};
-ghost use Rattle.dtml_parse.specs.Views.{view as tree_view};
-ghost use Rattle.dtml_render.specs.Rendering as rendering;
 ghost use Rattle.dtml_values.specs.Told as values;
 ghost use Rattle.dtml_values.specs.Told.{left_of};
-ghost use Rattle.dtml_values.specs.Values.{Left};
 ghost use Rattle.namespace.specs.Looks.{looked};
 ghost use Rattle.namespace.specs.Names as names;
 ghost use Rattle.namespace.specs.Requests as requests;
@@ -25,9 +19,7 @@ use crate::asking::user;
 use crate::refusal::SiteRefusal;
 use crate::replies::page_reply;
 use acquisition::Wrapped;
-use dtml_lex::DtmlRefusal;
-use dtml_parse::{Tree, parse, template_reader_agrees};
-use dtml_render::{Budget, RenderRefusal, render};
+use dtml_render::{Budget, RenderRefusal, read_source, render, source_of};
 use evaluator::{Shown, ShownList};
 use form_fields::{Fields, cookies};
 use http_in::Request;
@@ -36,7 +28,7 @@ use permissions::{Who, acting};
 use std::alloc::Global;
 use zbase::{Memory, Oid, Text};
 use zknown::Known;
-use zobject::{Object, Part2};
+use zobject::Object;
 
 /// The permission `View`.
 const VIEW: u8 = 1;
@@ -49,29 +41,6 @@ const MOST_INSIDE: u32 = 31;
 
 /// How many bytes of text a page may make.
 const MOST_OUTPUT: u32 = 1_048_576;
-
-fn source_of(part: &Part2) -> &str
-    ensures { result.now ≡ rendering.source_of part.now }
-{
-    match part {
-        Part2::Method { source, .. } | Part2::Document { source, .. } => source.as_str(),
-        Part2::Folder(_) | Part2::UserFolder(_) => "",
-    }
-}
-
-// The template that the source of a published object is.
-#[tactic(auto, using(crate::proofs::PageSteps::read_so, crate::proofs::PageSteps::unread))]
-fn read_source(alloc: Global, oid: Oid, source: &str) -> Result<Tree, RenderRefusal>
-    ensures read { IfOk result (λ tree. template source.now ≡ Ok (tree_view tree)) }
-    ensures refused { IfErr result (λ e. (k : ℕ → Option (Seen ObjectValue)) (shown : List ShownValue) (renders : ℕ) (scope : names.Scope) (left : Left) → Told (values.told e) (looked k shown (rendering.source_text renders scope oid source.now left))) }
-{
-    template_reader_agrees();
-    match parse(alloc, source) {
-        Ok(tree) => Ok(tree),
-        Err(DtmlRefusal::Memory) => Err(RenderRefusal::Memory),
-        Err(refusal) => Err(RenderRefusal::BadSource(oid, refusal)),
-    }
-}
 
 // What is left to a page that has begun.
 fn whole_budget() -> Budget
