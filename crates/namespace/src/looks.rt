@@ -15,9 +15,9 @@ ghost use Rattle.namespace.specs.Told.{told, OnlyAnswers, Shows};
 use crate::refusal::NameRefusal;
 use crate::showing::Showing;
 use acquisition::{Wrapped, here};
-use permissions::{Verdict, Who, verdict_on};
+use permissions::{GrantedRole, Verdict, Who, verdict_on};
 use std::alloc::Global;
-use zbase::{Memory, Oid, Text};
+use zbase::{Memory, Oid};
 use zknown::Known;
 use zobject::Object;
 
@@ -87,7 +87,7 @@ pub(crate) fn view_role(
     known: &Known,
     who: &Who,
     oid: Oid,
-) -> Result<Text, NameRefusal>
+) -> Result<GrantedRole, NameRefusal>
     ensures ok { IfOk result (λ role. run (objects known.now) (outlined (verdict_on who.now oid looks.view)) ≡ Ok (verdicts.Granted role)) }
     ensures err { IfErr result (λ e. (shown : List ShownObject) → Told (told e) (looked (objects known.now) shown (spec.viewing who.now oid))) }
 {
@@ -112,18 +112,24 @@ pub(crate) fn view<'k>(
 {
     let role = view_role(alloc, known, who, oid)?;
     let object = here(known, oid)?;
-    shown.take(oid, role)?;
+    shown.take(alloc, oid, role)?;
     Ok(object)
 }
 
-fn offered(who: &Who, shown: &mut Showing, oid: Oid, verdict: Verdict) -> Result<bool, NameRefusal>
+fn offered(
+    alloc: Global,
+    who: &Who,
+    shown: &mut Showing,
+    oid: Oid,
+    verdict: Verdict,
+) -> Result<bool, NameRefusal>
     ensures is { (known : ℕ → Option (Seen ObjectValue)) → Shows told (λ b. b) shown.new result (run known (looks.offered looks.taken who.now shown.old oid (λ s granted. looks.through looks.taken s (looks.Done granted)) verdict)) }
     ensures shown { OnlyAnswers shown.old shown.new result }
 {
     match verdict {
         Verdict::Denied(_) => Ok(false),
         Verdict::Granted(role) => {
-            shown.take(oid, role)?;
+            shown.take(alloc, oid, role)?;
             Ok(true)
         }
     }
@@ -142,5 +148,5 @@ pub(crate) fn offer(
     ensures shown { OnlyAnswers shown.old shown.new result }
 {
     let verdict = verdict(alloc, known, who, oid, VIEW)?;
-    offered(who, shown, oid, verdict)
+    offered(alloc, who, shown, oid, verdict)
 }

@@ -54,7 +54,7 @@ fn title(
 {
     let role = view_role(alloc, known, who, oid)?;
     let title = text_value(&object.title)?;
-    shown.take(oid, role)?;
+    shown.take(alloc, oid, role)?;
     Ok(Some(title))
 }
 
@@ -74,7 +74,7 @@ fn title_or_else_id(
 {
     let role = view_role(alloc, known, who, oid)?;
     let title = text_value(title_or_id(object))?;
-    shown.take(oid, role)?;
+    shown.take(alloc, oid, role)?;
     Ok(Some(title))
 }
 
@@ -208,7 +208,7 @@ fn viewed_property(
 {
     let role = view_role(alloc, known, who, oid)?;
     let value = value_of(alloc, &property.value)?;
-    shown.take(oid, role)?;
+    shown.take(alloc, oid, role)?;
     Ok(Some(value))
 }
 

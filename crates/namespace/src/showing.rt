@@ -1,4 +1,4 @@
-ghost use Rattle.std.specs.Prelude.{◌≡◌, ◌++◌, ◌∷◌, [], false, nat_eq, OnOk, OnErr};
+ghost use Rattle.std.specs.Prelude.{◌≡◌, ◌++◌, ◌∷◌, [], true, false, nat_eq, OnOk, OnErr};
 ghost use Rattle.std.specs.List.{list_any};
 ghost use Rattle.evaluator.specs.declared.reply.Shown.{Shown as ShownObject};
 ghost use Rattle.permissions.specs.declared.who.Who.{Who as User};
@@ -6,6 +6,7 @@ ghost use Rattle.namespace.specs.Looks as looks;
 ghost use Rattle.namespace.specs.Told.{OnlyAnswers};
 
 use evaluator::{Shown, ShownList};
+use permissions::GrantedRole;
 use std::alloc::Global;
 use std::collections::BTreeSet;
 use std::marker::Model;
@@ -51,10 +52,20 @@ impl Showing {
         &self.list
     }
 
+    // Whether the object is the one that was shown last: it is mostly the one whose next name is asked for.
+    fn is_newest(&self, oid: Oid) -> bool
+        ensures { result ≡ true → list_any (λ (s : ShownObject). nat_eq s.oid oid) self.now ≡ true }
+    {
+        match self.list.as_slice().split_last() {
+            Some((newest, _)) => newest.oid == oid,
+            None => false,
+        }
+    }
+
     fn has(&self, oid: Oid) -> bool
         ensures { result ≡ list_any (λ (s : ShownObject). nat_eq s.oid oid) self.now }
     {
-        self.oids.contains(&oid.0)
+        self.is_newest(oid) || self.oids.contains(&oid.0)
     }
 
     fn add(&mut self, oid: Oid, role: Text) -> Result<(), Memory>
@@ -71,13 +82,14 @@ impl Showing {
     }
 
     /// An object is shown by a role; its first use counts. For want of memory all stays as it was.
-    pub(crate) fn take(&mut self, oid: Oid, role: Text) -> Result<(), Memory>
+    pub(crate) fn take(&mut self, alloc: Global, oid: Oid, role: GrantedRole) -> Result<(), Memory>
         ensures taken { OnOk result ((who : User) → self.new ≡ looks.taken who oid role self.old) }
         ensures shown { OnlyAnswers self.old self.new result }
     {
         if self.has(oid) {
             return Ok(());
         }
+        let role = role.into_text(alloc)?;
         self.add(oid, role)
     }
 }

@@ -1,3 +1,4 @@
+pub mod Everyone
 pub mod Roles
 pub mod Verdicts
 pub mod Users

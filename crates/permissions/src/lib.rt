@@ -7,7 +7,9 @@
 //! laws speak of.
 #![tactic(auto)]
 
+mod everyones;
 mod finding;
+mod granted;
 mod laws;
 mod proxy;
 mod roles;
@@ -15,6 +17,7 @@ mod verdicts;
 mod who;
 
 pub use finding::find_user;
+pub use granted::GrantedRole;
 pub use laws::{
     default_decides, least_common_role, local_roles_count_at_home, proxy_roles_stand_alone,
     settings_hide_what_is_above, verdicts_look_at_shapes,

@@ -26,7 +26,8 @@ fn present(known: &Known, oid: Oid) -> &Object
     }
 }
 
-fn setting_of(settings: &[Setting], permission: u8) -> Option<&Setting>
+/// What an object says of a permission, if anything. Takes no memory.
+pub(crate) fn setting_of(settings: &[Setting], permission: u8) -> Option<&Setting>
     ensures { option_map (λ s. s.now) result ≡ spec.setting_of permission settings.now }
 {
     settings

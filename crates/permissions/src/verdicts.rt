@@ -6,6 +6,8 @@ ghost use Rattle.acquisition.specs.Acquiring as acquiring;
 ghost use Rattle.acquisition.specs.Expressions.{IsHere};
 ghost use Rattle.permissions.specs.Verdicts as spec;
 
+use crate::everyones::is_everyones;
+use crate::granted::GrantedRole;
 use crate::roles::{roles_for, user_roles};
 use crate::who::{Verdict, Who};
 use acquisition::{AqRefusal, containers, containers_are_here};
@@ -68,7 +70,7 @@ fn verdict_of(roles: &Roles, place: Option<usize>, permission: u8) -> Result<Ver
     };
     match roles.as_slice().get(place) {
         None => Ok(Verdict::Denied(permission)),
-        Some(role) => Ok(Verdict::Granted(role.copy()?)),
+        Some(role) => Ok(Verdict::Granted(GrantedRole::named(role.copy()?))),
     }
 }
 
@@ -103,6 +105,9 @@ pub fn verdict_on(
 ) -> Result<Verdict, AqRefusal>
     ensures { Answers acquiring.told (λ verdict. verdict) result (run (shapes known.now) (spec.verdict_on who.now oid permission)) }
 {
+    if is_everyones(known, oid, permission)? {
+        return Ok(Verdict::Granted(GrantedRole::everyones()));
+    }
     containers_are_here();
     let path = containers(alloc, known, oid)?;
     Ok(verdict(alloc, who, known, path.as_slice(), permission)?)

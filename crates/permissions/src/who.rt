@@ -1,3 +1,4 @@
+use crate::granted::GrantedRole;
 use zbase::{Oid, Text};
 use zobject::Roles;
 
@@ -17,7 +18,7 @@ pub enum Who {
 #[derive(Debug, Drop)]
 pub enum Verdict {
     /// By this role, the least by bytes of those that the user has and to which the permission is given.
-    Granted(Text),
+    Granted(GrantedRole),
     /// The permission that isn't granted.
     Denied(u8),
 }
