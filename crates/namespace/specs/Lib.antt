@@ -1,3 +1,4 @@
+pub mod Labels
 pub mod Looks
 pub mod LookLaws
 pub mod Told

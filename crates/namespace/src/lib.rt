@@ -5,6 +5,7 @@
 //! which names a request has. `specs/NameLaws` has what is true of every name.
 #![tactic(auto)]
 
+mod label;
 mod laws;
 mod looks;
 mod naming;
@@ -15,6 +16,7 @@ mod stack;
 mod val;
 mod word;
 
+pub use label::Label;
 pub use laws::{
     contents_stay_apart, first_uses_are_shown, names_are_for_their_user, refusals_are_denied,
     shown_are_granted, viewed_are_shown,

@@ -2,6 +2,7 @@ ghost use Rattle.std.specs.Prelude.{◌≡◌, ◌++◌, ◌∷◌, [], IfOk, On
 ghost use Rattle.http_in.specs.Headers as headers;
 ghost use Rattle.namespace.specs.Requests as spec;
 
+use crate::label::Label;
 use crate::val::{Named, Names, Single, Singles, Val};
 use form_fields::{FieldValue, Fields, Scalar};
 use http_in::{Request, Verb};
@@ -78,17 +79,17 @@ fn push_fields(alloc: Global, names: &mut Names, fields: &Fields) -> Result<(), 
     ensures { OnOk result (names.new ≡ names.old ++ map spec.named_field fields.now) }
 {
     for field in fields.as_slice() {
-        let name = field.name.copy()?;
+        let name = Label::of(field.name.copy()?);
         let val = field_value(alloc, &field.value)?;
         names.push(Named { name, val })?;
     }
     Ok(())
 }
 
-fn push_text(alloc: Global, names: &mut Names, name: &str, text: Text) -> Result<(), Memory>
+fn push_text(names: &mut Names, name: &'static str, text: Text) -> Result<(), Memory>
     ensures { OnOk result (names.new ≡ names.old ++ spec.named_text name.now text ∷ []) }
 {
-    let name = Text::from_str(alloc, name)?;
+    let name = Label::word(name);
     let val = Val::Single(Single::Text(text));
     names.push(Named { name, val })
 }
@@ -108,11 +109,11 @@ pub fn request_names(
     ensures { IfOk result (λ names. names ≡ spec.request_names request.now user.now fields.now cookies.now) }
 {
     let mut names = Items::new(alloc);
-    push_text(alloc, &mut names, "URL0", url(alloc, request)?)?;
+    push_text(&mut names, "URL0", url(alloc, request)?)?;
     let method = Text::from_str(alloc, method_name(request.method))?;
-    push_text(alloc, &mut names, "REQUEST_METHOD", method)?;
+    push_text(&mut names, "REQUEST_METHOD", method)?;
     let user = Text::from_str(alloc, user_name(user))?;
-    push_text(alloc, &mut names, "AUTHENTICATED_USER", user)?;
+    push_text(&mut names, "AUTHENTICATED_USER", user)?;
     push_fields(alloc, &mut names, fields)?;
     push_fields(alloc, &mut names, cookies)?;
     Ok(names)

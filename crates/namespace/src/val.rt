@@ -1,5 +1,6 @@
 ghost use Rattle.std.specs.Prelude.{◌≡◌, IfOk};
 
+use crate::label::Label;
 use acquisition::Wrapped;
 use std::alloc::Global;
 use zbase::{Items, Memory, Text};
@@ -26,7 +27,7 @@ pub enum Val {
 /// A name with its value.
 #[derive(Debug, Drop)]
 pub struct Named {
-    pub name: Text,
+    pub name: Label,
     pub val: Val,
 }
 

@@ -6,7 +6,7 @@ use dtml_parse::{Tree, parse};
 use dtml_render::{Budget, RenderRefusal, render};
 use form_fields::{cookies, fields};
 use http_in::{Message, Reader, Request};
-use namespace::{Named, Names, Single, Stack, Val, request_names};
+use namespace::{Label, Named, Names, Single, Stack, Val, request_names};
 use permissions::{Who, acting};
 use std::alloc::Global;
 use zbase::{Items, Oid, Text};
@@ -77,7 +77,7 @@ fn layer_of(alloc: Global, part: &Part) -> Result<Names, CasesRefusal> {
         let Some((name, text)) = word.as_str().split_once('=') else {
             return Err(CasesRefusal::BadPart(part.line));
         };
-        let name = Text::from_str(alloc, name)?;
+        let name = Label::of(Text::from_str(alloc, name)?);
         let text = Text::from_str(alloc, text)?;
         let val = Val::Single(Single::Text(text));
         names.push(Named { name, val })?;
