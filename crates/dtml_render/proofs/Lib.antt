@@ -2,3 +2,4 @@ mod ForUsers
 mod PageLaws
 mod Seeing
 mod Steps
+mod PlainLaws

@@ -1,3 +1,4 @@
+pub mod Plain
 pub mod Rendering
 pub mod Access
 pub mod Worked

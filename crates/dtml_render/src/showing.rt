@@ -7,6 +7,7 @@ ghost use Rattle.dtml_parse.specs.Views.{arg_view, marks_view};
 ghost use Rattle.namespace.specs.Looks.{looked};
 ghost use Rattle.namespace.specs.Told.{Shows};
 ghost use Rattle.dtml_values.specs.Told.{told, left_of};
+ghost use Rattle.dtml_render.specs.Plain.{is_plain};
 ghost use Rattle.dtml_render.specs.Rendering as rendering;
 
 use dtml_format::{Marks, shape};
@@ -81,11 +82,23 @@ fn marks_of(tag: &VarTag) -> Result<Marks, Memory>
     })
 }
 
+// Whether no mark changes a text.
+fn is_plain(tag: &VarTag) -> bool
+    ensures { result ≡ is_plain (marks_view tag.now) }
+{
+    let letters = tag.lower || tag.upper || tag.capitalize;
+    let others = tag.html_quote || tag.url_quote || tag.newline_to_br;
+    !(letters || others || tag.size.is_some())
+}
+
 // The text of a value with its marks applied.
 fn shaped(alloc: Global, at: u32, tag: &VarTag, found: Option<Val>) -> Result<Text, RenderRefusal>
     ensures { (k : ℕ → Option (Seen Object)) (shown : List Shown) → Shows told (λ t. t) shown result (looked k shown (rendering.shaped at (arg_view tag.now.arg) (marks_view tag.now) found)) }
 {
     let text = text_of(alloc, at, tag, found)?;
+    if is_plain(tag) {
+        return Ok(text);
+    }
     let marks = marks_of(tag)?;
     Ok(shape(alloc, text.as_str(), &marks)?)
 }
