@@ -1,3 +1,4 @@
 mod Steps
 mod Properties
 mod Loops
+mod Lending

@@ -6,3 +6,4 @@ pub mod Names
 pub mod NameLaws
 pub mod Requests
 pub mod Worked
+pub mod Viewing

@@ -13,6 +13,7 @@ use Rattle.zobject.specs.declared.object.Child.{Child}
 use Rattle.zobject.specs.declared.object.Property.{Property}
 use Rattle.zobject.specs.declared.object.PropValue.{PropValue}
 use Rattle.zobject.specs.declared.object.PropValue.TheVariants as values
+use Rattle.zknown.specs.declared.kept.Kept.{Kept}
 use Rattle.permissions.specs.Verdicts.{or_user}
 use Rattle.permissions.specs.declared.who.Who.{Who}
 use Rattle.namespace.specs.declared.val.Single.{Single}
@@ -172,8 +173,9 @@ pub record Scope : Type 0 where
 abbrev pub whose : Scope → Who
 whose scope = or_user scope.user scope.acting
 
--- a scope, and the objects that were shown
+-- what is known of the objects, a scope, and the objects that were shown
 pub record Space : Type 0 where
+  pub known : List (ℕ × Kept)
   pub scope : Scope
   pub shown : List Shown
 

@@ -14,6 +14,7 @@ mod request;
 mod showing;
 mod stack;
 mod val;
+mod viewed;
 mod word;
 
 pub use label::Label;

@@ -10,6 +10,7 @@ ghost use Rattle.permissions.specs.declared.who.Verdict.TheVariants as verdicts;
 ghost use Rattle.namespace.specs.Looks as looks;
 ghost use Rattle.namespace.specs.Looks.{looked, outlined};
 ghost use Rattle.namespace.specs.Names as spec;
+ghost use Rattle.namespace.specs.Viewing.{IsViewed};
 ghost use Rattle.namespace.specs.Told.{told, OnlyAnswers, Shows};
 
 use crate::refusal::NameRefusal;
@@ -108,6 +109,7 @@ pub(crate) fn view<'k>(
     oid: Oid,
 ) -> Result<&'k Object, NameRefusal>
     ensures is { Shows told (λ o. o.now) shown.new result (looked (objects known.now) shown.old (spec.viewing who.now oid)) }
+    ensures viewed { IfOk result (λ o. IsViewed known.now who.now shown.new oid o.now) }
     ensures shown { OnlyAnswers shown.old shown.new result }
 {
     let role = view_role(alloc, known, who, oid)?;

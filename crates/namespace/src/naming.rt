@@ -28,7 +28,8 @@ fn text_value(text: &Text) -> Result<Val, Memory>
     Ok(Val::Single(Single::Text(text.copy()?)))
 }
 
-fn title_or_id(object: &Object) -> &Text
+/// The title of an object, or its id where that is empty. Takes no memory.
+pub(crate) fn title_or_id(object: &Object) -> &Text
     ensures { result.now ≡ spec.title_or_id object.now }
 {
     if object.title.is_empty() {
@@ -181,7 +182,8 @@ fn value_of(alloc: Global, value: &PropValue) -> Result<Val, Memory>
     }
 }
 
-fn property_of<'a>(name: &str, properties: &'a [Property]) -> Option<&'a Property>
+/// The property of that name. Takes no memory.
+pub(crate) fn property_of<'a>(name: &str, properties: &'a [Property]) -> Option<&'a Property>
     ensures { option_map (λ p. p.now) result ≡ find (λ p. bytes_eq p.name name.now) properties.now }
 {
     properties

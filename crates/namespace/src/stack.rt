@@ -1,4 +1,4 @@
-ghost use Rattle.std.specs.Prelude.{◌≡◌, ◌<◌, [], None, length, option_map, reverse, OnOk, OnErr, IfOk};
+ghost use Rattle.std.specs.Prelude.{◌≡◌, ◌<◌, [], None, length, option_map, reverse, OnOk, OnErr, IfOk, IfSome, Ok, Some};
 ghost use Rattle.std.specs.List.{find};
 ghost use Rattle.std.specs.Str.{bytes_eq};
 ghost use Rattle.zknown.specs.Seen.{objects};
@@ -13,13 +13,14 @@ use crate::naming::in_object;
 use crate::refusal::NameRefusal;
 use crate::showing::Showing;
 use crate::val::{Layer, Named, Names, Val};
+use crate::viewed::{Viewed, lent_by};
 use acquisition::Wrapped;
 use evaluator::ShownList;
 use permissions::Who;
 use std::alloc::Global;
 use std::marker::Model;
 use std::mem;
-use zbase::{Memory, Oid};
+use zbase::{Memory, Oid, Text};
 use zknown::Known;
 use zobject::Object;
 
@@ -27,26 +28,33 @@ use zobject::Object;
 /// keeps the list of the objects that were shown, and its allocator.
 ///
 /// Zope Book, "Variables and Advanced DTML": the DTML namespace.
-#[derive(Debug, Drop)]
-pub struct Stack {
+#[derive(Drop)]
+pub struct Stack<'k> {
     alloc: Global,
+    known: &'k Known,
     user: Who,
     acting: Option<Who>,
     layers: Vec<Layer>,
     client: Wrapped,
     request: Names,
     shown: Showing,
+    viewed: Option<Viewed<'k>>,
 }
 
-impl Model for Stack {
+impl<'k> Model for Stack<'k> {
+    ghost use Rattle.permissions.specs.Verdicts.{or_user};
     ghost use Rattle.namespace.specs.Names.{Space};
+    ghost use Rattle.namespace.specs.Viewing.{IsRemembered};
 
     ghost Value = { Space };
 
     ghost view = { λ s. record {
+      known = s.known.now;
       scope = record { user = s.user; acting = s.acting; layers = s.layers.items; client = s.client; request = s.request };
       shown = s.shown;
     } };
+
+    ghost invariant = { λ s. IsRemembered s.known.now (or_user s.user s.acting) s.shown s.viewed };
 }
 
 // The user of the verdicts.
@@ -159,25 +167,33 @@ fn find_in(
     in_base(alloc, known, who, shown, name, client, request)
 }
 
-impl Stack {
+impl<'k> Stack<'k> {
     /// A stack without layers, on which nothing was shown. Takes no memory.
-    pub fn new(alloc: Global, user: Who, client: Wrapped, request: Names) -> Stack
-        ensures { result ≡ record { scope = record { user = user; acting = None; layers = []; client = client; request = request }; shown = [] } }
+    pub fn new(
+        alloc: Global,
+        known: &'k Known,
+        user: Who,
+        client: Wrapped,
+        request: Names,
+    ) -> Stack<'k>
+        ensures { result ≡ record { known = known.now; scope = record { user = user; acting = None; layers = []; client = client; request = request }; shown = [] } }
     {
         Stack {
             alloc,
+            known,
             user,
             acting: None,
             layers: Vec::new(alloc),
             client,
             request,
             shown: Showing::new(alloc),
+            viewed: None,
         }
     }
 
     /// Pushes names. For want of memory the stack stays as it was.
     pub fn push_names(&mut self, names: Names) -> Result<(), Memory>
-        ensures ok { OnOk result (self.new ≡ record { scope = spec.push (layer.Names names) self.old.scope; shown = self.old.shown }) }
+        ensures ok { OnOk result (self.new ≡ record self.old { scope = spec.push (layer.Names names) self.old.scope }) }
         ensures err { OnErr result (self.new ≡ self.old) }
     {
         self.layers.push(Layer::Names(names))?;
@@ -186,7 +202,7 @@ impl Stack {
 
     /// Pushes an object. For want of memory the stack stays as it was.
     pub fn push_object(&mut self, object: Wrapped) -> Result<(), Memory>
-        ensures ok { OnOk result (self.new ≡ record { scope = spec.push (layer.Object object) self.old.scope; shown = self.old.shown }) }
+        ensures ok { OnOk result (self.new ≡ record self.old { scope = spec.push (layer.Object object) self.old.scope }) }
         ensures err { OnErr result (self.new ≡ self.old) }
     {
         self.layers.push(Layer::Object(object))?;
@@ -196,7 +212,7 @@ impl Stack {
     /// Takes away what was pushed last. Takes no memory.
     pub fn pop(&mut self)
         requires { 0 < length self.old.scope.layers }
-        ensures { self.new ≡ record { scope = spec.popped self.old.scope; shown = self.old.shown } }
+        ensures { self.new ≡ record self.old { scope = spec.popped self.old.scope } }
     {
         let _popped = self.layers.pop();
     }
@@ -204,9 +220,10 @@ impl Stack {
     /// Sets in whose place later verdicts are taken for someone else, nobody's where it is none, and answers who that
     /// was before. Takes no memory.
     pub fn act(&mut self, acting: Option<Who>) -> Option<Who>
-        ensures set { self.new ≡ record { scope = spec.act acting self.old.scope; shown = self.old.shown } }
+        ensures set { self.new ≡ record self.old { scope = spec.act acting self.old.scope } }
         ensures former { result ≡ self.old.scope.acting }
     {
+        self.viewed = None;
         mem::replace(&mut self.acting, acting)
     }
 
@@ -215,8 +232,9 @@ impl Stack {
     ///
     /// A refusal is that of the first object or permission that is wanted on this way. Only a hit shows an object: after a
     /// refusal, want of memory included, the stack is what it was.
-    pub fn find(&mut self, known: &Known, name: &str) -> Result<Option<Val>, NameRefusal>
-        ensures is { Shows told (λ v. v) self.new.shown result (looked (objects known.now) self.old.shown (spec.named self.old.scope name.now)) }
+    pub fn find(&mut self, name: &str) -> Result<Option<Val>, NameRefusal>
+        ensures is { Shows told (λ v. v) self.new.shown result (looked (objects self.old.known) self.old.shown (spec.named self.old.scope name.now)) }
+        ensures known { self.new.known ≡ self.old.known }
         ensures scope { self.new.scope ≡ self.old.scope }
         ensures shown { OnlyHits self.old.shown self.new.shown result }
     {
@@ -225,7 +243,7 @@ impl Stack {
         let request = self.request.as_slice();
         find_in(
             self.alloc,
-            known,
+            self.known,
             who,
             &mut self.shown,
             name,
@@ -236,49 +254,71 @@ impl Stack {
     }
 
     /// The value of a name in an object. None exactly where the object hasn't it.
-    pub fn look(
-        &mut self,
-        known: &Known,
-        object: &Wrapped,
-        name: &str,
-    ) -> Result<Option<Val>, NameRefusal>
-        ensures is { Shows told (λ v. v) self.new.shown result (looked (objects known.now) self.old.shown (spec.in_object (spec.whose self.old.scope) object.now name.now)) }
+    pub fn look(&mut self, object: &Wrapped, name: &str) -> Result<Option<Val>, NameRefusal>
+        ensures is { Shows told (λ v. v) self.new.shown result (looked (objects self.old.known) self.old.shown (spec.in_object (spec.whose self.old.scope) object.now name.now)) }
+        ensures known { self.new.known ≡ self.old.known }
         ensures scope { self.new.scope ≡ self.old.scope }
         ensures shown { OnlyHits self.old.shown self.new.shown result }
     {
         let who = whose(&self.user, self.acting.as_ref());
-        in_object(self.alloc, known, who, &mut self.shown, name, object)
+        in_object(self.alloc, self.known, who, &mut self.shown, name, object)
     }
 
     /// The object with its contents, which the user must be granted to view; it is then shown.
-    pub fn open<'k>(&mut self, known: &'k Known, oid: Oid) -> Result<&'k Object, NameRefusal>
-        ensures is { Shows told (λ o. o.now) self.new.shown result (looked (objects known.now) self.old.shown (spec.viewing (spec.whose self.old.scope) oid)) }
+    pub fn open(&mut self, oid: Oid) -> Result<&'k Object, NameRefusal>
+        ensures is { Shows told (λ o. o.now) self.new.shown result (looked (objects self.old.known) self.old.shown (spec.viewing (spec.whose self.old.scope) oid)) }
+        ensures known { self.new.known ≡ self.old.known }
         ensures scope { self.new.scope ≡ self.old.scope }
         ensures shown { OnlyAnswers self.old.shown self.new.shown result }
     {
         let who = whose(&self.user, self.acting.as_ref());
-        view(self.alloc, known, who, &mut self.shown, oid)
+        let object = view(self.alloc, self.known, who, &mut self.shown, oid)?;
+        self.viewed = Some(Viewed { oid, object });
+        Ok(object)
     }
 
     /// That the user is granted to view an object, which is then shown.
     #[tactic(auto, using(crate::proofs::Steps::goes, crate::proofs::Steps::stops))]
-    pub fn view(&mut self, known: &Known, oid: Oid) -> Result<(), NameRefusal>
-        ensures is { Shows told (λ u. tt {0}) self.new.shown result (looked (objects known.now) self.old.shown (spec.allowing (spec.whose self.old.scope) oid)) }
+    pub fn view(&mut self, oid: Oid) -> Result<(), NameRefusal>
+        ensures is { Shows told (λ u. tt {0}) self.new.shown result (looked (objects self.old.known) self.old.shown (spec.allowing (spec.whose self.old.scope) oid)) }
+        ensures known { self.new.known ≡ self.old.known }
         ensures scope { self.new.scope ≡ self.old.scope }
         ensures shown { OnlyAnswers self.old.shown self.new.shown result }
     {
-        let _object = self.open(known, oid)?;
+        let _object = self.open(oid)?;
         Ok(())
     }
 
     /// Whether the user is granted to view an object, which is then shown.
-    pub fn offer(&mut self, known: &Known, oid: Oid) -> Result<bool, NameRefusal>
-        ensures is { Shows told (λ b. b) self.new.shown result (looked (objects known.now) self.old.shown (spec.offering (spec.whose self.old.scope) oid)) }
+    pub fn offer(&mut self, oid: Oid) -> Result<bool, NameRefusal>
+        ensures is { Shows told (λ b. b) self.new.shown result (looked (objects self.old.known) self.old.shown (spec.offering (spec.whose self.old.scope) oid)) }
+        ensures known { self.new.known ≡ self.old.known }
         ensures scope { self.new.scope ≡ self.old.scope }
         ensures shown { OnlyAnswers self.old.shown self.new.shown result }
     {
         let who = whose(&self.user, self.acting.as_ref());
-        offer(self.alloc, known, who, &mut self.shown, oid)
+        offer(self.alloc, self.known, who, &mut self.shown, oid)
+    }
+
+    /// What is known of the objects. Takes no memory.
+    pub fn known(&self) -> &'k Known
+        ensures { result.now ≡ self.now.known }
+    {
+        self.known
+    }
+
+    /// The text that the object that was viewed last lends under a name, where that object is the newest layer. Takes no
+    /// memory.
+    pub fn lent(&self, name: &str) -> Option<&'k Text>
+        ensures { IfSome result (λ text. looked (objects self.now.known) self.now.shown (spec.named self.now.scope name.now) ≡ Ok (Some (spec.text text.now), self.now.shown)) }
+    {
+        let Some(viewed) = &self.viewed else {
+            return None;
+        };
+        match self.layers.as_slice().split_last() {
+            Some((Layer::Object(whole), _)) => lent_by(viewed, whole, name),
+            _ => None,
+        }
     }
 
     /// How many layers were pushed and not taken away. Takes no memory.

@@ -68,11 +68,15 @@ fn names_of(alloc: Global, case: &Case, user: &Who) -> Result<Names, CasesRefusa
 }
 
 /// The stack that a case begins with.
-pub(crate) fn stack_of(alloc: Global, known: &Known, case: &Case) -> Result<Stack, CasesRefusal> {
+pub(crate) fn stack_of<'k>(
+    alloc: Global,
+    known: &'k Known,
+    case: &Case,
+) -> Result<Stack<'k>, CasesRefusal> {
     let user = user_of(alloc, case)?;
     let client = client_of(alloc, known, case)?;
     let names = names_of(alloc, case, &user)?;
-    Ok(Stack::new(alloc, user, client, names))
+    Ok(Stack::new(alloc, known, user, client, names))
 }
 
 // The names of a part, each as NAME=TEXT.
@@ -107,7 +111,7 @@ fn acting_of(alloc: Global, part: &Part) -> Result<Option<Who>, CasesRefusal> {
 pub(crate) fn change(
     alloc: Global,
     known: &Known,
-    stack: &mut Stack,
+    stack: &mut Stack<'_>,
     part: &Part,
 ) -> Result<(), CasesRefusal> {
     match part.key() {
@@ -136,7 +140,7 @@ fn put_found(
     }
 }
 
-fn put_shown(alloc: Global, line: &mut String, stack: &Stack) -> Result<(), CasesRefusal> {
+fn put_shown(alloc: Global, line: &mut String, stack: &Stack<'_>) -> Result<(), CasesRefusal> {
     for shown in stack.shown().as_slice() {
         put_number(alloc, line, shown.oid.0)?;
         put_word(line, shown.role.as_str())?;
@@ -147,23 +151,22 @@ fn put_shown(alloc: Global, line: &mut String, stack: &Stack) -> Result<(), Case
 fn put_looked(
     alloc: Global,
     known: &Known,
-    stack: &mut Stack,
+    stack: &mut Stack<'_>,
     part: &Part,
     line: &mut String,
 ) -> Result<(), CasesRefusal> {
     let object = reached(alloc, known, part, 2)?;
-    let found = stack.look(known, &object, part.word(1).unwrap_or(""));
+    let found = stack.look(&object, part.word(1).unwrap_or(""));
     put_found(alloc, line, found)
 }
 
 fn put_opened(
     alloc: Global,
-    known: &Known,
-    stack: &mut Stack,
+    stack: &mut Stack<'_>,
     part: &Part,
     line: &mut String,
 ) -> Result<(), CasesRefusal> {
-    match stack.open(known, Oid(part.number(1)?)) {
+    match stack.open(Oid(part.number(1)?)) {
         Ok(object) => put_word(line, object.title.as_str()),
         Err(refusal) => put_refusal(alloc, line, refusal),
     }
@@ -171,12 +174,11 @@ fn put_opened(
 
 fn put_viewed(
     alloc: Global,
-    known: &Known,
-    stack: &mut Stack,
+    stack: &mut Stack<'_>,
     part: &Part,
     line: &mut String,
 ) -> Result<(), CasesRefusal> {
-    match stack.view(known, Oid(part.number(1)?)) {
+    match stack.view(Oid(part.number(1)?)) {
         Ok(()) => put_word(line, "yes"),
         Err(refusal) => put_refusal(alloc, line, refusal),
     }
@@ -184,12 +186,11 @@ fn put_viewed(
 
 fn put_offered(
     alloc: Global,
-    known: &Known,
-    stack: &mut Stack,
+    stack: &mut Stack<'_>,
     part: &Part,
     line: &mut String,
 ) -> Result<(), CasesRefusal> {
-    match stack.offer(known, Oid(part.number(1)?)) {
+    match stack.offer(Oid(part.number(1)?)) {
         Ok(true) => put_word(line, "yes"),
         Ok(false) => put_word(line, "no"),
         Err(refusal) => put_refusal(alloc, line, refusal),
@@ -200,14 +201,14 @@ fn put_offered(
 pub(crate) fn answer(
     alloc: Global,
     known: &Known,
-    stack: &mut Stack,
+    stack: &mut Stack<'_>,
     part: &Part,
 ) -> Result<String, CasesRefusal> {
     let mut line = String::new(alloc);
     match part.key() {
         "find" => {
             line.push_str("found")?;
-            let found = stack.find(known, part.word(1).unwrap_or(""));
+            let found = stack.find(part.word(1).unwrap_or(""));
             put_found(alloc, &mut line, found)?;
         }
         "look" => {
@@ -216,15 +217,15 @@ pub(crate) fn answer(
         }
         "open" => {
             line.push_str("opened")?;
-            put_opened(alloc, known, stack, part, &mut line)?;
+            put_opened(alloc, stack, part, &mut line)?;
         }
         "view" => {
             line.push_str("viewed")?;
-            put_viewed(alloc, known, stack, part, &mut line)?;
+            put_viewed(alloc, stack, part, &mut line)?;
         }
         "offer" => {
             line.push_str("offered")?;
-            put_offered(alloc, known, stack, part, &mut line)?;
+            put_offered(alloc, stack, part, &mut line)?;
         }
         "shown" => {
             line.push_str("listed")?;

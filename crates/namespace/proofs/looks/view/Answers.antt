@@ -1,6 +1,7 @@
 use Rattle.std.proofs.Common.{◌∙◌, ap, sym, Ok}
 use Rattle.std.proofs.lemmas.Result.{err_from_is_err_and}
 use Rattle.zknown.specs.Seen.{objects}
+use Rattle.namespace.proofs.Lending.{any_taken}
 use Rattle.namespace.proofs.Steps.{viewing_is, viewing_stops}
 use Rattle.namespace.proofs.looks.view.Goals as goal
 
@@ -18,3 +19,12 @@ pub returns-clause-is : goal.returns-clause-is
 returns-clause-is c =
     viewing_is (objects c.args.known.now) c.args.who.now c.args.oid c.in_ok-role.role c.in_ok-object.object.now c.args.shown.now c.in_ok-role.ensures.ok c.in_ok-object.ensures.whole
     ∙ ap (λ s. Ok (c.in_ok-object.object.now, s)) (sym (c.in_ok-take.ensures.taken c.args.who.now))
+
+pub returns-clause-viewed : goal.returns-clause-viewed
+returns-clause-viewed c = (
+  c.in_ok-role.role,
+  c.in_ok-role.ensures.ok,
+  c.in_ok-object.ensures.whole,
+  c.in_ok-object.ensures.shape,
+  any_taken c.args.who.now c.args.oid c.in_ok-role.role c.args.shown.now c.take.new.self (c.in_ok-take.ensures.taken c.args.who.now),
+)
