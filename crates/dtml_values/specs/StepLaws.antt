@@ -63,11 +63,12 @@ answers_begin a b (Ok x) only = only
 answers_begin a b (Err e) only = begins_none a b only
 
 -- only the stack changed
-pub keeps_stack : (a b : Space) (x : Budget) → b.scope ≡ a.scope → Begins a.shown b.shown → Keeps a b x x
-keeps_stack a b x scope shown = record { scope = scope; shown = shown; renders = refl; tags = omega arith; output = omega arith }
+pub keeps_stack : (a b : Space) (x : Budget) → b.known ≡ a.known → b.scope ≡ a.scope → Begins a.shown b.shown → Keeps a b x x
+keeps_stack a b x known scope shown = record { known = known; scope = scope; shown = shown; renders = refl; tags = omega arith; output = omega arith }
 
 pub keeps_on : (a b c : Space) (x y z : Budget) → Keeps a b x y → Keeps b c y z → Keeps a c x z
 keeps_on a b c x y z p q = record {
+  known = q.known ∙ p.known;
   scope = q.scope ∙ p.scope;
   shown = begins_on a.shown b.shown c.shown p.shown q.shown;
   renders = q.renders ∙ p.renders;

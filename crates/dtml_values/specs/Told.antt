@@ -41,9 +41,10 @@ of_name lower.TooDeep = refusal.TooDeep
 abbrev pub left_of : Budget → Left
 left_of budget = record { tags = budget.tags; output = budget.output }
 
--- what stands after a call, also after a refusal: the scope and the number of renderings, the objects that were shown
+-- what stands after a call, also after a refusal: what is known, the scope and the number of renderings, the objects that were shown
 -- before, and no more tags and bytes than there were left
 pub record Keeps (old new : Space) (before after : Budget) : Type 0 where
+  pub known : new.known ≡ old.known
   pub scope : new.scope ≡ old.scope
   pub shown : Begins old.shown new.shown
   pub renders : after.renders ≡ before.renders

@@ -77,15 +77,31 @@ fn chain_of<'a>(alloc: Global, expr: &'a Expr) -> Result<(Vec<&'a Expr>, &'a Exp
 /// layers and user, and what was shown before is shown still.
 ///
 /// Zope Book, appendix "DTML Reference", "Expressions".
-#[cycle(evaluate)]
 pub fn evaluate(
     alloc: Global,
     expr: &Expr,
     at: u32,
-    known: &Known,
-    stack: &mut Stack,
+    stack: &mut Stack<'_>,
     budget: &mut Budget,
 ) -> Result<Val, RenderRefusal>
+    ensures is { Shows told (λ v. (v, left_of budget.new)) stack.new.shown result (looked (objects stack.old.known) stack.old.shown (evaluated stack.old.scope at (view expr.now) (left_of budget.old))) }
+    ensures keeps { Keeps stack.old stack.new budget.old budget.new }
+{
+    let known = stack.known();
+    evaluate_over(alloc, expr, at, known, stack, budget)
+}
+
+// The same over what is known.
+#[cycle(evaluate)]
+fn evaluate_over(
+    alloc: Global,
+    expr: &Expr,
+    at: u32,
+    known: &Known,
+    stack: &mut Stack<'_>,
+    budget: &mut Budget,
+) -> Result<Val, RenderRefusal>
+    requires known { known.now ≡ stack.old.known }
     ensures is { Shows told (λ v. (v, left_of budget.new)) stack.new.shown result (looked (objects known.now) stack.old.shown (evaluated stack.old.scope at (view expr.now) (left_of budget.old))) }
     ensures keeps { Keeps stack.old stack.new budget.old budget.new }
 {
@@ -104,17 +120,18 @@ fn single(
     expr: &Expr,
     at: u32,
     known: &Known,
-    stack: &mut Stack,
+    stack: &mut Stack<'_>,
     budget: &mut Budget,
 ) -> Result<Val, RenderRefusal>
-    requires { chains.left_side (view expr.now) ≡ None }
+    requires known { known.now ≡ stack.old.known }
+    requires single { chains.left_side (view expr.now) ≡ None }
     ensures is { Shows told (λ v. (v, left_of budget.new)) stack.new.shown result (looked (objects known.now) stack.old.shown (evaluated stack.old.scope at (view expr.now) (left_of budget.old))) }
     ensures keeps { Keeps stack.old stack.new budget.old budget.new }
 {
     match expr {
         Expr::Number(value) => Ok(number_value(value)),
         Expr::Quoted(text) => Ok(text_value(text)?),
-        Expr::Name(name) => value_of_name(name, known, stack),
+        Expr::Name(name) => value_of_name(name, stack),
         Expr::Or(operands) => {
             let operands = operands.items.as_slice();
             first_of(alloc, true, operands, at, known, stack, budget)
@@ -124,7 +141,7 @@ fn single(
             first_of(alloc, false, operands, at, known, stack, budget)
         }
         Expr::Not(operand) => {
-            let value = evaluate(alloc, operand, at, known, stack, budget)?;
+            let value = evaluate_over(alloc, operand, at, known, stack, budget)?;
             Ok(flag(!is_true(&value)))
         }
         Expr::Compare(_, _, _)
@@ -143,30 +160,31 @@ fn onto(
     left: Val,
     at: u32,
     known: &Known,
-    stack: &mut Stack,
+    stack: &mut Stack<'_>,
     budget: &mut Budget,
 ) -> Result<Val, RenderRefusal>
+    requires known { known.now ≡ stack.old.known }
     ensures is { Shows told (λ v. (v, left_of budget.new)) stack.new.shown result (looked (objects known.now) stack.old.shown (chains.onto stack.old.scope at (view expr.now) (left, left_of budget.old))) }
     ensures keeps { Keeps stack.old stack.new budget.old budget.new }
 {
     match expr {
         Expr::Compare(_, order, right) => {
-            let right = evaluate(alloc, right, at, known, stack, budget)?;
+            let right = evaluate_over(alloc, right, at, known, stack, budget)?;
             compare(at, *order, &left, &right)
         }
         Expr::Add(_, right) => {
-            let right = evaluate(alloc, right, at, known, stack, budget)?;
+            let right = evaluate_over(alloc, right, at, known, stack, budget)?;
             add(at, left, &right, budget)
         }
         Expr::Sub(_, right) => {
-            let right = evaluate(alloc, right, at, known, stack, budget)?;
+            let right = evaluate_over(alloc, right, at, known, stack, budget)?;
             subtract(at, &left, &right)
         }
         Expr::Mul(_, right) => {
-            let right = evaluate(alloc, right, at, known, stack, budget)?;
+            let right = evaluate_over(alloc, right, at, known, stack, budget)?;
             multiply(at, &left, &right)
         }
-        Expr::Dot(_, name) => member(at, left, name, known, stack),
+        Expr::Dot(_, name) => member(at, left, name, stack),
         Expr::Number(_) => Ok(left),
         Expr::Quoted(_) => Ok(left),
         Expr::Name(_) => Ok(left),
@@ -184,15 +202,16 @@ fn first_of(
     operands: &[Expr],
     at: u32,
     known: &Known,
-    stack: &mut Stack,
+    stack: &mut Stack<'_>,
     budget: &mut Budget,
 ) -> Result<Val, RenderRefusal>
+    requires known { known.now ≡ stack.old.known }
     ensures is { Shows told (λ v. (v, left_of budget.new)) stack.new.shown result (looked (objects known.now) stack.old.shown (first_of decides stack.old.scope at (list_view operands.now) (values.number (pos 0)) (left_of budget.old))) }
     ensures keeps { Keeps stack.old stack.new budget.old budget.new }
 {
     let mut value = number(0);
     for operand in operands {
-        value = evaluate(alloc, operand, at, known, stack, budget)?;
+        value = evaluate_over(alloc, operand, at, known, stack, budget)?;
         if is_decided(decides, &value) {
             return Ok(value);
         }

@@ -13,7 +13,6 @@ use acquisition::Wrapped;
 use namespace::{Single, Singles, Stack, Val};
 use std::alloc::Global;
 use zbase::{Items, Text};
-use zknown::Known;
 
 /// The value of a name, which must have one.
 pub fn defined(name: &Text, found: Option<Val>) -> Result<Val, RenderRefusal>
@@ -57,31 +56,24 @@ pub fn object_in(at: u32, value: Val) -> Result<Wrapped, RenderRefusal>
 }
 
 /// The value of a name in the stack, which must have one.
-pub(crate) fn value_of_name(
-    name: &Text,
-    known: &Known,
-    stack: &mut Stack,
-) -> Result<Val, RenderRefusal>
-    ensures is { Shows told (λ v. v) stack.new.shown result (looked (objects known.now) stack.old.shown (expressions.value_of_name stack.old.scope name.now)) }
+pub(crate) fn value_of_name(name: &Text, stack: &mut Stack<'_>) -> Result<Val, RenderRefusal>
+    ensures is { Shows told (λ v. v) stack.new.shown result (looked (objects stack.old.known) stack.old.shown (expressions.value_of_name stack.old.scope name.now)) }
+    ensures known { stack.new.known ≡ stack.old.known }
     ensures scope { stack.new.scope ≡ stack.old.scope }
     ensures shown { Begins stack.old.shown stack.new.shown }
 {
-    let found = stack.find(known, name.as_str())?;
+    let found = stack.find(name.as_str())?;
     defined(name, found)
 }
 
 // The value of a name in an object, which must have one.
-fn member_of(
-    object: &Wrapped,
-    name: &Text,
-    known: &Known,
-    stack: &mut Stack,
-) -> Result<Val, RenderRefusal>
-    ensures is { Shows told (λ v. v) stack.new.shown result (looked (objects known.now) stack.old.shown (expressions.member_of stack.old.scope name.now object.now)) }
+fn member_of(object: &Wrapped, name: &Text, stack: &mut Stack<'_>) -> Result<Val, RenderRefusal>
+    ensures is { Shows told (λ v. v) stack.new.shown result (looked (objects stack.old.known) stack.old.shown (expressions.member_of stack.old.scope name.now object.now)) }
+    ensures known { stack.new.known ≡ stack.old.known }
     ensures scope { stack.new.scope ≡ stack.old.scope }
     ensures shown { Begins stack.old.shown stack.new.shown }
 {
-    let found = stack.look(known, object, name.as_str())?;
+    let found = stack.look(object, name.as_str())?;
     defined(name, found)
 }
 
@@ -90,13 +82,13 @@ pub(crate) fn member(
     at: u32,
     value: Val,
     name: &Text,
-    known: &Known,
-    stack: &mut Stack,
+    stack: &mut Stack<'_>,
 ) -> Result<Val, RenderRefusal>
-    ensures is { Shows told (λ v. v) stack.new.shown result (looked (objects known.now) stack.old.shown (expressions.member stack.old.scope at value name.now)) }
+    ensures is { Shows told (λ v. v) stack.new.shown result (looked (objects stack.old.known) stack.old.shown (expressions.member stack.old.scope at value name.now)) }
+    ensures known { stack.new.known ≡ stack.old.known }
     ensures scope { stack.new.scope ≡ stack.old.scope }
     ensures shown { Begins stack.old.shown stack.new.shown }
 {
     let object = object_in(at, value)?;
-    member_of(&object, name, known, stack)
+    member_of(&object, name, stack)
 }

@@ -1,7 +1,8 @@
-use Rattle.std.proofs.Common.{◌≡◌, ◌∙◌, sym, ap, subst, reverse, List, Ok, arith, pos, ◌≤◌, length, true, false, Bool, not}
+use Rattle.std.proofs.Common.{ℕ, ◌≡◌, ◌∙◌, sym, ap, subst, reverse, List, Ok, arith, pos, ◌≤◌, length, true, false, Bool, not}
 use Rattle.std.proofs.lemmas.Result.{err_from_is_err_and}
 use Rattle.std.specs.Borrow.{Bor}
 use Rattle.zbase.specs.Query.{Told}
+use Rattle.zknown.specs.declared.kept.Kept.{Kept}
 use Rattle.zknown.specs.Seen.{objects}
 use Rattle.dtml_expr.specs.Trees as trees
 use Rattle.dtml_expr.specs.Views.{view, list_view}
@@ -19,14 +20,14 @@ use Rattle.dtml_values.specs.Told.{told, left_of}
 use Rattle.dtml_values.proofs.ChainSteps.{newest_first, within_last, within_rest, operates, next_outer, outer_stops, all_made, none_left, operand_decides, next_operand, operand_stops, last_operand}
 use Rattle.dtml_values.proofs.evaluating.+evaluate.Goals as goal
 
-pub evaluate-returns-in_err-value-clause-is : goal.evaluate-returns-in_err-value-clause-is
-evaluate-returns-in_err-value-clause-is t c =
+pub evaluate_over-returns-in_err-value-clause-is : goal.evaluate_over-returns-in_err-value-clause-is
+evaluate_over-returns-in_err-value-clause-is t c =
     let p = err_from_is_err_and c.from_residual-in_err-value.result c.from_residual-in_err-value.ensures.1 in
     rw (p.1, p.2) (subst (λ (q : Looks (Val × Left)). Told (told c.in_err-value.field-0.0) (looked (objects c.args.known.now) c.args.stack.now.shown q)) (sym (c.in_ok-chain.ensures.is c.args.stack.now.scope c.args.at (left_of c.args.budget.now)))
     (stops (objects c.args.known.now) c.args.stack.now.shown (evaluated c.args.stack.now.scope c.args.at (view c.in_ok-chain.inner.now) (left_of c.args.budget.now)) (chains.all_onto c.args.stack.now.scope c.args.at (reverse (chains.views c.in_ok-chain.chain.items))) (told c.in_err-value.field-0.0) c.in_err-value.ensures.is))
 
-pub evaluate-loop-outer-init : goal.evaluate-loop-outer-init
-evaluate-loop-outer-init t c = record {
+pub evaluate_over-loop-outer-init : goal.evaluate_over-loop-outer-init
+evaluate_over-loop-outer-init t c = record {
   is = ap (λ s. looked (objects c.args.known.now) c.single.new.stack.shown (chains.all_onto s c.args.at (reverse (chains.views c.in_ok-chain.chain.items)) (c.in_ok-value.value, left_of c.single.new.budget))) c.single.ensures.keeps.scope
       ∙ sym (looked_goes (objects c.args.known.now) c.args.stack.now.shown (evaluated c.args.stack.now.scope c.args.at (view c.in_ok-chain.inner.now) (left_of c.args.budget.now)) (chains.all_onto c.args.stack.now.scope c.args.at (reverse (chains.views c.in_ok-chain.chain.items))) ((c.in_ok-value.value, left_of c.single.new.budget), c.single.new.stack.shown) c.in_ok-value.ensures.is)
       ∙ ap (λ (q : Looks (Val × Left)). looked (objects c.args.known.now) c.args.stack.now.shown q) (sym (c.in_ok-chain.ensures.is c.args.stack.now.scope c.args.at (left_of c.args.budget.now)));
@@ -34,19 +35,19 @@ evaluate-loop-outer-init t c = record {
   small = c.in_ok-chain.ensures.small;
 }
 
-pub evaluate-onto-requires : goal.evaluate-onto-requires
-evaluate-onto-requires t c =
+pub evaluate_over-onto-requires : goal.evaluate_over-onto-requires
+evaluate_over-onto-requires t c =
     let small : size-Expr c.in-Some.outer.now ≤ size-Expr c.args.expr.now = within_last (size-Expr c.args.expr.now) c.pop.new.self.items c.in-Some.outer (subst (chains.AreWithin (size-Expr c.args.expr.now)) c.in-Some.ensures.items c.loop-outer.invariant.small) in
-    omega (arith, small)
+    (omega (arith, small), c.requires.known ∙ sym c.loop-outer.invariant.keeps.known)
 
-pub evaluate-returns-in_err-value-2-clause-is : goal.evaluate-returns-in_err-value-2-clause-is
-evaluate-returns-in_err-value-2-clause-is t c =
+pub evaluate_over-returns-in_err-value-2-clause-is : goal.evaluate_over-returns-in_err-value-2-clause-is
+evaluate_over-returns-in_err-value-2-clause-is t c =
     let p = err_from_is_err_and c.from_residual-in_err-value-2.result c.from_residual-in_err-value-2.ensures.1 in
     rw (p.1, p.2) (outer_stops (objects c.args.known.now) c.loop-outer.stack.shown c.loop-outer.stack.scope c.args.at (reverse (chains.views c.loop-outer.chain.items)) (reverse (chains.views c.pop.new.self.items)) (view c.in-Some.outer.now) c.loop-outer.value (left_of c.loop-outer.budget) _
     (ap (λ (es : List (Bor Expr)). reverse (chains.views es)) c.in-Some.ensures.items ∙ newest_first c.pop.new.self.items c.in-Some.outer) c.loop-outer.invariant.is (told c.in_err-value-2.field-0.0) c.in_err-value-2.ensures.is)
 
-pub evaluate-loop-outer-preserved : goal.evaluate-loop-outer-preserved
-evaluate-loop-outer-preserved t c = record {
+pub evaluate_over-loop-outer-preserved : goal.evaluate_over-loop-outer-preserved
+evaluate_over-loop-outer-preserved t c = record {
   is = next_outer (objects c.args.known.now) c.loop-outer.stack.shown c.loop-outer.stack.scope c.args.at (reverse (chains.views c.loop-outer.chain.items)) (reverse (chains.views c.pop.new.self.items)) (view c.in-Some.outer.now) c.loop-outer.value (left_of c.loop-outer.budget) _
       (ap (λ (es : List (Bor Expr)). reverse (chains.views es)) c.in-Some.ensures.items ∙ newest_first c.pop.new.self.items c.in-Some.outer) c.loop-outer.invariant.is
       c.onto.new.stack.shown c.onto.new.stack.scope c.in_ok-value-2.value (left_of c.onto.new.budget) c.in_ok-value-2.ensures.is c.onto.ensures.keeps.scope;
@@ -54,8 +55,8 @@ evaluate-loop-outer-preserved t c = record {
   small = within_rest (size-Expr c.args.expr.now) c.pop.new.self.items c.in-Some.outer (subst (chains.AreWithin (size-Expr c.args.expr.now)) c.in-Some.ensures.items c.loop-outer.invariant.small);
 }
 
-pub evaluate-returns-clause-is : goal.evaluate-returns-clause-is
-evaluate-returns-clause-is t c =
+pub evaluate_over-returns-clause-is : goal.evaluate_over-returns-clause-is
+evaluate_over-returns-clause-is t c =
     let none : length c.loop-outer.chain.items ≡ 0 = omega (arith, c.loop-outer.chain.ok.0, c.in_default.ensures.cases.0) in
     sym c.loop-outer.invariant.is
     ∙ all_made (objects c.args.known.now) c.loop-outer.stack.shown c.loop-outer.stack.scope c.args.at c.loop-outer.chain.items (c.loop-outer.value, left_of c.loop-outer.budget) (none_left c.loop-outer.chain.items none)
@@ -69,13 +70,13 @@ first_of-returns-in_err-value-clause-is t c =
 pub first_of-returns-then-is_decided-clause-is : goal.first_of-returns-then-is_decided-clause-is
 first_of-returns-then-is_decided-clause-is t c =
     operand_decides (objects c.args.known.now) c.loop-operand.stack.shown c.args.decides c.loop-operand.stack.scope c.args.at c.args.operands.now c.loop-operand.operand-index c.operand-item.result c.loop-operand.value (left_of c.loop-operand.budget) _
-    c.loop-operand-test.true c.operand-item.is c.loop-operand.invariant.is c.evaluate.new.stack.shown c.in_ok-value.value (left_of c.evaluate.new.budget) c.in_ok-value.ensures.is (sym c.is_decided.ensures ∙ c.if-is_decided.true)
+    c.loop-operand-test.true c.operand-item.is c.loop-operand.invariant.is c.evaluate_over.new.stack.shown c.in_ok-value.value (left_of c.evaluate_over.new.budget) c.in_ok-value.ensures.is (sym c.is_decided.ensures ∙ c.if-is_decided.true)
 
 pub first_of-loop-operand-preserved : goal.first_of-loop-operand-preserved
 first_of-loop-operand-preserved t c = record {
   is = next_operand (objects c.args.known.now) c.loop-operand.stack.shown c.args.decides c.loop-operand.stack.scope c.args.at c.args.operands.now c.loop-operand.operand-index c.operand-item.result c.loop-operand.value (left_of c.loop-operand.budget) _
-      c.loop-operand-test.true c.operand-item.is c.loop-operand.invariant.is c.evaluate.new.stack.shown c.evaluate.new.stack.scope c.in_ok-value.value (left_of c.evaluate.new.budget) c.in_ok-value.ensures.is (sym c.is_decided.ensures ∙ c.if-is_decided.false) c.evaluate.ensures.keeps.scope;
-  keeps = keeps_on c.args.stack.now c.loop-operand.stack c.evaluate.new.stack c.args.budget.now c.loop-operand.budget c.evaluate.new.budget c.loop-operand.invariant.keeps c.evaluate.ensures.keeps;
+      c.loop-operand-test.true c.operand-item.is c.loop-operand.invariant.is c.evaluate_over.new.stack.shown c.evaluate_over.new.stack.scope c.in_ok-value.value (left_of c.evaluate_over.new.budget) c.in_ok-value.ensures.is (sym c.is_decided.ensures ∙ c.if-is_decided.false) c.evaluate_over.ensures.keeps.scope;
+  keeps = keeps_on c.args.stack.now c.loop-operand.stack c.evaluate_over.new.stack c.args.budget.now c.loop-operand.budget c.evaluate_over.new.budget c.loop-operand.invariant.keeps c.evaluate_over.ensures.keeps;
 }
 
 pub first_of-returns-clause-is : goal.first_of-returns-clause-is
@@ -95,8 +96,8 @@ pub onto-returns-in_ok-right-in-Compare-clause-is : goal.onto-returns-in_ok-righ
 unfolding chains.onto
 onto-returns-in_ok-right-in-Compare-clause-is t c =
     let is : view c.args.expr.now ≡ trees.Compare (view c.in-Compare.field-0.value) c.in-Compare.order (view c.deref.result.now) = ap view c.in-Compare.is ∙ ap (λ (e : Expr). trees.Compare (view c.in-Compare.field-0.value) c.in-Compare.order (view e)) (sym c.deref.ensures) in
-    subst (λ (t : trees.Tree). Shows {A = Val × Left} told (λ v. (v, left_of c.evaluate.new.budget)) c.evaluate.new.stack.shown c.compare.result (looked (objects c.args.known.now) c.args.stack.now.shown (chains.onto c.args.stack.now.scope c.args.at t (c.args.left, (left_of c.args.budget.now))))) (sym is)
-    (operates (objects c.args.known.now) c.args.stack.now.shown c.evaluate.new.stack.shown (evaluated c.args.stack.now.scope c.args.at (view c.deref.result.now) (left_of c.args.budget.now)) c.args.left c.in_ok-right-in-Compare.right (left_of c.evaluate.new.budget) c.compare.result (compared c.args.at c.in-Compare.order) c.in_ok-right-in-Compare.ensures.is (c.compare.ensures (objects c.args.known.now) c.evaluate.new.stack.shown))
+    subst (λ (t : trees.Tree). Shows {A = Val × Left} told (λ v. (v, left_of c.evaluate_over.new.budget)) c.evaluate_over.new.stack.shown c.compare.result (looked (objects c.args.known.now) c.args.stack.now.shown (chains.onto c.args.stack.now.scope c.args.at t (c.args.left, (left_of c.args.budget.now))))) (sym is)
+    (operates (objects c.args.known.now) c.args.stack.now.shown c.evaluate_over.new.stack.shown (evaluated c.args.stack.now.scope c.args.at (view c.deref.result.now) (left_of c.args.budget.now)) c.args.left c.in_ok-right-in-Compare.right (left_of c.evaluate_over.new.budget) c.compare.result (compared c.args.at c.in-Compare.order) c.in_ok-right-in-Compare.ensures.is (c.compare.ensures (objects c.args.known.now) c.evaluate_over.new.stack.shown))
 
 pub onto-returns-in_err-right-in-Add-clause-is : goal.onto-returns-in_err-right-in-Add-clause-is
 unfolding chains.onto
@@ -110,8 +111,8 @@ pub onto-returns-in_ok-right-in-Add-clause-is : goal.onto-returns-in_ok-right-in
 unfolding chains.onto
 onto-returns-in_ok-right-in-Add-clause-is t c =
     let is : view c.args.expr.now ≡ trees.Add (view c.in-Add.field-0.value) (view c.deref-in-Add.result.now) = ap view c.in-Add.is ∙ ap (λ (e : Expr). trees.Add (view c.in-Add.field-0.value) (view e)) (sym c.deref-in-Add.ensures) in
-    subst (λ (t : trees.Tree). Shows {A = Val × Left} told (λ v. (v, left_of c.add.new.budget)) c.evaluate-in-Add.new.stack.shown c.add.result (looked (objects c.args.known.now) c.args.stack.now.shown (chains.onto c.args.stack.now.scope c.args.at t (c.args.left, (left_of c.args.budget.now))))) (sym is)
-    (goes_so {A = Val × Left} {B = Val × Left} told (λ v. (v, left_of c.add.new.budget)) c.evaluate-in-Add.new.stack.shown c.add.result (objects c.args.known.now) c.args.stack.now.shown (evaluated c.args.stack.now.scope c.args.at (view c.deref-in-Add.result.now) (left_of c.args.budget.now)) (λ (y : Val × Left). added c.args.at c.args.left y.0 y.1) (c.in_ok-right-in-Add.right, left_of c.evaluate-in-Add.new.budget) c.evaluate-in-Add.new.stack.shown c.in_ok-right-in-Add.ensures.is (c.add.ensures.is (objects c.args.known.now) c.evaluate-in-Add.new.stack.shown))
+    subst (λ (t : trees.Tree). Shows {A = Val × Left} told (λ v. (v, left_of c.add.new.budget)) c.evaluate_over-in-Add.new.stack.shown c.add.result (looked (objects c.args.known.now) c.args.stack.now.shown (chains.onto c.args.stack.now.scope c.args.at t (c.args.left, (left_of c.args.budget.now))))) (sym is)
+    (goes_so {A = Val × Left} {B = Val × Left} told (λ v. (v, left_of c.add.new.budget)) c.evaluate_over-in-Add.new.stack.shown c.add.result (objects c.args.known.now) c.args.stack.now.shown (evaluated c.args.stack.now.scope c.args.at (view c.deref-in-Add.result.now) (left_of c.args.budget.now)) (λ (y : Val × Left). added c.args.at c.args.left y.0 y.1) (c.in_ok-right-in-Add.right, left_of c.evaluate_over-in-Add.new.budget) c.evaluate_over-in-Add.new.stack.shown c.in_ok-right-in-Add.ensures.is (c.add.ensures.is (objects c.args.known.now) c.evaluate_over-in-Add.new.stack.shown))
 
 pub onto-returns-in_err-right-in-Sub-clause-is : goal.onto-returns-in_err-right-in-Sub-clause-is
 unfolding chains.onto
@@ -125,8 +126,8 @@ pub onto-returns-in_ok-right-in-Sub-clause-is : goal.onto-returns-in_ok-right-in
 unfolding chains.onto
 onto-returns-in_ok-right-in-Sub-clause-is t c =
     let is : view c.args.expr.now ≡ trees.Sub (view c.in-Sub.field-0.value) (view c.deref-in-Sub.result.now) = ap view c.in-Sub.is ∙ ap (λ (e : Expr). trees.Sub (view c.in-Sub.field-0.value) (view e)) (sym c.deref-in-Sub.ensures) in
-    subst (λ (t : trees.Tree). Shows {A = Val × Left} told (λ v. (v, left_of c.evaluate-in-Sub.new.budget)) c.evaluate-in-Sub.new.stack.shown c.subtract.result (looked (objects c.args.known.now) c.args.stack.now.shown (chains.onto c.args.stack.now.scope c.args.at t (c.args.left, (left_of c.args.budget.now))))) (sym is)
-    (operates (objects c.args.known.now) c.args.stack.now.shown c.evaluate-in-Sub.new.stack.shown (evaluated c.args.stack.now.scope c.args.at (view c.deref-in-Sub.result.now) (left_of c.args.budget.now)) c.args.left c.in_ok-right-in-Sub.right (left_of c.evaluate-in-Sub.new.budget) c.subtract.result (operated c.args.at Less) c.in_ok-right-in-Sub.ensures.is (c.subtract.ensures (objects c.args.known.now) c.evaluate-in-Sub.new.stack.shown))
+    subst (λ (t : trees.Tree). Shows {A = Val × Left} told (λ v. (v, left_of c.evaluate_over-in-Sub.new.budget)) c.evaluate_over-in-Sub.new.stack.shown c.subtract.result (looked (objects c.args.known.now) c.args.stack.now.shown (chains.onto c.args.stack.now.scope c.args.at t (c.args.left, (left_of c.args.budget.now))))) (sym is)
+    (operates (objects c.args.known.now) c.args.stack.now.shown c.evaluate_over-in-Sub.new.stack.shown (evaluated c.args.stack.now.scope c.args.at (view c.deref-in-Sub.result.now) (left_of c.args.budget.now)) c.args.left c.in_ok-right-in-Sub.right (left_of c.evaluate_over-in-Sub.new.budget) c.subtract.result (operated c.args.at Less) c.in_ok-right-in-Sub.ensures.is (c.subtract.ensures (objects c.args.known.now) c.evaluate_over-in-Sub.new.stack.shown))
 
 pub onto-returns-in_err-right-in-Mul-clause-is : goal.onto-returns-in_err-right-in-Mul-clause-is
 unfolding chains.onto
@@ -140,14 +141,14 @@ pub onto-returns-in_ok-right-in-Mul-clause-is : goal.onto-returns-in_ok-right-in
 unfolding chains.onto
 onto-returns-in_ok-right-in-Mul-clause-is t c =
     let is : view c.args.expr.now ≡ trees.Mul (view c.in-Mul.field-0.value) (view c.deref-in-Mul.result.now) = ap view c.in-Mul.is ∙ ap (λ (e : Expr). trees.Mul (view c.in-Mul.field-0.value) (view e)) (sym c.deref-in-Mul.ensures) in
-    subst (λ (t : trees.Tree). Shows {A = Val × Left} told (λ v. (v, left_of c.evaluate-in-Mul.new.budget)) c.evaluate-in-Mul.new.stack.shown c.multiply.result (looked (objects c.args.known.now) c.args.stack.now.shown (chains.onto c.args.stack.now.scope c.args.at t (c.args.left, (left_of c.args.budget.now))))) (sym is)
-    (operates (objects c.args.known.now) c.args.stack.now.shown c.evaluate-in-Mul.new.stack.shown (evaluated c.args.stack.now.scope c.args.at (view c.deref-in-Mul.result.now) (left_of c.args.budget.now)) c.args.left c.in_ok-right-in-Mul.right (left_of c.evaluate-in-Mul.new.budget) c.multiply.result (operated c.args.at Times) c.in_ok-right-in-Mul.ensures.is (c.multiply.ensures (objects c.args.known.now) c.evaluate-in-Mul.new.stack.shown))
+    subst (λ (t : trees.Tree). Shows {A = Val × Left} told (λ v. (v, left_of c.evaluate_over-in-Mul.new.budget)) c.evaluate_over-in-Mul.new.stack.shown c.multiply.result (looked (objects c.args.known.now) c.args.stack.now.shown (chains.onto c.args.stack.now.scope c.args.at t (c.args.left, (left_of c.args.budget.now))))) (sym is)
+    (operates (objects c.args.known.now) c.args.stack.now.shown c.evaluate_over-in-Mul.new.stack.shown (evaluated c.args.stack.now.scope c.args.at (view c.deref-in-Mul.result.now) (left_of c.args.budget.now)) c.args.left c.in_ok-right-in-Mul.right (left_of c.evaluate_over-in-Mul.new.budget) c.multiply.result (operated c.args.at Times) c.in_ok-right-in-Mul.ensures.is (c.multiply.ensures (objects c.args.known.now) c.evaluate_over-in-Mul.new.stack.shown))
 
 pub onto-returns-in-Dot-clause-is : goal.onto-returns-in-Dot-clause-is
 unfolding chains.onto
 onto-returns-in-Dot-clause-is t c =
     subst (λ (t : trees.Tree). Shows {A = Val × Left} told (λ v. (v, (left_of c.args.budget.now))) c.member.new.stack.shown c.member.result (looked (objects c.args.known.now) c.args.stack.now.shown (chains.onto c.args.stack.now.scope c.args.at t (c.args.left, (left_of c.args.budget.now))))) (sym (ap view c.in-Dot.is))
-    (left_so told (λ v. v) c.member.new.stack.shown c.member.result (objects c.args.known.now) c.args.stack.now.shown (member c.args.stack.now.scope c.args.at c.args.left c.in-Dot.name) (left_of c.args.budget.now) c.member.ensures.is)
+    (left_so told (λ v. v) c.member.new.stack.shown c.member.result (objects c.args.known.now) c.args.stack.now.shown (member c.args.stack.now.scope c.args.at c.args.left c.in-Dot.name) (left_of c.args.budget.now) (subst (λ (rows : List (ℕ × Kept)). Shows {A = Val} told (λ v. v) c.member.new.stack.shown c.member.result (looked (objects rows) c.args.stack.now.shown (member c.args.stack.now.scope c.args.at c.args.left c.in-Dot.name))) (sym c.requires.known) c.member.ensures.is))
 
 pub onto-returns-in-Number-clause-is : goal.onto-returns-in-Number-clause-is
 unfolding chains.onto
@@ -186,7 +187,7 @@ pub single-returns-in-Name-clause-is : goal.single-returns-in-Name-clause-is
 unfolding evaluated
 single-returns-in-Name-clause-is t c =
     subst (λ (t : trees.Tree). Shows {A = Val × Left} told (λ v. (v, (left_of c.args.budget.now))) c.value_of_name.new.stack.shown c.value_of_name.result (looked (objects c.args.known.now) c.args.stack.now.shown (evaluated c.args.stack.now.scope c.args.at t (left_of c.args.budget.now)))) (sym (ap view c.in-Name.is))
-    (left_so told (λ v. v) c.value_of_name.new.stack.shown c.value_of_name.result (objects c.args.known.now) c.args.stack.now.shown (value_of_name c.args.stack.now.scope c.in-Name.name) (left_of c.args.budget.now) c.value_of_name.ensures.is)
+    (left_so told (λ v. v) c.value_of_name.new.stack.shown c.value_of_name.result (objects c.args.known.now) c.args.stack.now.shown (value_of_name c.args.stack.now.scope c.in-Name.name) (left_of c.args.budget.now) (subst (λ (rows : List (ℕ × Kept)). Shows {A = Val} told (λ v. v) c.value_of_name.new.stack.shown c.value_of_name.result (looked (objects rows) c.args.stack.now.shown (value_of_name c.args.stack.now.scope c.in-Name.name))) (sym c.requires.known) c.value_of_name.ensures.is))
 
 pub single-returns-in-Or-clause-is : goal.single-returns-in-Or-clause-is
 unfolding evaluated
@@ -215,5 +216,5 @@ unfolding evaluated
 single-returns-in_ok-value-in-Not-clause-is t c =
     let is : view c.args.expr.now ≡ trees.Not (view c.deref.result.now) = ap view c.in-Not.is ∙ ap (λ (e : Expr). trees.Not (view e)) (sym c.deref.ensures) in
     ap (λ (t : trees.Tree). looked (objects c.args.known.now) c.args.stack.now.shown (evaluated c.args.stack.now.scope c.args.at t (left_of c.args.budget.now))) is
-    ∙ goes (objects c.args.known.now) c.args.stack.now.shown (evaluated c.args.stack.now.scope c.args.at (view c.deref.result.now) (left_of c.args.budget.now)) (λ (x : Val × Left). Done (flag (not (is_true x.0)), x.1)) (c.in_ok-value-in-Not.value, left_of c.evaluate.new.budget) c.evaluate.new.stack.shown _ c.in_ok-value-in-Not.ensures.is
-    (ap (λ (v : Val). Ok ((v, left_of c.evaluate.new.budget), c.evaluate.new.stack.shown)) (sym (c.flag.ensures ∙ ap (λ (b : Bool). flag (not b)) c.is_true.ensures)))
+    ∙ goes (objects c.args.known.now) c.args.stack.now.shown (evaluated c.args.stack.now.scope c.args.at (view c.deref.result.now) (left_of c.args.budget.now)) (λ (x : Val × Left). Done (flag (not (is_true x.0)), x.1)) (c.in_ok-value-in-Not.value, left_of c.evaluate_over.new.budget) c.evaluate_over.new.stack.shown _ c.in_ok-value-in-Not.ensures.is
+    (ap (λ (v : Val). Ok ((v, left_of c.evaluate_over.new.budget), c.evaluate_over.new.stack.shown)) (sym (c.flag.ensures ∙ ap (λ (b : Bool). flag (not b)) c.is_true.ensures)))

@@ -13,9 +13,9 @@ use Rattle.dtml_values.proofs.needing.value_of_name.Goals as goal
 pub returns-in_err-found-clause-is : goal.returns-in_err-found-clause-is
 returns-in_err-found-clause-is c =
     let p = err_from_is_err_and c.from_residual.result c.from_residual.ensures.1 in
-    rw (p.1, p.2) (name_stops (objects c.args.known.now) c.args.stack.now.shown (named c.args.stack.now.scope c.args.name.now) (defined c.args.name.now) c.in_err-found.field-0.0 (subst (λ (n : List ℕ). Told (lower.told c.in_err-found.field-0.0) (looked (objects c.args.known.now) c.args.stack.now.shown (named c.args.stack.now.scope n))) c.as_str.ensures c.in_err-found.ensures.is))
+    rw (p.1, p.2) (name_stops (objects c.args.stack.now.known) c.args.stack.now.shown (named c.args.stack.now.scope c.args.name.now) (defined c.args.name.now) c.in_err-found.field-0.0 (subst (λ (n : List ℕ). Told (lower.told c.in_err-found.field-0.0) (looked (objects c.args.stack.now.known) c.args.stack.now.shown (named c.args.stack.now.scope n))) c.as_str.ensures c.in_err-found.ensures.is))
 
 pub returns-clause-is : goal.returns-clause-is
 returns-clause-is c =
-    goes_so told (λ v. v) c.find.new.self.shown c.defined.result (objects c.args.known.now) c.args.stack.now.shown (named c.args.stack.now.scope c.args.name.now) (defined c.args.name.now) c.in_ok-found.found c.find.new.self.shown (subst (λ (n : List ℕ). looked (objects c.args.known.now) c.args.stack.now.shown (named c.args.stack.now.scope n) ≡ Ok (c.in_ok-found.found, c.find.new.self.shown)) c.as_str.ensures c.in_ok-found.ensures.is)
-    (c.defined.ensures (objects c.args.known.now) c.find.new.self.shown)
+    goes_so told (λ v. v) c.find.new.self.shown c.defined.result (objects c.args.stack.now.known) c.args.stack.now.shown (named c.args.stack.now.scope c.args.name.now) (defined c.args.name.now) c.in_ok-found.found c.find.new.self.shown (subst (λ (n : List ℕ). looked (objects c.args.stack.now.known) c.args.stack.now.shown (named c.args.stack.now.scope n) ≡ Ok (c.in_ok-found.found, c.find.new.self.shown)) c.as_str.ensures c.in_ok-found.ensures.is)
+    (c.defined.ensures (objects c.args.stack.now.known) c.find.new.self.shown)
