@@ -1,4 +1,5 @@
 mod ForUsers
+mod Lent
 mod PageLaws
 mod Seeing
 mod Steps

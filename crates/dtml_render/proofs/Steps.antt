@@ -174,7 +174,7 @@ front_of ls l = grind (arith, common_steps)
 pub popped_push : (l : Layer) (scope : Scope) → popped (push l scope) ≡ scope
 popped_push l scope = ap (λ (ls : List Layer). record scope { layers = ls }) (front_of scope.layers l)
 
-module _ (old pushed inner left : Space) (l : Layer) (is_pushed : pushed ≡ record { scope = push l old.scope; shown = old.shown }) (is_left : left ≡ record { scope = popped inner.scope; shown = inner.shown }) where
+module _ (old pushed inner left : Space) (l : Layer) (is_pushed : pushed ≡ record old { scope = push l old.scope }) (is_left : left ≡ record inner { scope = popped inner.scope }) where
   -- what was rendered under a layer
   pub shows_under : {X A E : Type 0} (tell : E → Option (Halt ℕ Fault)) (see : X → A) (result : Result X E) (k : ℕ → Option (Seen Object)) (q : Scope → Looks A) →
       Shows tell see inner.shown result (looked k pushed.shown (q pushed.scope)) → Shows tell see left.shown result (looked k old.shown (q (push l old.scope)))
@@ -184,6 +184,7 @@ module _ (old pushed inner left : Space) (l : Layer) (is_pushed : pushed ≡ rec
 
   pub keeps_under : (x y : Budget) → Keeps pushed inner x y → Keeps old left x y
   keeps_under x y keeps = record {
+    known = ap (λ (s : Space). s.known) is_left ∙ keeps.known ∙ ap (λ (s : Space). s.known) is_pushed;
     scope = ap (λ (s : Space). s.scope) is_left ∙ ap popped (keeps.scope ∙ ap (λ (s : Space). s.scope) is_pushed) ∙ popped_push l old.scope;
     shown = subst (λ (s : Space). Begins old.shown s.shown) (sym is_left) (subst (λ (s : Space). Begins s.shown inner.shown) is_pushed keeps.shown);
     renders = keeps.renders;
@@ -233,7 +234,7 @@ pub more_read : (renders n : ℕ) (scope : Scope) (tree : Items) (left : Left) �
 unfolding tree_text
 more_read renders n scope tree left e = ap (λ (m : ℕ). one_more m scope tree left) e
 
-module _ (old acted inner left : Space) (acting former : Option Who) (is_acted : acted ≡ record { scope = act acting old.scope; shown = old.shown }) (is_former : former ≡ old.scope.acting) (is_left : left ≡ record { scope = act former inner.scope; shown = inner.shown }) where
+module _ (old acted inner left : Space) (acting former : Option Who) (is_acted : acted ≡ record old { scope = act acting old.scope }) (is_former : former ≡ old.scope.acting) (is_left : left ≡ record inner { scope = act former inner.scope }) where
   -- what was rendered in someone's place
   pub shows_acted : {X A E : Type 0} (tell : E → Option (Halt ℕ Fault)) (see : X → A) (result : Result X E) (k : ℕ → Option (Seen Object)) (q : Scope → Looks A) →
       Shows tell see inner.shown result (looked k acted.shown (q acted.scope)) → Shows tell see left.shown result (looked k old.shown (q (act acting old.scope)))
@@ -243,6 +244,7 @@ module _ (old acted inner left : Space) (acting former : Option Who) (is_acted :
 
   pub keeps_acted : (x y : Budget) → Keeps acted inner x y → Keeps old left x y
   keeps_acted x y keeps = record {
+    known = ap (λ (s : Space). s.known) is_left ∙ keeps.known ∙ ap (λ (s : Space). s.known) is_acted;
     scope = ap (λ (s : Space). s.scope) is_left ∙ ap (λ (a : Option Who). act a inner.scope) is_former ∙ ap (act old.scope.acting) (keeps.scope ∙ ap (λ (s : Space). s.scope) is_acted);
     shown = subst (λ (s : Space). Begins old.shown s.shown) (sym is_left) (subst (λ (s : Space). Begins s.shown inner.shown) is_acted keeps.shown);
     renders = keeps.renders;
@@ -260,6 +262,7 @@ under_cut old new under = ap (λ (s : Scope). record s { layers = take (length o
 
 pub under_none : (a : Space) (x : Budget) → KeepsUnder a a x x
 under_none a x = record {
+  known = refl;
   scope = ([], ap (λ (ls : List Layer). record a.scope { layers = ls }) (sym (append-nil a.scope.layers)));
   shown = begins_none a.shown a.shown refl;
   renders = refl;
@@ -269,6 +272,7 @@ under_none a x = record {
 
 pub under_on : (a b c : Space) (x y z : Budget) → KeepsUnder a b x y → Keeps b c y z → KeepsUnder a c x z
 under_on a b c x y z p q = record {
+  known = q.known ∙ p.known;
   scope = (p.scope.0, q.scope ∙ p.scope.1);
   shown = begins_on a.shown b.shown c.shown p.shown q.shown;
   renders = q.renders ∙ p.renders;
@@ -276,8 +280,9 @@ under_on a b c x y z p q = record {
   output = omega (arith, p.output, q.output);
 }
 
-pub under_push : (a b c : Space) (x y : Budget) (l : Layer) → KeepsUnder a b x y → c ≡ record { scope = push l b.scope; shown = b.shown } → KeepsUnder a c x y
+pub under_push : (a b c : Space) (x y : Budget) (l : Layer) → KeepsUnder a b x y → c ≡ record b { scope = push l b.scope } → KeepsUnder a c x y
 under_push a b c x y l p is = record {
+  known = ap (λ (s : Space). s.known) is ∙ p.known;
   scope = (p.scope.0 ++ l ∷ [], ap (λ (s : Space). s.scope) is ∙ ap (push l) p.scope.1 ∙ ap (λ (ls : List Layer). record a.scope { layers = ls }) (append_assoc a.scope.layers p.scope.0 (l ∷ [])));
   shown = subst (λ (s : Space). Begins a.shown s.shown) (sym is) p.shown;
   renders = p.renders;
@@ -285,8 +290,9 @@ under_push a b c x y l p is = record {
   output = p.output;
 }
 
-pub under_taken : (a b c : Space) (x y : Budget) (depth : ℕ) → depth ≡ length a.scope.layers → KeepsUnder a b x y → c.scope ≡ record b.scope { layers = take depth b.scope.layers } → c.shown ≡ b.shown → Keeps a c x y
-under_taken a b c x y depth deep p scope shown = record {
+pub under_taken : (a b c : Space) (x y : Budget) (depth : ℕ) → depth ≡ length a.scope.layers → KeepsUnder a b x y → c.known ≡ b.known → c.scope ≡ record b.scope { layers = take depth b.scope.layers } → c.shown ≡ b.shown → Keeps a c x y
+under_taken a b c x y depth deep p known scope shown = record {
+  known = known ∙ p.known;
   scope = scope ∙ ap (λ (n : ℕ). record b.scope { layers = take n b.scope.layers }) deep ∙ under_cut a.scope b.scope p.scope;
   shown = subst (Begins a.shown) (sym shown) p.shown;
   renders = p.renders;
@@ -331,6 +337,7 @@ tree_begun {tree = tree} {out = out} P same empty is = subst (P tree) empty (sub
 -- a tag that was paid for, and then a call
 pub paid_on : (a b : Space) (x y z : Budget) → y.renders ≡ x.renders → y.tags ≤ x.tags → y.output ≡ x.output → Keeps a b y z → Keeps a b x z
 paid_on a b x y z renders tags output keeps = record {
+  known = keeps.known;
   scope = keeps.scope;
   shown = keeps.shown;
   renders = keeps.renders ∙ renders;
@@ -363,7 +370,7 @@ pub popped_length : (ls : List Layer) → 0 < length ls → length (take (length
 popped_length ls lt = length-take-le (length ls - 1) ls (omega arith)
 
 pub cut_step : (old before after : Space) (depth : ℕ) → record before.scope { layers = take depth before.scope.layers } ≡ record old.scope { layers = take depth old.scope.layers } → depth < length before.scope.layers →
-    after ≡ record { scope = popped before.scope; shown = before.shown } → record after.scope { layers = take depth after.scope.layers } ≡ record old.scope { layers = take depth old.scope.layers }
+    after ≡ record before { scope = popped before.scope } → record after.scope { layers = take depth after.scope.layers } ≡ record old.scope { layers = take depth old.scope.layers }
 cut_step old before after depth same lt is =
     ap (λ (s : Space). record s.scope { layers = take depth s.scope.layers }) is
     ∙ ap (λ (ls : List Layer). record before.scope { layers = ls }) (cut_one depth before.scope.layers lt)

@@ -11,6 +11,7 @@ IsUnder old new = (rest : List Layer) × (new ≡ record old { layers = old.laye
 
 -- what stands after a call that pushes layers, also after a refusal
 pub record KeepsUnder (old new : Space) (before after : Budget) : Type 0 where
+  pub known : new.known ≡ old.known
   pub scope : IsUnder old.scope new.scope
   pub shown : Begins old.shown new.shown
   pub renders : after.renders ≡ before.renders

@@ -1,14 +1,17 @@
-ghost use Rattle.std.specs.Prelude.{◌≡◌, ◌≤◌, List, length, take};
+ghost use Rattle.std.specs.Prelude.{◌≡◌, ◌≤◌, ℕ, List, length, take, IfSome, Ok, Some};
 ghost use Rattle.evaluator.specs.declared.reply.Shown.{Shown};
 ghost use Rattle.zobject.specs.Shapes.{form_of};
 ghost use Rattle.zknown.specs.Seen.{objects};
 ghost use Rattle.namespace.specs.Looks.{looked};
 ghost use Rattle.namespace.specs.Names as names;
 ghost use Rattle.namespace.specs.Told.{Begins, Shows};
+ghost use Rattle.dtml_parse.specs.Views.{arg_view};
+ghost use Rattle.dtml_values.specs.Values.{Left};
 ghost use Rattle.dtml_values.specs.Told.{told};
 ghost use Rattle.dtml_render.specs.Rendering as rendering;
 
 use acquisition::{Wrapped, here};
+use dtml_parse::Arg;
 use dtml_values::RenderRefusal;
 use namespace::{Single, Stack, Val};
 use zbase::{Oid, Text};
@@ -16,30 +19,24 @@ use zknown::Known;
 use zobject::{Object, Part2};
 
 /// The value of a name in the stack.
-pub(crate) fn find(
-    name: &Text,
-    known: &Known,
-    stack: &mut Stack,
-) -> Result<Option<Val>, RenderRefusal>
-    ensures is { Shows told (λ v. v) stack.new.shown result (looked (objects known.now) stack.old.shown (names.named stack.old.scope name.now)) }
+pub(crate) fn find(name: &Text, stack: &mut Stack<'_>) -> Result<Option<Val>, RenderRefusal>
+    ensures is { Shows told (λ v. v) stack.new.shown result (looked (objects stack.old.known) stack.old.shown (names.named stack.old.scope name.now)) }
+    ensures known { stack.new.known ≡ stack.old.known }
     ensures scope { stack.new.scope ≡ stack.old.scope }
     ensures shown { Begins stack.old.shown stack.new.shown }
 {
-    let found = stack.find(known, name.as_str())?;
+    let found = stack.find(name.as_str())?;
     Ok(found)
 }
 
 /// The object with its contents, which the user must be granted to view; it is then shown.
-pub(crate) fn open<'k>(
-    oid: Oid,
-    known: &'k Known,
-    stack: &mut Stack,
-) -> Result<&'k Object, RenderRefusal>
-    ensures is { Shows told (λ o. o.now) stack.new.shown result (looked (objects known.now) stack.old.shown (names.viewing (names.whose stack.old.scope) oid)) }
+pub(crate) fn open<'k>(oid: Oid, stack: &mut Stack<'k>) -> Result<&'k Object, RenderRefusal>
+    ensures is { Shows told (λ o. o.now) stack.new.shown result (looked (objects stack.old.known) stack.old.shown (names.viewing (names.whose stack.old.scope) oid)) }
+    ensures known { stack.new.known ≡ stack.old.known }
     ensures scope { stack.new.scope ≡ stack.old.scope }
     ensures shown { Begins stack.old.shown stack.new.shown }
 {
-    let object = stack.open(known, oid)?;
+    let object = stack.open(oid)?;
     Ok(object)
 }
 
@@ -62,21 +59,17 @@ pub(crate) fn sourced(object: &Wrapped, known: &Known) -> Result<bool, RenderRef
 }
 
 // Whether an item that is an object has its turn.
-fn object_turn(
-    skip: bool,
-    object: &Wrapped,
-    known: &Known,
-    stack: &mut Stack,
-) -> Result<bool, RenderRefusal>
-    ensures is { Shows told (λ may. may) stack.new.shown result (looked (objects known.now) stack.old.shown (rendering.object_turn stack.old.scope skip object.now)) }
+fn object_turn(skip: bool, object: &Wrapped, stack: &mut Stack<'_>) -> Result<bool, RenderRefusal>
+    ensures is { Shows told (λ may. may) stack.new.shown result (looked (objects stack.old.known) stack.old.shown (rendering.object_turn stack.old.scope skip object.now)) }
+    ensures known { stack.new.known ≡ stack.old.known }
     ensures scope { stack.new.scope ≡ stack.old.scope }
     ensures shown { Begins stack.old.shown stack.new.shown }
 {
     if skip {
-        let granted = stack.offer(known, object.oid())?;
+        let granted = stack.offer(object.oid())?;
         return Ok(granted);
     }
-    stack.view(known, object.oid())?;
+    stack.view(object.oid())?;
     Ok(true)
 }
 
@@ -84,26 +77,38 @@ fn object_turn(
 pub(crate) fn has_turn(
     skip: bool,
     item: &Single,
-    known: &Known,
-    stack: &mut Stack,
+    stack: &mut Stack<'_>,
 ) -> Result<bool, RenderRefusal>
-    ensures is { Shows told (λ may. may) stack.new.shown result (looked (objects known.now) stack.old.shown (rendering.has_turn stack.old.scope skip item.now)) }
+    ensures is { Shows told (λ may. may) stack.new.shown result (looked (objects stack.old.known) stack.old.shown (rendering.has_turn stack.old.scope skip item.now)) }
+    ensures known { stack.new.known ≡ stack.old.known }
     ensures scope { stack.new.scope ≡ stack.old.scope }
     ensures shown { Begins stack.old.shown stack.new.shown }
 {
     match item {
-        Single::Obj(object) => object_turn(skip, object, known, stack),
+        Single::Obj(object) => object_turn(skip, object, stack),
         Single::Text(_) | Single::Int(_) => Ok(true),
     }
 }
 
 /// Takes away the newest layers, so that so many are left. Takes no memory.
-pub(crate) fn cut(depth: usize, stack: &mut Stack)
+pub(crate) fn cut(depth: usize, stack: &mut Stack<'_>)
     requires { depth ≤ length stack.old.scope.layers }
+    ensures known { stack.new.known ≡ stack.old.known }
     ensures scope { stack.new.scope ≡ record stack.old.scope { layers = take depth stack.old.scope.layers } }
     ensures shown { stack.new.shown ≡ stack.old.shown }
 {
     while stack.depth() > depth {
         stack.pop();
+    }
+}
+
+/// The text that the object that was viewed last lends to a tag. Takes no memory.
+#[tactic(auto, unfolding(crate::specs::Rendering::argument, crate::specs::Rendering::rendered_if))]
+pub(crate) fn lent<'k>(arg: &Arg, stack: &Stack<'k>) -> Option<&'k Text>
+    ensures { IfSome result (λ t. (inside : rendering.Inside) (at : ℕ) (left : Left) → looked (objects stack.now.known) stack.now.shown (rendering.argument inside stack.now.scope at (arg_view arg.now) left) ≡ Ok ((Some (names.text t.now), left), stack.now.shown)) }
+{
+    match arg {
+        Arg::Name(name) => stack.lent(name.as_str()),
+        Arg::Expression(_) => None,
     }
 }

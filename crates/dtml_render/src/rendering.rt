@@ -13,10 +13,10 @@ ghost use Rattle.dtml_render.specs.Access.{IsActing};
 ghost use Rattle.dtml_render.specs.Rendering as rendering;
 ghost use Rattle.dtml_render.specs.Told.{KeepsUnder};
 
-use crate::asking::{cut, find, has_turn, open, sourced};
+use crate::asking::{cut, find, has_turn, lent, open, sourced};
 use crate::items::{item_names, one_name, turned};
 use crate::reading::{read_source, source_of};
-use crate::showing::{name_of, put_value};
+use crate::showing::{name_of, put_text, put_value};
 use acquisition::Wrapped;
 use dtml_parse::{Arg, Arm, Binding, Node, Tree, VarTag};
 use dtml_values::{
@@ -54,16 +54,16 @@ struct Loop<'a> {
 pub fn render(
     alloc: Global,
     tree: &Tree,
-    stack: &mut Stack,
-    known: &Known,
+    stack: &mut Stack<'_>,
     budget: &mut Budget,
 ) -> Result<Text, RenderRefusal>
-    ensures is { Shows told (λ t. (t, left_of budget.new)) stack.new.shown result (looked (objects known.now) stack.old.shown (rendering.tree_text budget.old.renders stack.old.scope (tree_view tree.now) (left_of budget.old))) }
+    ensures is { Shows told (λ t. (t, left_of budget.new)) stack.new.shown result (looked (objects stack.old.known) stack.old.shown (rendering.tree_text budget.old.renders stack.old.scope (tree_view tree.now) (left_of budget.old))) }
     ensures keeps { Keeps stack.old stack.new budget.old budget.new }
-    ensures used { (o : ℕ) → Views (objects known.now) o (rendering.tree_text budget.old.renders stack.old.scope (tree_view tree.now) (left_of budget.old)) → IfOk result (λ t. IsShown o stack.new.shown) }
-    ensures granted { (before : List Use) → stack.old.shown ≡ without_users before → AreGranted (IsActing (objects known.now) stack.old.scope) (objects known.now) before → IfOk result (λ t. (uses : List Use) × (stack.new.shown ≡ without_users uses) × AreGranted (IsActing (objects known.now) stack.old.scope) (objects known.now) uses) }
-    ensures denied { (o permission : ℕ) → IfErr result (λ e. told e ≡ Some (Cause (Unauthorized o permission)) → IsDenied (IsActing (objects known.now) stack.old.scope) (objects known.now) o permission) }
+    ensures used { (o : ℕ) → Views (objects stack.old.known) o (rendering.tree_text budget.old.renders stack.old.scope (tree_view tree.now) (left_of budget.old)) → IfOk result (λ t. IsShown o stack.new.shown) }
+    ensures granted { (before : List Use) → stack.old.shown ≡ without_users before → AreGranted (IsActing (objects stack.old.known) stack.old.scope) (objects stack.old.known) before → IfOk result (λ t. (uses : List Use) × (stack.new.shown ≡ without_users uses) × AreGranted (IsActing (objects stack.old.known) stack.old.scope) (objects stack.old.known) uses) }
+    ensures denied { (o permission : ℕ) → IfErr result (λ e. told e ≡ Some (Cause (Unauthorized o permission)) → IsDenied (IsActing (objects stack.old.known) stack.old.scope) (objects stack.old.known) o permission) }
 {
+    let known = stack.known();
     tree_text(alloc, tree, known, stack, budget)
 }
 
@@ -73,9 +73,10 @@ fn tree_text(
     alloc: Global,
     tree: &Tree,
     known: &Known,
-    stack: &mut Stack,
+    stack: &mut Stack<'_>,
     budget: &mut Budget,
 ) -> Result<Text, RenderRefusal>
+    requires known { known.now ≡ stack.old.known }
     ensures is { Shows told (λ t. (t, left_of budget.new)) stack.new.shown result (looked (objects known.now) stack.old.shown (rendering.tree_text budget.old.renders stack.old.scope (tree_view tree.now) (left_of budget.old))) }
     ensures keeps { Keeps stack.old stack.new budget.old budget.new }
 {
@@ -91,10 +92,11 @@ fn node_text(
     alloc: Global,
     node: &Node,
     known: &Known,
-    stack: &mut Stack,
+    stack: &mut Stack<'_>,
     budget: &mut Budget,
     out: &mut Text,
 ) -> Result<(), RenderRefusal>
+    requires known { known.now ≡ stack.old.known }
     ensures is { Shows told (λ u. rendering.state out.new (left_of budget.new)) stack.new.shown result (looked (objects known.now) stack.old.shown (rendering.item_text (rendering.source_text budget.old.renders) stack.old.scope (node_view node.now) (rendering.state out.old (left_of budget.old)))) }
     ensures keeps { Keeps stack.old stack.new budget.old budget.new }
 {
@@ -157,10 +159,11 @@ fn block_text(
     alloc: Global,
     nodes: &[Node],
     known: &Known,
-    stack: &mut Stack,
+    stack: &mut Stack<'_>,
     budget: &mut Budget,
     out: &mut Text,
 ) -> Result<(), RenderRefusal>
+    requires known { known.now ≡ stack.old.known }
     ensures is { Shows told (λ u. rendering.state out.new (left_of budget.new)) stack.new.shown result (looked (objects known.now) stack.old.shown (rendering.items_text (rendering.source_text budget.old.renders) stack.old.scope (list_view nodes.now) (rendering.state out.old (left_of budget.old)))) }
     ensures keeps { Keeps stack.old stack.new budget.old budget.new }
 {
@@ -175,10 +178,11 @@ fn else_text(
     alloc: Global,
     otherwise: &Option<Tree>,
     known: &Known,
-    stack: &mut Stack,
+    stack: &mut Stack<'_>,
     budget: &mut Budget,
     out: &mut Text,
 ) -> Result<(), RenderRefusal>
+    requires known { known.now ≡ stack.old.known }
     ensures is { Shows told (λ u. rendering.state out.new (left_of budget.new)) stack.new.shown result (looked (objects known.now) stack.old.shown (rendering.else_text (rendering.source_text budget.old.renders) stack.old.scope (otherwise_view otherwise.now) (rendering.state out.old (left_of budget.old)))) }
     ensures keeps { Keeps stack.old stack.new budget.old budget.new }
 {
@@ -197,13 +201,17 @@ fn var_text(
     at: u32,
     tag: &VarTag,
     known: &Known,
-    stack: &mut Stack,
+    stack: &mut Stack<'_>,
     budget: &mut Budget,
     out: &mut Text,
 ) -> Result<(), RenderRefusal>
+    requires known { known.now ≡ stack.old.known }
     ensures is { Shows told (λ u. rendering.state out.new (left_of budget.new)) stack.new.shown result (looked (objects known.now) stack.old.shown (rendering.var_text (rendering.source_text budget.old.renders) stack.old.scope at (arg_view tag.now.arg) (marks_view tag.now) (rendering.state out.old (left_of budget.old)))) }
     ensures keeps { Keeps stack.old stack.new budget.old budget.new }
 {
+    if let Some(text) = lent(&tag.arg, stack) {
+        return put_text(alloc, at, tag, text, budget, out);
+    }
     let found = argument(alloc, at, &tag.arg, known, stack, budget)?;
     put_value(alloc, at, tag, found, budget, out)
 }
@@ -215,9 +223,10 @@ fn call_text(
     at: u32,
     arg: &Arg,
     known: &Known,
-    stack: &mut Stack,
+    stack: &mut Stack<'_>,
     budget: &mut Budget,
 ) -> Result<(), RenderRefusal>
+    requires known { known.now ≡ stack.old.known }
     ensures is { (out : List ℕ) → Shows told (λ u. rendering.state out (left_of budget.new)) stack.new.shown result (looked (objects known.now) stack.old.shown (rendering.call_text (rendering.source_text budget.old.renders) stack.old.scope at (arg_view arg.now) (rendering.state out (left_of budget.old)))) }
     ensures keeps { Keeps stack.old stack.new budget.old budget.new }
 {
@@ -231,10 +240,11 @@ fn arms_text(
     arms: &[Arm],
     otherwise: &Option<Tree>,
     known: &Known,
-    stack: &mut Stack,
+    stack: &mut Stack<'_>,
     budget: &mut Budget,
     out: &mut Text,
 ) -> Result<(), RenderRefusal>
+    requires known { known.now ≡ stack.old.known }
     ensures is { Shows told (λ u. rendering.state out.new (left_of budget.new)) stack.new.shown result (looked (objects known.now) stack.old.shown (rendering.arms_text (rendering.source_text budget.old.renders) stack.old.scope (arm_list_view arms.now) (rendering.else_text (rendering.source_text budget.old.renders) stack.old.scope (otherwise_view otherwise.now)) (rendering.state out.old (left_of budget.old)))) }
     ensures keeps { Keeps stack.old stack.new budget.old budget.new }
 {
@@ -255,10 +265,11 @@ fn unless_text(
     arg: &Arg,
     block: &Tree,
     known: &Known,
-    stack: &mut Stack,
+    stack: &mut Stack<'_>,
     budget: &mut Budget,
     out: &mut Text,
 ) -> Result<(), RenderRefusal>
+    requires known { known.now ≡ stack.old.known }
     ensures is { Shows told (λ u. rendering.state out.new (left_of budget.new)) stack.new.shown result (looked (objects known.now) stack.old.shown (rendering.unless_text (rendering.source_text budget.old.renders) stack.old.scope at (arg_view arg.now) (rendering.items_text (rendering.source_text budget.old.renders) stack.old.scope (tree_view block.now)) (rendering.state out.old (left_of budget.old)))) }
     ensures keeps { Keeps stack.old stack.new budget.old budget.new }
 {
@@ -275,10 +286,11 @@ fn loop_text(
     alloc: Global,
     tag: &Loop<'_>,
     known: &Known,
-    stack: &mut Stack,
+    stack: &mut Stack<'_>,
     budget: &mut Budget,
     out: &mut Text,
 ) -> Result<(), RenderRefusal>
+    requires known { known.now ≡ stack.old.known }
     ensures is { Shows told (λ u. rendering.state out.new (left_of budget.new)) stack.new.shown result (looked (objects known.now) stack.old.shown (rendering.loop_text (rendering.source_text budget.old.renders) stack.old.scope tag.now.at (arg_view tag.now.arg.now) tag.now.reverse tag.now.skip (λ scope. rendering.items_text (rendering.source_text budget.old.renders) scope (list_view tag.now.block.now)) (rendering.else_text (rendering.source_text budget.old.renders) stack.old.scope (otherwise_view tag.now.otherwise.now)) (rendering.state out.old (left_of budget.old)))) }
     ensures keeps { Keeps stack.old stack.new budget.old budget.new }
 {
@@ -294,10 +306,11 @@ fn over(
     tag: &Loop<'_>,
     items: Singles,
     known: &Known,
-    stack: &mut Stack,
+    stack: &mut Stack<'_>,
     budget: &mut Budget,
     out: &mut Text,
 ) -> Result<(), RenderRefusal>
+    requires known { known.now ≡ stack.old.known }
     ensures is { Shows told (λ u. rendering.state out.new (left_of budget.new)) stack.new.shown result (looked (objects known.now) stack.old.shown (rendering.over_items stack.old.scope tag.now.reverse tag.now.skip (λ scope. rendering.items_text (rendering.source_text budget.old.renders) scope (list_view tag.now.block.now)) (rendering.else_text (rendering.source_text budget.old.renders) stack.old.scope (otherwise_view tag.now.otherwise.now)) items (rendering.state out.old (left_of budget.old)))) }
     ensures keeps { Keeps stack.old stack.new budget.old budget.new }
 {
@@ -314,10 +327,11 @@ fn each(
     tag: &Loop<'_>,
     items: &[Single],
     known: &Known,
-    stack: &mut Stack,
+    stack: &mut Stack<'_>,
     budget: &mut Budget,
     out: &mut Text,
 ) -> Result<(), RenderRefusal>
+    requires known { known.now ≡ stack.old.known }
     ensures is { Shows told (λ u. rendering.state out.new (left_of budget.new)) stack.new.shown result (looked (objects known.now) stack.old.shown (rendering.each (λ scope. rendering.items_text (rendering.source_text budget.old.renders) scope (list_view tag.now.block.now)) stack.old.scope tag.now.skip (length items.now) 0 items.now (rendering.state out.old (left_of budget.old)))) }
     ensures keeps { Keeps stack.old stack.new budget.old budget.new }
 {
@@ -342,15 +356,16 @@ fn turn(
     before: u32,
     item: &Single,
     known: &Known,
-    stack: &mut Stack,
+    stack: &mut Stack<'_>,
     budget: &mut Budget,
     out: &mut Text,
 ) -> Result<(), RenderRefusal>
-    requires { before < 4294967295 }
+    requires known { known.now ≡ stack.old.known }
+    requires few { before < 4294967295 }
     ensures is { Shows told (λ u. rendering.state out.new (left_of budget.new)) stack.new.shown result (looked (objects known.now) stack.old.shown (rendering.turn (λ scope. rendering.items_text (rendering.source_text budget.old.renders) scope (list_view tag.now.block.now)) stack.old.scope tag.now.skip many before item.now (rendering.state out.old (left_of budget.old)))) }
     ensures keeps { Keeps stack.old stack.new budget.old budget.new }
 {
-    let may = has_turn(tag.skip, item, known, stack)?;
+    let may = has_turn(tag.skip, item, stack)?;
     if !may {
         return Ok(());
     }
@@ -366,10 +381,11 @@ fn under_names(
     item: &Single,
     block: &[Node],
     known: &Known,
-    stack: &mut Stack,
+    stack: &mut Stack<'_>,
     budget: &mut Budget,
     out: &mut Text,
 ) -> Result<(), RenderRefusal>
+    requires known { known.now ≡ stack.old.known }
     ensures is { Shows told (λ u. rendering.state out.new (left_of budget.new)) stack.new.shown result (looked (objects known.now) stack.old.shown (rendering.items_text (rendering.source_text budget.old.renders) (rendering.item_pushed item.now (spec.push (layer.Names names) stack.old.scope)) (list_view block.now) (rendering.state out.old (left_of budget.old)))) }
     ensures keeps { Keeps stack.old stack.new budget.old budget.new }
 {
@@ -385,10 +401,11 @@ fn under_item(
     item: &Single,
     block: &[Node],
     known: &Known,
-    stack: &mut Stack,
+    stack: &mut Stack<'_>,
     budget: &mut Budget,
     out: &mut Text,
 ) -> Result<(), RenderRefusal>
+    requires known { known.now ≡ stack.old.known }
     ensures is { Shows told (λ u. rendering.state out.new (left_of budget.new)) stack.new.shown result (looked (objects known.now) stack.old.shown (rendering.items_text (rendering.source_text budget.old.renders) (rendering.item_pushed item.now stack.old.scope) (list_view block.now) (rendering.state out.old (left_of budget.old)))) }
     ensures keeps { Keeps stack.old stack.new budget.old budget.new }
 {
@@ -407,10 +424,11 @@ fn under_object(
     object: Wrapped,
     block: &[Node],
     known: &Known,
-    stack: &mut Stack,
+    stack: &mut Stack<'_>,
     budget: &mut Budget,
     out: &mut Text,
 ) -> Result<(), RenderRefusal>
+    requires known { known.now ≡ stack.old.known }
     ensures is { Shows told (λ u. rendering.state out.new (left_of budget.new)) stack.new.shown result (looked (objects known.now) stack.old.shown (rendering.items_text (rendering.source_text budget.old.renders) (spec.push (layer.Object object) stack.old.scope) (list_view block.now) (rendering.state out.old (left_of budget.old)))) }
     ensures keeps { Keeps stack.old stack.new budget.old budget.new }
 {
@@ -427,10 +445,11 @@ fn with_text(
     arg: &Arg,
     block: &Tree,
     known: &Known,
-    stack: &mut Stack,
+    stack: &mut Stack<'_>,
     budget: &mut Budget,
     out: &mut Text,
 ) -> Result<(), RenderRefusal>
+    requires known { known.now ≡ stack.old.known }
     ensures is { Shows told (λ u. rendering.state out.new (left_of budget.new)) stack.new.shown result (looked (objects known.now) stack.old.shown (rendering.with_text (rendering.source_text budget.old.renders) stack.old.scope at (arg_view arg.now) (λ scope. rendering.items_text (rendering.source_text budget.old.renders) scope (tree_view block.now)) (rendering.state out.old (left_of budget.old)))) }
     ensures keeps { Keeps stack.old stack.new budget.old budget.new }
 {
@@ -447,10 +466,11 @@ fn let_text(
     bindings: &[Binding],
     block: &Tree,
     known: &Known,
-    stack: &mut Stack,
+    stack: &mut Stack<'_>,
     budget: &mut Budget,
     out: &mut Text,
 ) -> Result<(), RenderRefusal>
+    requires known { known.now ≡ stack.old.known }
     ensures is { Shows told (λ u. rendering.state out.new (left_of budget.new)) stack.new.shown result (looked (objects known.now) stack.old.shown (rendering.let_text (rendering.source_text budget.old.renders) stack.old.scope at (bounds_view bindings.now) (λ scope. rendering.items_text (rendering.source_text budget.old.renders) scope (tree_view block.now)) (rendering.state out.old (left_of budget.old)))) }
     ensures keeps { Keeps stack.old stack.new budget.old budget.new }
 {
@@ -468,10 +488,11 @@ fn bound_text(
     bindings: &[Binding],
     block: &Tree,
     known: &Known,
-    stack: &mut Stack,
+    stack: &mut Stack<'_>,
     budget: &mut Budget,
     out: &mut Text,
 ) -> Result<(), RenderRefusal>
+    requires known { known.now ≡ stack.old.known }
     ensures is { Shows told (λ u. rendering.state out.new (left_of budget.new)) stack.new.shown result (looked (objects known.now) stack.old.shown (rendering.let_text (rendering.source_text budget.old.renders) stack.old.scope at (bounds_view bindings.now) (λ scope. rendering.items_text (rendering.source_text budget.old.renders) scope (tree_view block.now)) (rendering.state out.old (left_of budget.old)))) }
     ensures keeps { KeepsUnder stack.old stack.new budget.old budget.new }
 {
@@ -487,9 +508,10 @@ fn bind(
     at: u32,
     bindings: &[Binding],
     known: &Known,
-    stack: &mut Stack,
+    stack: &mut Stack<'_>,
     budget: &mut Budget,
 ) -> Result<(), RenderRefusal>
+    requires known { known.now ≡ stack.old.known }
     ensures is { Shows told (λ u. (stack.new.scope, left_of budget.new)) stack.new.shown result (looked (objects known.now) stack.old.shown (rendering.bound (rendering.source_text budget.old.renders) at (bounds_view bindings.now) stack.old.scope (left_of budget.old))) }
     ensures keeps { KeepsUnder stack.old stack.new budget.old budget.new }
 {
@@ -508,9 +530,10 @@ fn needed(
     at: u32,
     arg: &Arg,
     known: &Known,
-    stack: &mut Stack,
+    stack: &mut Stack<'_>,
     budget: &mut Budget,
 ) -> Result<Val, RenderRefusal>
+    requires known { known.now ≡ stack.old.known }
     ensures is { Shows told (λ v. (v, left_of budget.new)) stack.new.shown result (looked (objects known.now) stack.old.shown (rendering.needed (rendering.source_text budget.old.renders) stack.old.scope at (arg_view arg.now) (left_of budget.old))) }
     ensures keeps { Keeps stack.old stack.new budget.old budget.new }
 {
@@ -526,19 +549,20 @@ fn argument(
     at: u32,
     arg: &Arg,
     known: &Known,
-    stack: &mut Stack,
+    stack: &mut Stack<'_>,
     budget: &mut Budget,
 ) -> Result<Option<Val>, RenderRefusal>
+    requires known { known.now ≡ stack.old.known }
     ensures is { Shows told (λ v. (v, left_of budget.new)) stack.new.shown result (looked (objects known.now) stack.old.shown (rendering.argument (rendering.source_text budget.old.renders) stack.old.scope at (arg_view arg.now) (left_of budget.old))) }
     ensures keeps { Keeps stack.old stack.new budget.old budget.new }
 {
     match arg {
         Arg::Expression(expr) => {
-            let value = evaluate(alloc, expr, at, known, stack, budget)?;
+            let value = evaluate(alloc, expr, at, stack, budget)?;
             Ok(Some(value))
         }
         Arg::Name(name) => {
-            let found = find(name, known, stack)?;
+            let found = find(name, stack)?;
             rendered_if(alloc, found, known, stack, budget)
         }
     }
@@ -551,9 +575,10 @@ fn rendered_if(
     alloc: Global,
     found: Option<Val>,
     known: &Known,
-    stack: &mut Stack,
+    stack: &mut Stack<'_>,
     budget: &mut Budget,
 ) -> Result<Option<Val>, RenderRefusal>
+    requires known { known.now ≡ stack.old.known }
     ensures is { Shows told (λ v. (v, left_of budget.new)) stack.new.shown result (looked (objects known.now) stack.old.shown (rendering.rendered_if (rendering.source_text budget.old.renders) stack.old.scope found (left_of budget.old))) }
     ensures keeps { Keeps stack.old stack.new budget.old budget.new }
 {
@@ -573,9 +598,10 @@ fn object_rendered(
     alloc: Global,
     object: Wrapped,
     known: &Known,
-    stack: &mut Stack,
+    stack: &mut Stack<'_>,
     budget: &mut Budget,
 ) -> Result<Option<Val>, RenderRefusal>
+    requires known { known.now ≡ stack.old.known }
     ensures is { Shows told (λ v. (v, left_of budget.new)) stack.new.shown result (looked (objects known.now) stack.old.shown (rendering.object_rendered (rendering.source_text budget.old.renders) stack.old.scope object (left_of budget.old))) }
     ensures keeps { Keeps stack.old stack.new budget.old budget.new }
 {
@@ -591,13 +617,14 @@ fn rendered(
     alloc: Global,
     object: &Wrapped,
     known: &Known,
-    stack: &mut Stack,
+    stack: &mut Stack<'_>,
     budget: &mut Budget,
 ) -> Result<Option<Val>, RenderRefusal>
+    requires known { known.now ≡ stack.old.known }
     ensures is { Shows told (λ v. (v, left_of budget.new)) stack.new.shown result (looked (objects known.now) stack.old.shown (rendering.rendered (rendering.source_text budget.old.renders) stack.old.scope object.now (left_of budget.old))) }
     ensures keeps { Keeps stack.old stack.new budget.old budget.new }
 {
-    let whole = open(object.oid(), known, stack)?;
+    let whole = open(object.oid(), stack)?;
     let text = inside(alloc, object, whole, known, stack, budget)?;
     Ok(Some(Val::Single(Single::Text(text))))
 }
@@ -609,9 +636,10 @@ fn inside(
     object: &Wrapped,
     whole: &Object,
     known: &Known,
-    stack: &mut Stack,
+    stack: &mut Stack<'_>,
     budget: &mut Budget,
 ) -> Result<Text, RenderRefusal>
+    requires known { known.now ≡ stack.old.known }
     ensures is { Shows told (λ t. (t, left_of budget.new)) stack.new.shown result (looked (objects known.now) stack.old.shown (rendering.source_text budget.old.renders (rendering.scope_in object.now whole.now stack.old.scope) (first object.now) (rendering.source_of whole.now.part) (left_of budget.old))) }
     ensures keeps { Keeps stack.old stack.new budget.old budget.new }
 {
@@ -629,9 +657,10 @@ fn pushed(
     object: &Wrapped,
     part: &Part2,
     known: &Known,
-    stack: &mut Stack,
+    stack: &mut Stack<'_>,
     budget: &mut Budget,
 ) -> Result<Text, RenderRefusal>
+    requires known { known.now ≡ stack.old.known }
     ensures is { Shows told (λ t. (t, left_of budget.new)) stack.new.shown result (looked (objects known.now) stack.old.shown (rendering.source_text budget.old.renders (rendering.pushed_if object.now part.now stack.old.scope) (first object.now) (rendering.source_of part.now) (left_of budget.old))) }
     ensures keeps { Keeps stack.old stack.new budget.old budget.new }
 {
@@ -656,9 +685,10 @@ fn source_text(
     oid: Oid,
     source: &str,
     known: &Known,
-    stack: &mut Stack,
+    stack: &mut Stack<'_>,
     budget: &mut Budget,
 ) -> Result<Text, RenderRefusal>
+    requires known { known.now ≡ stack.old.known }
     ensures is { Shows told (λ t. (t, left_of budget.new)) stack.new.shown result (looked (objects known.now) stack.old.shown (rendering.source_text budget.old.renders stack.old.scope oid source.now (left_of budget.old))) }
     ensures keeps { Keeps stack.old stack.new budget.old budget.new }
 {
@@ -672,9 +702,10 @@ fn one_more(
     alloc: Global,
     tree: &Tree,
     known: &Known,
-    stack: &mut Stack,
+    stack: &mut Stack<'_>,
     budget: &mut Budget,
 ) -> Result<Text, RenderRefusal>
+    requires known { known.now ≡ stack.old.known }
     ensures is { Shows told (λ t. (t, left_of budget.new)) stack.new.shown result (looked (objects known.now) stack.old.shown (rendering.one_more budget.old.renders stack.old.scope (tree_view tree.now) (left_of budget.old))) }
     ensures keeps { Keeps stack.old stack.new budget.old budget.new }
 {

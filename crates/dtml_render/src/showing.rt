@@ -1,10 +1,11 @@
-ghost use Rattle.std.specs.Prelude.{◌≡◌, ◌≤◌, ℕ, List, Option, IfOk, option_map};
+ghost use Rattle.std.specs.Prelude.{◌≡◌, ◌≤◌, ℕ, List, Option, IfOk, Some, option_map};
 ghost use Rattle.std.specs.Fmt.{signed_decimal};
 ghost use Rattle.evaluator.specs.declared.reply.Shown.{Shown};
 ghost use Rattle.zobject.specs.declared.object.Object.{Object};
 ghost use Rattle.zknown.specs.Seen.{Seen};
 ghost use Rattle.dtml_parse.specs.Views.{arg_view, marks_view};
 ghost use Rattle.namespace.specs.Looks.{looked};
+ghost use Rattle.namespace.specs.Names.{text as value_text};
 ghost use Rattle.namespace.specs.Told.{Shows};
 ghost use Rattle.dtml_values.specs.Told.{told, left_of};
 ghost use Rattle.dtml_render.specs.Plain.{is_plain};
@@ -119,4 +120,26 @@ pub(crate) fn put_value(
 {
     let text = shaped(alloc, at, tag, found)?;
     put(text.as_str(), budget, out)
+}
+
+/// A text is shown with its marks applied, behind the text so far. It is copied only where a mark changes it.
+pub(crate) fn put_text(
+    alloc: Global,
+    at: u32,
+    tag: &VarTag,
+    text: &Text,
+    budget: &mut Budget,
+    out: &mut Text,
+) -> Result<(), RenderRefusal>
+    ensures is { (k : ℕ → Option (Seen Object)) (shown : List Shown) → Shows told (λ u. rendering.state out.new (left_of budget.new)) shown result (looked k shown (rendering.put_value at (arg_view tag.now.arg) (marks_view tag.now) out.old (Some (value_text text.now), left_of budget.old))) }
+    ensures renders { budget.new.renders ≡ budget.old.renders }
+    ensures tags { budget.new.tags ≡ budget.old.tags }
+    ensures within { budget.new.output ≤ budget.old.output }
+{
+    if is_plain(tag) {
+        return put(text.as_str(), budget, out);
+    }
+    let copy = text.copy()?;
+    let value = Val::Single(Single::Text(copy));
+    put_value(alloc, at, tag, Some(value), budget, out)
 }

@@ -86,11 +86,15 @@ fn layer_of(alloc: Global, part: &Part) -> Result<Names, CasesRefusal> {
 }
 
 /// The stack that a case begins with.
-pub(crate) fn stack_of(alloc: Global, known: &Known, case: &Case) -> Result<Stack, CasesRefusal> {
+pub(crate) fn stack_of<'k>(
+    alloc: Global,
+    known: &'k Known,
+    case: &Case,
+) -> Result<Stack<'k>, CasesRefusal> {
     let user = user_of(alloc, case)?;
     let client = client_of(alloc, known, case)?;
     let names = names_of(alloc, case, &user)?;
-    let mut stack = Stack::new(alloc, user, client, names);
+    let mut stack = Stack::new(alloc, known, user, client, names);
     for part in &case.parts {
         match part.key() {
             "push" => stack.push_object(reached(alloc, known, part, 1)?)?,
@@ -137,11 +141,10 @@ fn template_of(alloc: Global, oid: Oid, source: &str) -> Result<Tree, RenderRefu
 pub(crate) fn page(
     alloc: Global,
     oid: Oid,
-    known: &Known,
-    stack: &mut Stack,
+    stack: &mut Stack<'_>,
     budget: &mut Budget,
 ) -> Result<Text, RenderRefusal> {
-    let object = stack.open(known, oid)?;
+    let object = stack.open(oid)?;
     let source = match &object.part {
         Part2::Method { source, .. } | Part2::Document { source, .. } => source.as_str(),
         Part2::Folder(_) | Part2::UserFolder(_) => "",
@@ -149,7 +152,7 @@ pub(crate) fn page(
     let tree = template_of(alloc, oid, source)?;
     let other = acting(alloc, object)?;
     let former = stack.act(other);
-    let result = render(alloc, &tree, stack, known, budget);
+    let result = render(alloc, &tree, stack, budget);
     let _other = stack.act(former);
     result
 }
@@ -158,13 +161,12 @@ pub(crate) fn page(
 pub(crate) fn text_of(
     alloc: Global,
     part: &Part,
-    known: &Known,
-    stack: &mut Stack,
+    stack: &mut Stack<'_>,
     budget: &mut Budget,
 ) -> Result<Result<Text, RenderRefusal>, CasesRefusal> {
     let source = bytes_text(alloc, part)?;
     match template_of(alloc, Oid(0), source.as_str()) {
-        Ok(tree) => Ok(render(alloc, &tree, stack, known, budget)),
+        Ok(tree) => Ok(render(alloc, &tree, stack, budget)),
         Err(refusal) => Ok(Err(refusal)),
     }
 }

@@ -6,7 +6,6 @@ use dtml_render::{Budget, RenderRefusal};
 use namespace::Stack;
 use std::alloc::Global;
 use zbase::{Bytes, Items, Oid, Text};
-use zknown::Known;
 
 /// Pages over a small site.
 ///
@@ -43,7 +42,7 @@ impl Runner for RenderCases {
         let mut parts = Vec::new(alloc);
         for part in &case.parts {
             if is_question(part.key()) {
-                let page = rendered(alloc, part, &known, &mut stack, &mut budget)?;
+                let page = rendered(alloc, part, &mut stack, &mut budget)?;
                 put_answer(alloc, &mut parts, page)?;
                 put_state(alloc, &mut parts, &stack, &budget)?;
             }
@@ -55,14 +54,13 @@ impl Runner for RenderCases {
 fn rendered(
     alloc: Global,
     part: &Part,
-    known: &Known,
-    stack: &mut Stack,
+    stack: &mut Stack<'_>,
     budget: &mut Budget,
 ) -> Result<Result<Text, RenderRefusal>, CasesRefusal> {
     if part.key() == "page" {
-        return Ok(page(alloc, Oid(part.number(1)?), known, stack, budget));
+        return Ok(page(alloc, Oid(part.number(1)?), stack, budget));
     }
-    text_of(alloc, part, known, stack, budget)
+    text_of(alloc, part, stack, budget)
 }
 
 // The text, or why there is none.
@@ -89,7 +87,7 @@ fn put_answer(
 fn put_state(
     alloc: Global,
     parts: &mut Vec<Part>,
-    stack: &Stack,
+    stack: &Stack<'_>,
     budget: &Budget,
 ) -> Result<(), CasesRefusal> {
     let shown = listed(alloc, stack)?;

@@ -84,7 +84,7 @@ pub(crate) fn refused(alloc: Global, refusal: RenderRefusal) -> Result<String, C
 }
 
 /// The objects that were shown, each with its role.
-pub(crate) fn listed(alloc: Global, stack: &Stack) -> Result<String, CasesRefusal> {
+pub(crate) fn listed(alloc: Global, stack: &Stack<'_>) -> Result<String, CasesRefusal> {
     let mut line = String::from_str(alloc, "listed")?;
     for shown in stack.shown().as_slice() {
         put_number(alloc, &mut line, shown.oid.0)?;
@@ -103,7 +103,7 @@ pub(crate) fn left(alloc: Global, budget: &Budget) -> Result<String, CasesRefusa
 }
 
 /// How many layers the stack has.
-pub(crate) fn layers(alloc: Global, stack: &Stack) -> Result<String, CasesRefusal> {
+pub(crate) fn layers(alloc: Global, stack: &Stack<'_>) -> Result<String, CasesRefusal> {
     let mut line = String::from_str(alloc, "layers")?;
     put_number(alloc, &mut line, stack.depth() as u64)?;
     Ok(line)

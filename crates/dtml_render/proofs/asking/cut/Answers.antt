@@ -14,6 +14,7 @@ loop-stack-preserved c =
     let more : c.args.depth < length c.loop-stack.stack.scope.layers = omega (arith, c.loop-stack-test.true, c.depth.ensures) in
     let fewer : length c.pop.new.self.scope.layers ≡ length c.loop-stack.stack.scope.layers - 1 = ap (λ (s : Space). length s.scope.layers) c.pop.ensures ∙ popped_length c.loop-stack.stack.scope.layers (omega (arith, more)) in
     record {
+      known = ap (λ (s : Space). s.known) c.pop.ensures ∙ c.loop-stack.invariant.known;
       scope = cut_step c.args.stack.now c.loop-stack.stack c.pop.new.self c.args.depth c.loop-stack.invariant.scope more c.pop.ensures;
       shown = ap (λ (s : Space). s.shown) c.pop.ensures ∙ c.loop-stack.invariant.shown;
       deep = omega (arith, more, fewer);

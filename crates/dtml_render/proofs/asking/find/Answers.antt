@@ -11,5 +11,5 @@ use Rattle.dtml_render.proofs.asking.find.Goals as goal
 pub returns-in_err-found-clause-is : goal.returns-in_err-found-clause-is
 returns-in_err-found-clause-is c =
     let p = err_from_is_err_and c.from_residual.result c.from_residual.ensures.1 in
-    rw (p.1, p.2) (named_told c.in_err-found.field-0.0 (looked (objects c.args.known.now) c.args.stack.now.shown (named c.args.stack.now.scope c.args.name.now))
-    (subst (λ (n : List ℕ). Told (lower.told c.in_err-found.field-0.0) (looked (objects c.args.known.now) c.args.stack.now.shown (named c.args.stack.now.scope n))) c.as_str.ensures c.in_err-found.ensures.is))
+    rw (p.1, p.2) (named_told c.in_err-found.field-0.0 (looked (objects c.args.stack.now.known) c.args.stack.now.shown (named c.args.stack.now.scope c.args.name.now))
+    (subst (λ (n : List ℕ). Told (lower.told c.in_err-found.field-0.0) (looked (objects c.args.stack.now.known) c.args.stack.now.shown (named c.args.stack.now.scope n))) c.as_str.ensures c.in_err-found.ensures.is))

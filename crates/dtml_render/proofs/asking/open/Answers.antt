@@ -8,4 +8,4 @@ use Rattle.dtml_render.proofs.asking.open.Goals as goal
 pub returns-in_err-object-clause-is : goal.returns-in_err-object-clause-is
 returns-in_err-object-clause-is c =
     let p = err_from_is_err_and c.from_residual.result c.from_residual.ensures.1 in
-    rw (p.1, p.2) (named_told c.in_err-object.field-0.0 (looked (objects c.args.known.now) c.args.stack.now.shown (viewing (whose c.args.stack.now.scope) c.args.oid)) c.in_err-object.ensures.is)
+    rw (p.1, p.2) (named_told c.in_err-object.field-0.0 (looked (objects c.args.stack.now.known) c.args.stack.now.shown (viewing (whose c.args.stack.now.scope) c.args.oid)) c.in_err-object.ensures.is)

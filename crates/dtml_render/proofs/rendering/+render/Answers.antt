@@ -4,6 +4,7 @@ use Rattle.std.specs.Prelude.{OnOk}
 use Rattle.zbase.specs.Query.{Told}
 use Rattle.evaluator.specs.declared.reply.Shown.{Shown}
 use Rattle.zobject.specs.declared.object.Part2.TheVariants as parts
+use Rattle.zknown.specs.declared.kept.Kept.{Kept}
 use Rattle.zknown.specs.Seen.{objects}
 use Rattle.acquisition.specs.Acquiring.{first}
 use Rattle.permissions.specs.declared.who.Who.{Who}
@@ -16,7 +17,7 @@ use Rattle.dtml_parse.specs.declared.tree.Binding.{Binding}
 use Rattle.dtml_parse.specs.declared.tree.Node.{Node}
 use Rattle.dtml_parse.specs.declared.tree.Tree.{Tree}
 use Rattle.namespace.specs.Looks.{Looks, looked, Done, ◌>>=◌}
-use Rattle.namespace.specs.Names.{Scope, Space, act, push, named, viewing, whose}
+use Rattle.namespace.specs.Names.{Scope, Space, act, push, named, viewing, whose, text}
 use Rattle.namespace.specs.Told.{Shows}
 use Rattle.namespace.specs.declared.val.Layer.TheVariants as layer
 use Rattle.namespace.specs.declared.val.Named.{Named}
@@ -179,6 +180,13 @@ unfolding else_text
 else_text-returns-in-None-clause-is t c =
     ap (λ (o : Option Tree). looked (objects c.args.known.now) c.args.stack.now.shown (else_text (source_text c.args.budget.now.renders) c.args.stack.now.scope (otherwise_view o) (state c.args.out.now (left_of c.args.budget.now)))) c.in-None.is
 
+pub var_text-returns-in-Some-clause-is : goal.var_text-returns-in-Some-clause-is
+unfolding Rattle.dtml_render.specs.Rendering.var_text
+var_text-returns-in-Some-clause-is t c =
+    goes_so {B = State} told (λ u. state c.put_text.new.out (left_of c.put_text.new.budget)) c.args.stack.now.shown c.put_text.result (objects c.args.known.now) c.args.stack.now.shown (argument (source_text c.args.budget.now.renders) c.args.stack.now.scope c.args.at (arg_view c.args.tag.now.arg) (left_of c.args.budget.now)) (put_value c.args.at (arg_view c.args.tag.now.arg) (marks_view c.args.tag.now) c.args.out.now) (Some (text c.in-Some.text.now), left_of c.args.budget.now) c.args.stack.now.shown
+    (subst (λ (rows : List (ℕ × Kept)). looked (objects rows) c.args.stack.now.shown (argument (source_text c.args.budget.now.renders) c.args.stack.now.scope c.args.at (arg_view c.args.tag.now.arg) (left_of c.args.budget.now)) ≡ Ok ((Some (text c.in-Some.text.now), left_of c.args.budget.now), c.args.stack.now.shown)) (sym c.requires.known) (c.in-Some.ensures (source_text c.args.budget.now.renders) c.args.at (left_of c.args.budget.now)))
+    (c.put_text.ensures.is (objects c.args.known.now) c.args.stack.now.shown)
+
 pub var_text-returns-in_err-found-clause-is : goal.var_text-returns-in_err-found-clause-is
 unfolding Rattle.dtml_render.specs.Rendering.var_text
 var_text-returns-in_err-found-clause-is t c =
@@ -314,18 +322,18 @@ pub turn-returns-in_err-may-clause-is : goal.turn-returns-in_err-may-clause-is
 unfolding Rattle.dtml_render.specs.Rendering.turn
 turn-returns-in_err-may-clause-is t c =
     let p = err_from_is_err_and c.from_residual.result c.from_residual.ensures.1 in
-    rw (p.1, p.2) (stops (objects c.args.known.now) c.args.stack.now.shown (has_turn c.args.stack.now.scope c.args.tag.now.skip c.args.item.now) (turn_text (λ (scope : Scope). items_text (source_text c.args.budget.now.renders) scope (list_view c.args.tag.now.block.now)) c.args.stack.now.scope c.args.many c.args.before c.args.item.now (state c.args.out.now (left_of c.args.budget.now))) (told c.in_err-may.field-0.0) c.in_err-may.ensures.is)
+    rw (p.1, p.2) (stops (objects c.args.known.now) c.args.stack.now.shown (has_turn c.args.stack.now.scope c.args.tag.now.skip c.args.item.now) (turn_text (λ (scope : Scope). items_text (source_text c.args.budget.now.renders) scope (list_view c.args.tag.now.block.now)) c.args.stack.now.scope c.args.many c.args.before c.args.item.now (state c.args.out.now (left_of c.args.budget.now))) (told c.in_err-may.field-0.0) (subst (λ (rows : List (ℕ × Kept)). Told (told c.in_err-may.field-0.0) (looked (objects rows) c.args.stack.now.shown (has_turn c.args.stack.now.scope c.args.tag.now.skip c.args.item.now))) (sym c.requires.known) c.in_err-may.ensures.is))
 
 pub turn-returns-then-not-may-clause-is : goal.turn-returns-then-not-may-clause-is
 unfolding Rattle.dtml_render.specs.Rendering.turn
 turn-returns-then-not-may-clause-is t c =
-    goes (objects c.args.known.now) c.args.stack.now.shown (has_turn c.args.stack.now.scope c.args.tag.now.skip c.args.item.now) (turn_text (λ (scope : Scope). items_text (source_text c.args.budget.now.renders) scope (list_view c.args.tag.now.block.now)) c.args.stack.now.scope c.args.many c.args.before c.args.item.now (state c.args.out.now (left_of c.args.budget.now))) c.in_ok-may.may c.has_turn.new.stack.shown _ c.in_ok-may.ensures.is
+    goes (objects c.args.known.now) c.args.stack.now.shown (has_turn c.args.stack.now.scope c.args.tag.now.skip c.args.item.now) (turn_text (λ (scope : Scope). items_text (source_text c.args.budget.now.renders) scope (list_view c.args.tag.now.block.now)) c.args.stack.now.scope c.args.many c.args.before c.args.item.now (state c.args.out.now (left_of c.args.budget.now))) c.in_ok-may.may c.has_turn.new.stack.shown _ (subst (λ (rows : List (ℕ × Kept)). looked (objects rows) c.args.stack.now.shown (has_turn c.args.stack.now.scope c.args.tag.now.skip c.args.item.now) ≡ Ok (c.in_ok-may.may, c.has_turn.new.stack.shown)) (sym c.requires.known) c.in_ok-may.ensures.is)
     (ap (λ (b : Bool). looked (objects c.args.known.now) c.has_turn.new.stack.shown (if b then (λ (scope : Scope). items_text (source_text c.args.budget.now.renders) scope (list_view c.args.tag.now.block.now)) (item_scope c.args.many c.args.before c.args.item.now c.args.stack.now.scope) (state c.args.out.now (left_of c.args.budget.now)) else Done (state c.args.out.now (left_of c.args.budget.now)))) c.if-not-may.true)
 
 pub turn-returns-clause-is : goal.turn-returns-clause-is
 unfolding Rattle.dtml_render.specs.Rendering.turn
 turn-returns-clause-is t c =
-    goes_so {B = State} told (λ u. state c.under_names.new.out (left_of c.under_names.new.budget)) c.under_names.new.stack.shown c.under_names.result (objects c.args.known.now) c.args.stack.now.shown (has_turn c.args.stack.now.scope c.args.tag.now.skip c.args.item.now) (turn_text (λ (scope : Scope). items_text (source_text c.args.budget.now.renders) scope (list_view c.args.tag.now.block.now)) c.args.stack.now.scope c.args.many c.args.before c.args.item.now (state c.args.out.now (left_of c.args.budget.now))) c.in_ok-may.may c.has_turn.new.stack.shown c.in_ok-may.ensures.is
+    goes_so {B = State} told (λ u. state c.under_names.new.out (left_of c.under_names.new.budget)) c.under_names.new.stack.shown c.under_names.result (objects c.args.known.now) c.args.stack.now.shown (has_turn c.args.stack.now.scope c.args.tag.now.skip c.args.item.now) (turn_text (λ (scope : Scope). items_text (source_text c.args.budget.now.renders) scope (list_view c.args.tag.now.block.now)) c.args.stack.now.scope c.args.many c.args.before c.args.item.now (state c.args.out.now (left_of c.args.budget.now))) c.in_ok-may.may c.has_turn.new.stack.shown (subst (λ (rows : List (ℕ × Kept)). looked (objects rows) c.args.stack.now.shown (has_turn c.args.stack.now.scope c.args.tag.now.skip c.args.item.now) ≡ Ok (c.in_ok-may.may, c.has_turn.new.stack.shown)) (sym c.requires.known) c.in_ok-may.ensures.is)
     (subst (λ (b : Bool). Shows {A = State} told (λ u. state c.under_names.new.out (left_of c.under_names.new.budget)) c.under_names.new.stack.shown c.under_names.result (looked (objects c.args.known.now) c.has_turn.new.stack.shown (if b then (λ (scope : Scope). items_text (source_text c.args.budget.now.renders) scope (list_view c.args.tag.now.block.now)) (item_scope c.args.many c.args.before c.args.item.now c.args.stack.now.scope) (state c.args.out.now (left_of c.args.budget.now)) else Done (state c.args.out.now (left_of c.args.budget.now))))) (sym c.if-not-may.false)
     (subst (λ (ns : List Named). Shows {A = State} told (λ u. state c.under_names.new.out (left_of c.under_names.new.budget)) c.under_names.new.stack.shown c.under_names.result (looked (objects c.args.known.now) c.has_turn.new.stack.shown (items_text (source_text c.args.budget.now.renders) (item_pushed c.args.item.now (push (layer.Names ns) c.args.stack.now.scope)) (list_view c.args.tag.now.block.now) (state c.args.out.now (left_of c.args.budget.now))))) c.in_ok-names.ensures
     (subst (λ (b : Scope). Shows {A = State} told (λ u. state c.under_names.new.out (left_of c.under_names.new.budget)) c.under_names.new.stack.shown c.under_names.result (looked (objects c.args.known.now) c.has_turn.new.stack.shown (items_text (source_text c.args.budget.now.renders) (item_pushed c.args.item.now (push (layer.Names c.in_ok-names.names) b)) (list_view c.args.tag.now.block.now) (state c.args.out.now (left_of c.args.budget.now))))) c.has_turn.ensures.scope c.under_names.ensures.is)))
@@ -378,7 +386,7 @@ pub let_text-returns : goal.let_text-returns
 let_text-returns t c =
     record {
       is = subst (λ (s : List Shown). Shows {A = State} told (λ u. state c.bound_text-result.new.out (left_of c.bound_text-result.new.budget)) s c.bound_text-result.result (looked (objects c.args.known.now) c.args.stack.now.shown (let_text (source_text c.args.budget.now.renders) c.args.stack.now.scope c.args.at (bounds_view c.args.bindings.now) (λ (scope : Scope). items_text (source_text c.args.budget.now.renders) scope (view c.args.block.now)) (state c.args.out.now (left_of c.args.budget.now))))) (sym c.cut.ensures.shown) c.bound_text-result.ensures.is;
-      keeps = under_taken c.args.stack.now c.bound_text-result.new.stack c.cut.new.stack c.args.budget.now c.bound_text-result.new.budget c.depth-depth.result c.depth-depth.ensures c.bound_text-result.ensures.keeps c.cut.ensures.scope c.cut.ensures.shown;
+      keeps = under_taken c.args.stack.now c.bound_text-result.new.stack c.cut.new.stack c.args.budget.now c.bound_text-result.new.budget c.depth-depth.result c.depth-depth.ensures c.bound_text-result.ensures.keeps c.cut.ensures.known c.cut.ensures.scope c.cut.ensures.shown;
     }
 
 pub bound_text-returns-in_err-bind-clause-is : goal.bound_text-returns-in_err-bind-clause-is
@@ -422,8 +430,8 @@ bind-returns-in_err-push_names-clause-keeps t c =
 pub bind-loop-binding-preserved : goal.bind-loop-binding-preserved
 bind-loop-binding-preserved t c =
     record {
-      is = subst (λ (s : List Shown). looked (objects c.args.known.now) s (bound (source_text c.needed.new.budget.renders) c.args.at (bounds_view (drop (c.loop-binding.binding-index + 1) c.args.bindings.now)) c.push_names.new.self.scope (left_of c.needed.new.budget)) ≡ looked (objects c.args.known.now) c.args.stack.now.shown (bound (source_text c.args.budget.now.renders) c.args.at (bounds_view c.args.bindings.now) c.args.stack.now.scope (left_of c.args.budget.now))) (sym (ap (λ (s : Space). s.shown) (c.in_ok-push_names.ensures.ok ∙ ap (λ (ns : List Named). record { scope = push (layer.Names ns) c.needed.new.stack.scope; shown = c.needed.new.stack.shown }) c.in_ok-names.ensures)))
-          (next_binding (objects c.args.known.now) c.loop-binding.stack.shown c.loop-binding.budget.renders c.args.at c.args.bindings.now c.loop-binding.binding-index c.binding-item.result c.loop-binding.stack.scope (left_of c.loop-binding.budget) _ c.loop-binding-test.true c.binding-item.is c.loop-binding.invariant.is c.needed.new.stack.shown c.needed.new.stack.scope c.push_names.new.self.scope c.needed.new.budget.renders c.in_ok-value.value (left_of c.needed.new.budget) c.in_ok-value.ensures.is c.needed.ensures.keeps.scope (ap (λ (s : Space). s.scope) (c.in_ok-push_names.ensures.ok ∙ ap (λ (ns : List Named). record { scope = push (layer.Names ns) c.needed.new.stack.scope; shown = c.needed.new.stack.shown }) c.in_ok-names.ensures)) c.needed.ensures.keeps.renders);
+      is = subst (λ (s : List Shown). looked (objects c.args.known.now) s (bound (source_text c.needed.new.budget.renders) c.args.at (bounds_view (drop (c.loop-binding.binding-index + 1) c.args.bindings.now)) c.push_names.new.self.scope (left_of c.needed.new.budget)) ≡ looked (objects c.args.known.now) c.args.stack.now.shown (bound (source_text c.args.budget.now.renders) c.args.at (bounds_view c.args.bindings.now) c.args.stack.now.scope (left_of c.args.budget.now))) (sym (ap (λ (s : Space). s.shown) (c.in_ok-push_names.ensures.ok ∙ ap (λ (ns : List Named). record c.needed.new.stack { scope = push (layer.Names ns) c.needed.new.stack.scope }) c.in_ok-names.ensures)))
+          (next_binding (objects c.args.known.now) c.loop-binding.stack.shown c.loop-binding.budget.renders c.args.at c.args.bindings.now c.loop-binding.binding-index c.binding-item.result c.loop-binding.stack.scope (left_of c.loop-binding.budget) _ c.loop-binding-test.true c.binding-item.is c.loop-binding.invariant.is c.needed.new.stack.shown c.needed.new.stack.scope c.push_names.new.self.scope c.needed.new.budget.renders c.in_ok-value.value (left_of c.needed.new.budget) c.in_ok-value.ensures.is c.needed.ensures.keeps.scope (ap (λ (s : Space). s.scope) (c.in_ok-push_names.ensures.ok ∙ ap (λ (ns : List Named). record c.needed.new.stack { scope = push (layer.Names ns) c.needed.new.stack.scope }) c.in_ok-names.ensures)) c.needed.ensures.keeps.renders);
       keeps = under_push c.args.stack.now c.needed.new.stack c.push_names.new.self c.args.budget.now c.needed.new.budget (layer.Names c.in_ok-names.names) (under_on c.args.stack.now c.loop-binding.stack c.needed.new.stack c.args.budget.now c.loop-binding.budget c.needed.new.budget c.loop-binding.invariant.keeps c.needed.ensures.keeps) c.in_ok-push_names.ensures.ok;
     }
 
@@ -449,26 +457,26 @@ unfolding Rattle.dtml_render.specs.Rendering.argument
 argument-returns-in_err-value-in-Expression-clause-is t c =
     let p = err_from_is_err_and c.from_residual.result c.from_residual.ensures.1 in
     rw (p.1, p.2) (subst (λ (a : Arg). Told (told c.in_err-value-in-Expression.field-0.0) (looked (objects c.args.known.now) c.args.stack.now.shown (argument (source_text c.args.budget.now.renders) c.args.stack.now.scope c.args.at (arg_view a) (left_of c.args.budget.now)))) (sym c.in-Expression.is)
-    (stops (objects c.args.known.now) c.args.stack.now.shown (evaluated c.args.stack.now.scope c.args.at (exprs.view c.in-Expression.expr) (left_of c.args.budget.now)) given (told c.in_err-value-in-Expression.field-0.0) c.in_err-value-in-Expression.ensures.is))
+    (stops (objects c.args.known.now) c.args.stack.now.shown (evaluated c.args.stack.now.scope c.args.at (exprs.view c.in-Expression.expr) (left_of c.args.budget.now)) given (told c.in_err-value-in-Expression.field-0.0) (subst (λ (rows : List (ℕ × Kept)). Told (told c.in_err-value-in-Expression.field-0.0) (looked (objects rows) c.args.stack.now.shown (evaluated c.args.stack.now.scope c.args.at (exprs.view c.in-Expression.expr) (left_of c.args.budget.now)))) (sym c.requires.known) c.in_err-value-in-Expression.ensures.is)))
 
 pub argument-returns-in_ok-value-in-Expression-clause-is : goal.argument-returns-in_ok-value-in-Expression-clause-is
 unfolding Rattle.dtml_render.specs.Rendering.argument
 argument-returns-in_ok-value-in-Expression-clause-is t c =
     subst (λ (a : Arg). looked (objects c.args.known.now) c.args.stack.now.shown (argument (source_text c.args.budget.now.renders) c.args.stack.now.scope c.args.at (arg_view a) (left_of c.args.budget.now)) ≡ Ok ((Some c.in_ok-value-in-Expression.value, (left_of c.evaluate.new.budget)), c.evaluate.new.stack.shown)) (sym c.in-Expression.is)
-    (goes (objects c.args.known.now) c.args.stack.now.shown (evaluated c.args.stack.now.scope c.args.at (exprs.view c.in-Expression.expr) (left_of c.args.budget.now)) given (c.in_ok-value-in-Expression.value, (left_of c.evaluate.new.budget)) c.evaluate.new.stack.shown _ c.in_ok-value-in-Expression.ensures.is refl)
+    (goes (objects c.args.known.now) c.args.stack.now.shown (evaluated c.args.stack.now.scope c.args.at (exprs.view c.in-Expression.expr) (left_of c.args.budget.now)) given (c.in_ok-value-in-Expression.value, (left_of c.evaluate.new.budget)) c.evaluate.new.stack.shown _ (subst (λ (rows : List (ℕ × Kept)). looked (objects rows) c.args.stack.now.shown (evaluated c.args.stack.now.scope c.args.at (exprs.view c.in-Expression.expr) (left_of c.args.budget.now)) ≡ Ok ((c.in_ok-value-in-Expression.value, (left_of c.evaluate.new.budget)), c.evaluate.new.stack.shown)) (sym c.requires.known) c.in_ok-value-in-Expression.ensures.is) refl)
 
 pub argument-returns-in_err-found-in-Name-clause-is : goal.argument-returns-in_err-found-in-Name-clause-is
 unfolding Rattle.dtml_render.specs.Rendering.argument
 argument-returns-in_err-found-in-Name-clause-is t c =
     let p = err_from_is_err_and c.from_residual-in_err-found-in-Name.result c.from_residual-in_err-found-in-Name.ensures.1 in
     rw (p.1, p.2) (subst (λ (a : Arg). Told (told c.in_err-found-in-Name.field-0.0) (looked (objects c.args.known.now) c.args.stack.now.shown (argument (source_text c.args.budget.now.renders) c.args.stack.now.scope c.args.at (arg_view a) (left_of c.args.budget.now)))) (sym c.in-Name.is)
-    (stops (objects c.args.known.now) c.args.stack.now.shown (named c.args.stack.now.scope c.in-Name.name) (λ (found : Option Val). rendered_if (source_text c.args.budget.now.renders) c.args.stack.now.scope found (left_of c.args.budget.now)) (told c.in_err-found-in-Name.field-0.0) c.in_err-found-in-Name.ensures.is))
+    (stops (objects c.args.known.now) c.args.stack.now.shown (named c.args.stack.now.scope c.in-Name.name) (λ (found : Option Val). rendered_if (source_text c.args.budget.now.renders) c.args.stack.now.scope found (left_of c.args.budget.now)) (told c.in_err-found-in-Name.field-0.0) (subst (λ (rows : List (ℕ × Kept)). Told (told c.in_err-found-in-Name.field-0.0) (looked (objects rows) c.args.stack.now.shown (named c.args.stack.now.scope c.in-Name.name))) (sym c.requires.known) c.in_err-found-in-Name.ensures.is)))
 
 pub argument-returns-in_ok-found-in-Name-clause-is : goal.argument-returns-in_ok-found-in-Name-clause-is
 unfolding Rattle.dtml_render.specs.Rendering.argument
 argument-returns-in_ok-found-in-Name-clause-is t c =
     subst (λ (a : Arg). Shows {A = Option Val × Left} told (λ v. (v, (left_of c.rendered_if.new.budget))) c.rendered_if.new.stack.shown c.rendered_if.result (looked (objects c.args.known.now) c.args.stack.now.shown (argument (source_text c.args.budget.now.renders) c.args.stack.now.scope c.args.at (arg_view a) (left_of c.args.budget.now)))) (sym c.in-Name.is)
-    (goes_so {B = Option Val × Left} told (λ v. (v, (left_of c.rendered_if.new.budget))) c.rendered_if.new.stack.shown c.rendered_if.result (objects c.args.known.now) c.args.stack.now.shown (named c.args.stack.now.scope c.in-Name.name) (λ (found : Option Val). rendered_if (source_text c.args.budget.now.renders) c.args.stack.now.scope found (left_of c.args.budget.now)) c.in_ok-found-in-Name.found c.find.new.stack.shown c.in_ok-found-in-Name.ensures.is
+    (goes_so {B = Option Val × Left} told (λ v. (v, (left_of c.rendered_if.new.budget))) c.rendered_if.new.stack.shown c.rendered_if.result (objects c.args.known.now) c.args.stack.now.shown (named c.args.stack.now.scope c.in-Name.name) (λ (found : Option Val). rendered_if (source_text c.args.budget.now.renders) c.args.stack.now.scope found (left_of c.args.budget.now)) c.in_ok-found-in-Name.found c.find.new.stack.shown (subst (λ (rows : List (ℕ × Kept)). looked (objects rows) c.args.stack.now.shown (named c.args.stack.now.scope c.in-Name.name) ≡ Ok (c.in_ok-found-in-Name.found, c.find.new.stack.shown)) (sym c.requires.known) c.in_ok-found-in-Name.ensures.is)
     (subst (λ (b : Scope). Shows {A = Option Val × Left} told (λ v. (v, (left_of c.rendered_if.new.budget))) c.rendered_if.new.stack.shown c.rendered_if.result (looked (objects c.args.known.now) c.find.new.stack.shown (rendered_if (source_text c.args.budget.now.renders) b c.in_ok-found-in-Name.found (left_of c.args.budget.now)))) c.find.ensures.scope c.rendered_if.ensures.is))
 
 pub rendered_if-returns-in-Some-Single-Obj-clause-is : goal.rendered_if-returns-in-Some-Single-Obj-clause-is
@@ -514,20 +522,20 @@ unfolding rendered
 rendered-returns-in_err-whole-clause-is t c =
     let p = err_from_is_err_and c.from_residual.result c.from_residual.ensures.1 in
     rw (p.1, p.2) (subst (λ (o : ℕ). Told (told c.in_err-whole.field-0.0) (looked (objects c.args.known.now) c.args.stack.now.shown (viewing (whose c.args.stack.now.scope) o >>= source_value (source_text c.args.budget.now.renders) c.args.stack.now.scope c.args.object.now (left_of c.args.budget.now)))) c.oid.ensures
-    (stops (objects c.args.known.now) c.args.stack.now.shown (viewing (whose c.args.stack.now.scope) c.oid.result) (source_value (source_text c.args.budget.now.renders) c.args.stack.now.scope c.args.object.now (left_of c.args.budget.now)) (told c.in_err-whole.field-0.0) c.in_err-whole.ensures.is))
+    (stops (objects c.args.known.now) c.args.stack.now.shown (viewing (whose c.args.stack.now.scope) c.oid.result) (source_value (source_text c.args.budget.now.renders) c.args.stack.now.scope c.args.object.now (left_of c.args.budget.now)) (told c.in_err-whole.field-0.0) (subst (λ (rows : List (ℕ × Kept)). Told (told c.in_err-whole.field-0.0) (looked (objects rows) c.args.stack.now.shown (viewing (whose c.args.stack.now.scope) c.oid.result))) (sym c.requires.known) c.in_err-whole.ensures.is)))
 
 pub rendered-returns-in_err-text-clause-is : goal.rendered-returns-in_err-text-clause-is
 unfolding Rattle.dtml_render.specs.Rendering.rendered
 rendered-returns-in_err-text-clause-is t c =
     let p = err_from_is_err_and c.from_residual-in_err-text.result c.from_residual-in_err-text.ensures.1 in
-    rw (p.1, p.2) (halts_so (objects c.args.known.now) c.args.stack.now.shown (viewing (whose c.args.stack.now.scope) (first c.args.object.now)) (source_value (source_text c.args.budget.now.renders) c.args.stack.now.scope c.args.object.now (left_of c.args.budget.now)) c.in_ok-whole.whole.now c.open.new.stack.shown (told c.in_err-text.field-0.0) (subst (λ (o : ℕ). looked (objects c.args.known.now) c.args.stack.now.shown (viewing (whose c.args.stack.now.scope) o) ≡ Ok (c.in_ok-whole.whole.now, c.open.new.stack.shown)) c.oid.ensures c.in_ok-whole.ensures.is)
+    rw (p.1, p.2) (halts_so (objects c.args.known.now) c.args.stack.now.shown (viewing (whose c.args.stack.now.scope) (first c.args.object.now)) (source_value (source_text c.args.budget.now.renders) c.args.stack.now.scope c.args.object.now (left_of c.args.budget.now)) c.in_ok-whole.whole.now c.open.new.stack.shown (told c.in_err-text.field-0.0) (subst (λ (o : ℕ). looked (objects c.args.known.now) c.args.stack.now.shown (viewing (whose c.args.stack.now.scope) o) ≡ Ok (c.in_ok-whole.whole.now, c.open.new.stack.shown)) c.oid.ensures (subst (λ (rows : List (ℕ × Kept)). looked (objects rows) c.args.stack.now.shown (viewing (whose c.args.stack.now.scope) c.oid.result) ≡ Ok (c.in_ok-whole.whole.now, c.open.new.stack.shown)) (sym c.requires.known) c.in_ok-whole.ensures.is))
     (stops (objects c.args.known.now) c.open.new.stack.shown (source_text c.args.budget.now.renders (scope_in c.args.object.now c.in_ok-whole.whole.now c.args.stack.now.scope) (first c.args.object.now) (rendering.source_of c.in_ok-whole.whole.now.part) (left_of c.args.budget.now)) as_text (told c.in_err-text.field-0.0)
     (subst (λ (b : Scope). Told (told c.in_err-text.field-0.0) (looked (objects c.args.known.now) c.open.new.stack.shown (source_text c.args.budget.now.renders (scope_in c.args.object.now c.in_ok-whole.whole.now b) (first c.args.object.now) (rendering.source_of c.in_ok-whole.whole.now.part) (left_of c.args.budget.now)))) c.open.ensures.scope c.in_err-text.ensures.is)))
 
 pub rendered-returns-clause-is : goal.rendered-returns-clause-is
 unfolding Rattle.dtml_render.specs.Rendering.rendered
 rendered-returns-clause-is t c =
-    goes (objects c.args.known.now) c.args.stack.now.shown (viewing (whose c.args.stack.now.scope) (first c.args.object.now)) (source_value (source_text c.args.budget.now.renders) c.args.stack.now.scope c.args.object.now (left_of c.args.budget.now)) c.in_ok-whole.whole.now c.open.new.stack.shown _ (subst (λ (o : ℕ). looked (objects c.args.known.now) c.args.stack.now.shown (viewing (whose c.args.stack.now.scope) o) ≡ Ok (c.in_ok-whole.whole.now, c.open.new.stack.shown)) c.oid.ensures c.in_ok-whole.ensures.is)
+    goes (objects c.args.known.now) c.args.stack.now.shown (viewing (whose c.args.stack.now.scope) (first c.args.object.now)) (source_value (source_text c.args.budget.now.renders) c.args.stack.now.scope c.args.object.now (left_of c.args.budget.now)) c.in_ok-whole.whole.now c.open.new.stack.shown _ (subst (λ (o : ℕ). looked (objects c.args.known.now) c.args.stack.now.shown (viewing (whose c.args.stack.now.scope) o) ≡ Ok (c.in_ok-whole.whole.now, c.open.new.stack.shown)) c.oid.ensures (subst (λ (rows : List (ℕ × Kept)). looked (objects rows) c.args.stack.now.shown (viewing (whose c.args.stack.now.scope) c.oid.result) ≡ Ok (c.in_ok-whole.whole.now, c.open.new.stack.shown)) (sym c.requires.known) c.in_ok-whole.ensures.is))
     (goes (objects c.args.known.now) c.open.new.stack.shown (source_text c.args.budget.now.renders (scope_in c.args.object.now c.in_ok-whole.whole.now c.args.stack.now.scope) (first c.args.object.now) (rendering.source_of c.in_ok-whole.whole.now.part) (left_of c.args.budget.now)) as_text (c.in_ok-text.text, (left_of c.inside.new.budget)) c.inside.new.stack.shown _
     (subst (λ (b : Scope). looked (objects c.args.known.now) c.open.new.stack.shown (source_text c.args.budget.now.renders (scope_in c.args.object.now c.in_ok-whole.whole.now b) (first c.args.object.now) (rendering.source_of c.in_ok-whole.whole.now.part) (left_of c.args.budget.now)) ≡ Ok ((c.in_ok-text.text, (left_of c.inside.new.budget)), c.inside.new.stack.shown)) c.open.ensures.scope c.in_ok-text.ensures.is) refl)
 
@@ -567,6 +575,7 @@ one_more-returns t c =
     record {
       is = subst (λ (q : Looks (List ℕ × Left)). Shows {A = List ℕ × Left} told (λ v. (v, (left_of c.tree_text-result.new.budget))) c.tree_text-result.new.stack.shown c.tree_text-result.result (looked (objects c.args.known.now) c.args.stack.now.shown q)) (sym (more_read c.args.budget.now.renders (c.args.budget.now.renders - 1) c.args.stack.now.scope (view c.args.tree.now) (left_of c.args.budget.now) positive)) c.tree_text-result.ensures.is;
       keeps = record {
+        known = c.tree_text-result.ensures.keeps.known;
         scope = c.tree_text-result.ensures.keeps.scope;
         shown = c.tree_text-result.ensures.keeps.shown;
         renders = omega (arith, positive, c.tree_text-result.ensures.keeps.renders);
