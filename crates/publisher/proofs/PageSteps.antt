@@ -14,7 +14,7 @@ use Rattle.dtml_values.specs.Told as values
 use Rattle.dtml_values.specs.declared.refusal.RenderRefusal.{RenderRefusal}
 use Rattle.namespace.specs.LookLaws.{looked_goes}
 use Rattle.namespace.specs.Looks.{Fault, looked, taken, through}
-use Rattle.namespace.specs.Names.{Scope, viewing, whose}
+use Rattle.namespace.specs.Names.{Scope, Space, viewing, whose}
 use Rattle.publisher.specs.declared.answer.Answer.TheVariants as answer
 use Rattle.publisher.specs.declared.refusal.SiteRefusal.TheVariants as refusals
 use Rattle.publisher.specs.Faults as faults
@@ -32,17 +32,20 @@ source_is k shown renders scope o source left tree e = ap (λ r. looked k shown 
 
 -- ---- the page of an object in a scope
 
-pub page_is : (k : ℕ → Option (Seen Object)) (shown : List Shown) (scope behind : Scope) (o : ℕ) (object : Object) (mid : List Shown) (r : Result ((List ℕ × Left) × List Shown) (Halt ℕ Fault)) →
-    looked k shown (viewing (whose scope) o) ≡ Ok (object, mid) → behind ≡ scope → looked k mid (source_page behind o object) ≡ r → looked k shown (scope_page scope o) ≡ r
-unfolding scope_page
-page_is k shown scope behind o object mid r e same is =
-    looked_goes k shown (viewing (whose scope) o) (source_page scope o) (object, mid) e ∙ subst (λ (s : Scope). looked k mid (source_page s o object) ≡ r) same is
+module _ (before after : Space) (o : ℕ) (object : Object) (made : looked (objects before.known) before.shown (viewing (whose before.scope) o) ≡ Ok (object, after.shown)) (same_known : after.known ≡ before.known) (same_scope : after.scope ≡ before.scope) where
+  -- what comes of the page is what comes of the source behind the look at its object
+  behind : looked (objects after.known) after.shown (source_page after.scope o object) ≡ looked (objects before.known) before.shown (scope_page before.scope o)
+  unfolding scope_page
+  behind =
+      ap (λ (s : Scope). looked (objects after.known) after.shown (source_page s o object)) same_scope
+      ∙ ap (λ (rows : List (ℕ × Kept)). looked (objects rows) after.shown (source_page before.scope o object)) same_known
+      ∙ sym (looked_goes (objects before.known) before.shown (viewing (whose before.scope) o) (source_page before.scope o) (object, after.shown) made)
 
-pub page_told : (k : ℕ → Option (Seen Object)) (shown : List Shown) (scope behind : Scope) (o : ℕ) (object : Object) (mid : List Shown) (halt : Option (Halt ℕ Fault)) →
-    looked k shown (viewing (whose scope) o) ≡ Ok (object, mid) → behind ≡ scope → Told halt (looked k mid (source_page behind o object)) → Told halt (looked k shown (scope_page scope o))
-unfolding scope_page
-page_told k shown scope behind o object mid halt e same is =
-    subst (Told halt) (sym (looked_goes k shown (viewing (whose scope) o) (source_page scope o) (object, mid) e)) (subst (λ (s : Scope). Told halt (looked k mid (source_page s o object))) same is)
+  pub page_is : (r : Result ((List ℕ × Left) × List Shown) (Halt ℕ Fault)) → looked (objects after.known) after.shown (source_page after.scope o object) ≡ r → looked (objects before.known) before.shown (scope_page before.scope o) ≡ r
+  page_is r is = sym behind ∙ is
+
+  pub page_told : (halt : Option (Halt ℕ Fault)) → Told halt (looked (objects after.known) after.shown (source_page after.scope o object)) → Told halt (looked (objects before.known) before.shown (scope_page before.scope o))
+  page_told halt is = subst (Told halt) behind is
 
 pub page_stops : (k : ℕ → Option (Seen Object)) (shown : List Shown) (scope : Scope) (o : ℕ) (halt : Option (Halt ℕ Fault)) → Told halt (looked k shown (viewing (whose scope) o)) → Told halt (looked k shown (scope_page scope o))
 unfolding scope_page

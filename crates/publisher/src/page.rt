@@ -60,27 +60,27 @@ fn source_page(
     alloc: Global,
     oid: Oid,
     object: &Object,
-    known: &Known,
-    stack: &mut Stack,
+    stack: &mut Stack<'_>,
     budget: &mut Budget,
 ) -> Result<Text, RenderRefusal>
     requires renders { budget.old.renders ≡ 31 }
     requires left { left_of budget.old ≡ pages.whole_budget }
-    ensures { Shows values.told (λ t. (t, left_of budget.new)) stack.new.shown result (looked (objects known.now) stack.old.shown (pages.source_page stack.old.scope oid object.now)) }
+    ensures { Shows values.told (λ t. (t, left_of budget.new)) stack.new.shown result (looked (objects stack.old.known) stack.old.shown (pages.source_page stack.old.scope oid object.now)) }
 {
     let acting = acting(alloc, object)?;
     let _former = stack.act(acting);
     let tree = read_source(alloc, oid, source_of(&object.part))?;
-    render(alloc, &tree, stack, known, budget)
+    render(alloc, &tree, stack, budget)
 }
 
 // The object, which its user must be granted to view.
 #[tactic(auto, using(dtml_values::specs::StepLaws::named_told))]
-fn open<'k>(oid: Oid, known: &'k Known, stack: &mut Stack) -> Result<&'k Object, RenderRefusal>
-    ensures is { Shows values.told (λ o. o.now) stack.new.shown result (looked (objects known.now) stack.old.shown (names.viewing (names.whose stack.old.scope) oid)) }
+fn open<'k>(oid: Oid, stack: &mut Stack<'k>) -> Result<&'k Object, RenderRefusal>
+    ensures is { Shows values.told (λ o. o.now) stack.new.shown result (looked (objects stack.old.known) stack.old.shown (names.viewing (names.whose stack.old.scope) oid)) }
+    ensures known { stack.new.known ≡ stack.old.known }
     ensures scope { stack.new.scope ≡ stack.old.scope }
 {
-    let object = stack.open(known, oid)?;
+    let object = stack.open(oid)?;
     Ok(object)
 }
 
@@ -88,14 +88,13 @@ fn open<'k>(oid: Oid, known: &'k Known, stack: &mut Stack) -> Result<&'k Object,
 fn scope_page(
     alloc: Global,
     oid: Oid,
-    known: &Known,
-    stack: &mut Stack,
+    stack: &mut Stack<'_>,
 ) -> Result<(Text, Budget), RenderRefusal>
-    ensures { Shows values.told (λ x. (x.0, left_of x.1)) stack.new.shown result (looked (objects known.now) stack.old.shown (pages.scope_page stack.old.scope oid)) }
+    ensures { Shows values.told (λ x. (x.0, left_of x.1)) stack.new.shown result (looked (objects stack.old.known) stack.old.shown (pages.scope_page stack.old.scope oid)) }
 {
-    let object = open(oid, known, stack)?;
+    let object = open(oid, stack)?;
     let mut budget = whole_budget();
-    let text = source_page(alloc, oid, object, known, stack, &mut budget)?;
+    let text = source_page(alloc, oid, object, stack, &mut budget)?;
     Ok((text, budget))
 }
 
@@ -114,16 +113,11 @@ fn copy_shown(alloc: Global, shown: &[Shown]) -> Result<ShownList, Memory>
 
 // The page of an object in the scope of a stack on which nothing was shown.
 #[tactic(auto, using(crate::proofs::PageSteps::page_done, crate::proofs::PageSteps::page_halts))]
-fn answer_in(
-    alloc: Global,
-    oid: Oid,
-    known: &Known,
-    stack: &mut Stack,
-) -> Result<Answer, SiteRefusal>
+fn answer_in(alloc: Global, oid: Oid, stack: &mut Stack<'_>) -> Result<Answer, SiteRefusal>
     requires none_shown { stack.old.shown ≡ [] }
-    ensures { Answers told (λ a. a) result (comes_to known.now (spec.scope_answer stack.old.scope oid)) }
+    ensures { Answers told (λ a. a) result (comes_to stack.old.known (spec.scope_answer stack.old.scope oid)) }
 {
-    let (text, _left) = scope_page(alloc, oid, known, stack)?;
+    let (text, _left) = scope_page(alloc, oid, stack)?;
     let shown = copy_shown(alloc, stack.shown().as_slice())?;
     Ok(Answer::Page(page_reply(text, shown)))
 }
@@ -154,8 +148,8 @@ fn page_for(
     ensures { Answers told (λ a. a) result (comes_to known.now (spec.page_for request.now fields.now oid client user)) }
 {
     let names = page_names(alloc, request, fields, &user)?;
-    let mut stack = Stack::new(alloc, user, client, names);
-    answer_in(alloc, oid, known, &mut stack)
+    let mut stack = Stack::new(alloc, known, user, client, names);
+    answer_in(alloc, oid, &mut stack)
 }
 
 /// The page of a published object.

@@ -6,14 +6,14 @@ use Rattle.publisher.proofs.page.scope_page.Goals as goal
 pub returns-in_err-object : goal.returns-in_err-object
 returns-in_err-object c =
     let p = err_from_is_err_and c.from_residual.result c.from_residual.ensures.1 in
-    rw (p.1, p.2) (page_stops (objects c.args.known.now) c.args.stack.now.shown c.args.stack.now.scope c.args.oid _ c.in_err-object.ensures.is)
+    rw (p.1, p.2) (page_stops (objects c.args.stack.now.known) c.args.stack.now.shown c.args.stack.now.scope c.args.oid _ c.in_err-object.ensures.is)
 
 pub returns-in_err-text : goal.returns-in_err-text
 returns-in_err-text c =
     let p = err_from_is_err_and c.from_residual-in_err-text.result c.from_residual-in_err-text.ensures.1 in
-    rw (p.1, p.2) (page_told (objects c.args.known.now) c.args.stack.now.shown c.args.stack.now.scope c.open.new.stack.scope c.args.oid c.in_ok-object.object.now c.open.new.stack.shown _ c.in_ok-object.ensures.is c.in_ok-object.ensures.scope c.in_err-text.ensures)
+    rw (p.1, p.2) (page_told c.args.stack.now c.open.new.stack c.args.oid c.in_ok-object.object.now c.in_ok-object.ensures.is c.in_ok-object.ensures.known c.in_ok-object.ensures.scope _ c.in_err-text.ensures)
 
 pub returns : goal.returns
 returns c =
-    page_is (objects c.args.known.now) c.args.stack.now.shown c.args.stack.now.scope c.open.new.stack.scope c.args.oid c.in_ok-object.object.now c.open.new.stack.shown
-    _ c.in_ok-object.ensures.is c.in_ok-object.ensures.scope c.in_ok-text.ensures
+    page_is c.args.stack.now c.open.new.stack c.args.oid c.in_ok-object.object.now c.in_ok-object.ensures.is c.in_ok-object.ensures.known c.in_ok-object.ensures.scope
+    _ c.in_ok-text.ensures
