@@ -1,5 +1,10 @@
 mod Steps
-mod AccessLaws
+mod ForUsers
+mod Backwards
+mod Showing
+mod Granting
+mod Denying
+mod Apart
 mod Learning
 mod Limiting
 mod PageSteps

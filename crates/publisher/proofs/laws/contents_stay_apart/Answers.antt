@@ -1,4 +1,4 @@
-use Rattle.publisher.proofs.AccessLaws.{stay_apart}
+use Rattle.publisher.proofs.Apart.{stay_apart}
 use Rattle.publisher.proofs.laws.contents_stay_apart.Goals as goal
 
 pub returns : goal.returns

@@ -1,4 +1,5 @@
-use Rattle.publisher.proofs.AccessLaws.{are_denied, show_rightly}
+use Rattle.publisher.proofs.Denying.{are_denied}
+use Rattle.publisher.proofs.Showing.{show_rightly}
 use Rattle.publisher.proofs.laws.pages_show_rightly.Goals as goal
 
 pub returns : goal.returns
