@@ -1,8 +1,13 @@
-ghost use Rattle.std.specs.Prelude.{◌≡◌, ℕ, List, Option};
+ghost use Rattle.std.specs.Prelude.{◌≡◌, ℕ, List};
+ghost use Rattle.zbase.specs.History.{History};
+ghost use Rattle.http_in.specs.Messages.{one_message};
 ghost use Rattle.schedule.specs.declared.item.Item2.{Item2};
+ghost use Rattle.schedule.specs.declared.line.Line.{Line};
+ghost use Rattle.schedule.specs.Explained.{Explained};
+ghost use Rattle.publisher.specs.Site.{site};
+ghost use Rattle.replay.specs.Printed.{terms_of};
 ghost use Rattle.zope.specs.Access.{AllGrowRightly, AllShowRightly};
 ghost use Rattle.zope.specs.Ends.{Ends};
-ghost use Rattle.zope.specs.Replayed.{Explains};
 ghost use Rattle.zope.specs.Worked.{checking, untouched};
 
 use fs_record::one_opening;
@@ -19,14 +24,15 @@ pub fn giving_up_is_refuted()
     one_opening();
 }
 
-/// Of what a replay prints, each reading reply and the lines behind it are right: a page with status 200 shows each object
-/// whose title, source or property it uses, and each that it shows was granted to its user, or to someone who has the proxy
-/// roles of an object, by the role that its line tells; what a `denied` line names isn't granted. All this by the objects of
-/// the history up to the transaction that the reply names. And each transaction by which its history grew, acknowledged or
-/// not, is the change of a call whose permission its user was granted before it.
+/// Of what a replay prints, also of one that is broken off at a line that can't be run, each reading reply and the lines
+/// behind it are right: a page with status 200 shows each object whose title, source or property it uses, and each that it
+/// shows was granted to its user, or to someone who has the proxy roles of an object, by the role that its line tells; what a
+/// `denied` line names isn't granted. All this by the objects of the history up to the transaction that the reply names. And
+/// each transaction by which its history grew, acknowledged or not, is the change of a call whose permission its user was
+/// granted before it.
 pub fn replays_keep_access()
-    ensures shown { (limit : ℕ) (bytes : List ℕ) (items : List Item2) (old new : Option (List ℕ)) (did : Explains limit bytes items old new) → AllShowRightly did.explained.end.standing did.explained.trace }
-    ensures changed { (limit : ℕ) (bytes : List ℕ) (items : List Item2) (old new : Option (List ℕ)) (did : Explains limit bytes items old new) → AllGrowRightly did.explained.end.standing did.explained.trace }
+    ensures shown { (limit end : ℕ) (h : History) (items : List Item2) (report : List Line) (it : Explained (terms_of one_message site limit end) h items report) → AllShowRightly it.end.standing it.trace }
+    ensures changed { (limit end : ℕ) (h : History) (items : List Item2) (report : List Line) (it : Explained (terms_of one_message site limit end) h items report) → AllGrowRightly it.end.standing it.trace }
 {
     pages_show_rightly();
     changes_are_granted();
