@@ -1,5 +1,4 @@
--- What a recorded file tells, and for how many calls it has room.
-use Rattle.std.specs.Prelude.{ℕ, ◌-◌, vec_len, vec_capacity}
+-- What a recorded file tells.
 use Rattle.zdisk.specs.Disk.{Told}
 use Rattle.zdisk.specs.Recorded.{Buffer, told_by}
 use Rattle.zdisk.specs.declared.recorded.RecordedFile.{RecordedFile}
@@ -9,6 +8,3 @@ buffer_of file = record { bytes = file.bytes.items; len = file.len; covered = fi
 
 abbrev pub told_in : RecordedFile → Told
 told_in file = told_by (buffer_of file) file.entries.items
-
-abbrev pub spare_entries : RecordedFile → ℕ
-spare_entries file = vec_capacity file.entries - vec_len file.entries

@@ -1,11 +1,11 @@
-ghost use Rattle.std.specs.Prelude.{◌≡◌, ◌+◌, ◌≤◌, [], Some, false, true, length, take, option_map, IfSome, OnOk, OnErr, IsErr};
+ghost use Rattle.std.specs.Prelude.{◌≡◌, ◌+◌, ◌≤◌, [], Some, false, true, length, max, take, option_map, IfSome, OnOk, OnErr, IsErr};
 ghost use Rattle.std.specs.declared.option.Option.{Option};
 ghost use Rattle.zbase.specs.Faults.{Counts, IsFaultless, IsWaiting, Once, no_arms};
 ghost use Rattle.zdisk.specs.Arming.{armed, called, counter_of, disarmed, last_seed, met, resumed};
 ghost use Rattle.zdisk.specs.Calls.{Cuts, Follows, Syncs, Writes, put};
 ghost use Rattle.zdisk.specs.Disk.{GivesLength, GivesRange, HasPlace, HasRange, counted, synced};
 ghost use Rattle.zdisk.specs.Effects.{after_change, after_sync, brings, image_left};
-ghost use Rattle.zdisk.specs.Keeping.{spare_entries, told_in};
+ghost use Rattle.zdisk.specs.Keeping.{told_in};
 ghost use Rattle.zdisk.specs.Meeting.{Answers};
 
 use crate::Disk;
@@ -34,12 +34,13 @@ pub struct MemoryDisk {
 }
 
 impl MemoryDisk {
-    /// A synced file of these bytes, on which nothing is armed. Takes no memory.
+    /// A synced file of these bytes, on which nothing is armed, with room for no call. Takes no memory.
     pub fn new(alloc: Global, bytes: Bytes) -> MemoryDisk
         ensures told { ⟦<MemoryDisk as Disk>⟧.told result ≡ Some (synced bytes) }
         ensures faultless { IsFaultless (⟦<MemoryDisk as Disk>⟧.counter result) }
         ensures counter { ⟦<MemoryDisk as Disk>⟧.counter result ≡ counter_of 0 0 no_arms }
         ensures calls { (⟦<MemoryDisk as Disk>⟧.counter result).calls ≡ 0 }
+        ensures spare { (⟦<MemoryDisk as Disk>⟧.spare_calls result ≡ 0) × (⟦<MemoryDisk as Disk>⟧.spare_bytes result ≡ 0) }
     {
         MemoryDisk {
             file: RecordedFile::new(bytes),
@@ -147,11 +148,18 @@ impl Disk for MemoryDisk {
 
     ghost counter = { λ disk. disk.queue };
 
-    ghost spare_calls = { λ disk. spare_entries disk.file };
+    ghost spare_calls = { λ disk. disk.file.calls };
 
     ghost spare_bytes = { λ disk. disk.file.spare };
 
-    fn reserve(&mut self, calls: u64, bytes: u64) -> Result<(), Memory> {
+    fn reserve(&mut self, calls: u64, bytes: u64) -> Result<(), Memory>
+        ensures room { OnOk result ((calls ≤ ⟦<MemoryDisk as Disk>⟧.spare_calls self.new) × (bytes ≤ ⟦<MemoryDisk as Disk>⟧.spare_bytes self.new)) }
+        ensures kept { (⟦<MemoryDisk as Disk>⟧.spare_calls self.old ≤ ⟦<MemoryDisk as Disk>⟧.spare_calls self.new) × (⟦<MemoryDisk as Disk>⟧.spare_bytes self.old ≤ ⟦<MemoryDisk as Disk>⟧.spare_bytes self.new) }
+        ensures same { ⟦<MemoryDisk as Disk>⟧.told self.new ≡ ⟦<MemoryDisk as Disk>⟧.told self.old }
+        ensures uncalled { ⟦<MemoryDisk as Disk>⟧.counter self.new ≡ ⟦<MemoryDisk as Disk>⟧.counter self.old }
+        ensures grows { OnOk result ((⟦<MemoryDisk as Disk>⟧.spare_calls self.new ≡ max (⟦<MemoryDisk as Disk>⟧.spare_calls self.old) calls) × (⟦<MemoryDisk as Disk>⟧.spare_bytes self.new ≡ max (⟦<MemoryDisk as Disk>⟧.spare_bytes self.old) bytes)) }
+        ensures stays { OnErr result ((⟦<MemoryDisk as Disk>⟧.spare_calls self.new ≡ ⟦<MemoryDisk as Disk>⟧.spare_calls self.old) × (⟦<MemoryDisk as Disk>⟧.spare_bytes self.new ≡ ⟦<MemoryDisk as Disk>⟧.spare_bytes self.old)) }
+    {
         self.file.reserve(calls as usize, bytes as usize)
     }
 

@@ -14,11 +14,14 @@ pub struct RecordedFile {
     /// The bytes that calls covered, one after another.
     pub(crate) covered: Vec<u8>,
     pub(crate) entries: Vec<Entry>,
+    /// How many calls that may change the file may come.
+    pub(crate) calls: usize,
     /// How many bytes writes may bring.
     pub(crate) spare: usize,
     /// How many calls may fail. Each may cover the whole buffer.
     pub(crate) faults: usize,
     ghost fits: { FitsBack (record { bytes = bytes.items; len = len; covered = covered.items }) (reverse entries.items) } by { FitsBack-prop (record { bytes = bytes.items; len = len; covered = covered.items }) (reverse entries.items) },
+    ghost entry_room: { vec_len entries + calls ≤ vec_capacity entries },
     ghost room: { vec_len bytes + spare ≤ vec_capacity bytes },
     ghost kept: { vec_len covered + spare + room_for faults (vec_len bytes + spare) ≤ vec_capacity covered },
 }

@@ -1,8 +1,8 @@
-ghost use Rattle.std.specs.Prelude.{◌≡◌, ◌+◌, ◌-◌, ◌≤◌, length, take, IfOk, OnErr, OnOk};
+ghost use Rattle.std.specs.Prelude.{◌≡◌, ◌+◌, ◌≤◌, length, max, take, IfOk, OnErr, OnOk};
 ghost use Rattle.zdisk.specs.Calls.{put};
 ghost use Rattle.zdisk.specs.Disk.{bytes_at, content, synced};
 ghost use Rattle.zdisk.specs.Effects.{after_change, after_sync, brings, faults_left, image_left, more, needs};
-ghost use Rattle.zdisk.specs.Keeping.{spare_entries, told_in};
+ghost use Rattle.zdisk.specs.Keeping.{told_in};
 ghost use Rattle.zdisk.specs.Room.{room_for};
 ghost use Rattle.zdisk.specs.Seeds.{image_of};
 
@@ -17,6 +17,7 @@ impl RecordedFile {
     /// A synced file of these bytes, with room for no call. Takes no memory.
     pub fn new(bytes: Bytes) -> RecordedFile
         ensures told { told_in result ≡ synced bytes }
+        ensures spare { (result.calls ≡ 0) × (result.spare ≡ 0) }
     {
         let alloc = bytes.alloc();
         let bytes = bytes.into_vec();
@@ -25,6 +26,7 @@ impl RecordedFile {
             bytes,
             covered: Vec::new(alloc),
             entries: Vec::new(alloc),
+            calls: 0,
             spare: 0,
             faults: 0,
         }
@@ -45,38 +47,39 @@ impl RecordedFile {
         buf.copy_from_slice(&self.bytes[at..at + buf.len()]);
     }
 
-    /// Makes room for so many calls that may change the file, and for so many bytes that writes bring. For want of
-    /// memory the room that there was stays.
+    /// Makes room for so many calls that may change the file, and for so many bytes that writes bring, where there was
+    /// less. For want of memory the room that there was stays.
     pub fn reserve(&mut self, calls: usize, bytes: usize) -> Result<(), Memory>
         ensures told { told_in self.new ≡ told_in self.old }
-        ensures room { OnOk result ((calls ≤ spare_entries self.new) × (bytes ≤ self.new.spare)) }
-        ensures kept { (spare_entries self.old ≤ spare_entries self.new) × (self.old.spare ≤ self.new.spare) }
+        ensures room { OnOk result ((self.new.calls ≡ max self.old.calls calls) × (self.new.spare ≡ max self.old.spare bytes)) }
+        ensures kept { OnErr result ((self.new.calls ≡ self.old.calls) × (self.new.spare ≡ self.old.spare)) }
         ensures faults { self.new.faults ≡ self.old.faults }
     {
-        self.entries.reserve(calls)?;
-        self.make_room(self.spare.max(bytes), self.faults)
+        self.make_room(self.calls.max(calls), self.spare.max(bytes), self.faults)
     }
 
     /// Makes room for so many calls that fail. For want of memory the room that there was stays.
     pub fn reserve_faults(&mut self, faults: usize) -> Result<(), Memory>
         ensures told { told_in self.new ≡ told_in self.old }
-        ensures spare { (spare_entries self.new ≡ spare_entries self.old) × (self.new.spare ≡ self.old.spare) }
+        ensures spare { (self.new.calls ≡ self.old.calls) × (self.new.spare ≡ self.old.spare) }
         ensures room { OnOk result (self.new.faults ≡ faults) }
         ensures kept { OnErr result (self.new.faults ≡ self.old.faults) }
     {
-        self.make_room(self.spare, faults)
+        self.make_room(self.calls, self.spare, faults)
     }
 
-    // Makes room for so many bytes that writes bring, and for so many calls that fail.
-    fn make_room(&mut self, spare: usize, faults: usize) -> Result<(), Memory>
+    // Makes room for so many calls that may change the file, for so many bytes that writes bring, and for so many calls that
+    // fail.
+    fn make_room(&mut self, calls: usize, spare: usize, faults: usize) -> Result<(), Memory>
         ensures told { told_in self.new ≡ told_in self.old }
-        ensures entries { spare_entries self.new ≡ spare_entries self.old }
-        ensures room { OnOk result ((self.new.spare ≡ spare) × (self.new.faults ≡ faults)) }
-        ensures kept { OnErr result ((self.new.spare ≡ self.old.spare) × (self.new.faults ≡ self.old.faults)) }
+        ensures room { OnOk result ((self.new.calls ≡ calls) × (self.new.spare ≡ spare) × (self.new.faults ≡ faults)) }
+        ensures kept { OnErr result ((self.new.calls ≡ self.old.calls) × (self.new.spare ≡ self.old.spare) × (self.new.faults ≡ self.old.faults)) }
     {
         let room = room_of(self.bytes.len(), spare, faults)?;
         self.bytes.reserve(spare)?;
         self.covered.reserve(room)?;
+        self.entries.reserve(calls)?;
+        self.calls = calls;
         self.spare = spare;
         self.faults = faults;
         Ok(())
@@ -85,11 +88,11 @@ impl RecordedFile {
     /// A write, which meets this.
     pub fn write(&mut self, at: usize, piece: &[u8], meets: Met)
         requires within { at ≤ length (content (told_in self.old)) }
-        requires room { 1 ≤ spare_entries self.old }
+        requires room { 1 ≤ self.old.calls }
         requires space { length piece.now ≤ self.old.spare }
         requires faults { needs meets ≤ self.old.faults }
         ensures told { told_in self.new ≡ after_change (put at piece.now) meets (told_in self.old) }
-        ensures spare { (spare_entries self.new + 1 ≡ spare_entries self.old) × (self.new.spare + brings meets (length piece.now) ≡ self.old.spare) }
+        ensures spare { (self.new.calls + 1 ≡ self.old.calls) × (self.new.spare + brings meets (length piece.now) ≡ self.old.spare) }
         ensures faults { self.new.faults ≡ faults_left meets self.old.faults }
     {
         match meets {
@@ -102,10 +105,10 @@ impl RecordedFile {
     /// A cut, which meets this.
     pub fn cut(&mut self, to: usize, meets: Met)
         requires within { to ≤ length (content (told_in self.old)) }
-        requires room { 1 ≤ spare_entries self.old }
+        requires room { 1 ≤ self.old.calls }
         requires faults { needs meets ≤ self.old.faults }
         ensures told { told_in self.new ≡ after_change (take to) meets (told_in self.old) }
-        ensures spare { (spare_entries self.new + 1 ≡ spare_entries self.old) × (self.new.spare ≡ self.old.spare) }
+        ensures spare { (self.new.calls + 1 ≡ self.old.calls) × (self.new.spare ≡ self.old.spare) }
         ensures faults { self.new.faults ≡ faults_left meets self.old.faults }
     {
         match meets {
@@ -117,14 +120,17 @@ impl RecordedFile {
 
     /// A sync, which meets this.
     pub fn sync(&mut self, meets: Met)
-        requires room { 1 ≤ spare_entries self.old }
+        requires room { 1 ≤ self.old.calls }
         requires faults { needs meets ≤ self.old.faults }
         ensures told { told_in self.new ≡ after_sync meets (told_in self.old) }
-        ensures spare { (spare_entries self.new + 1 ≡ spare_entries self.old) × (self.new.spare ≡ self.old.spare) }
+        ensures spare { (self.new.calls + 1 ≡ self.old.calls) × (self.new.spare ≡ self.old.spare) }
         ensures faults { self.new.faults ≡ faults_left meets self.old.faults }
     {
         match meets {
-            Met::Nothing => note(&mut self.entries, Entry::Sync),
+            Met::Nothing => {
+                self.calls -= 1;
+                note(&mut self.entries, Entry::Sync);
+            }
             Met::Failure(seed) => self.sync_mixed(seed),
             Met::Stop(_) | Met::Stopped => self.keep(),
         }
@@ -133,7 +139,7 @@ impl RecordedFile {
     /// The file becomes the image that a stop with this seed leaves, which is synced and has no record.
     pub fn settle(&mut self, seed: u64)
         ensures told { told_in self.new ≡ synced (image_left seed (told_in self.old)) }
-        ensures spare { (spare_entries self.new ≡ spare_entries self.old + length (told_in self.old).earlier) × (self.new.spare ≡ self.old.spare) }
+        ensures spare { (self.new.calls ≡ self.old.calls + length (told_in self.old).earlier) × (self.new.spare ≡ self.old.spare) }
         ensures faults { self.new.faults ≡ self.old.faults }
     {
         self.len = mix(
@@ -144,28 +150,31 @@ impl RecordedFile {
             seed,
         );
         self.covered.clear();
+        self.calls += self.entries.len();
         self.entries.clear();
     }
 
     // The call leaves the file as it was.
     fn keep(&mut self)
-        requires room { 1 ≤ spare_entries self.old }
+        requires room { 1 ≤ self.old.calls }
         ensures told { told_in self.new ≡ more (content (told_in self.old)) (told_in self.old) }
-        ensures spare { (spare_entries self.new + 1 ≡ spare_entries self.old) × (self.new.spare ≡ self.old.spare) }
+        ensures spare { (self.new.calls + 1 ≡ self.old.calls) × (self.new.spare ≡ self.old.spare) }
         ensures faults { self.new.faults ≡ self.old.faults }
     {
+        self.calls -= 1;
         note(&mut self.entries, Entry::Failed);
     }
 
     fn write_whole(&mut self, at: usize, piece: &[u8])
         requires within { at ≤ length (content (told_in self.old)) }
-        requires room { 1 ≤ spare_entries self.old }
+        requires room { 1 ≤ self.old.calls }
         requires space { length piece.now ≤ self.old.spare }
         ensures told { told_in self.new ≡ more (put at piece.now (content (told_in self.old))) (told_in self.old) }
-        ensures spare { (spare_entries self.new + 1 ≡ spare_entries self.old) × (self.new.spare + length piece.now ≡ self.old.spare) }
+        ensures spare { (self.new.calls + 1 ≡ self.old.calls) × (self.new.spare + length piece.now ≡ self.old.spare) }
         ensures faults { self.new.faults ≡ self.old.faults }
     {
         let covered = cover(&mut self.bytes, &mut self.covered, at, piece);
+        self.calls -= 1;
         self.spare -= piece.len();
         let entry = Entry::Write {
             at,
@@ -180,15 +189,16 @@ impl RecordedFile {
     // A write that fails leaves the image that the seed names, of the file before and after.
     fn write_mixed(&mut self, at: usize, piece: &[u8], seed: u64)
         requires within { at ≤ length (content (told_in self.old)) }
-        requires room { 1 ≤ spare_entries self.old }
+        requires room { 1 ≤ self.old.calls }
         requires space { length piece.now ≤ self.old.spare }
         requires faults { 1 ≤ self.old.faults }
         ensures told { told_in self.new ≡ more (image_of seed (content (told_in self.old)) (put at piece.now (content (told_in self.old)))) (told_in self.old) }
-        ensures spare { (spare_entries self.new + 1 ≡ spare_entries self.old) × (self.new.spare + length piece.now ≡ self.old.spare) }
+        ensures spare { (self.new.calls + 1 ≡ self.old.calls) × (self.new.spare + length piece.now ≡ self.old.spare) }
         ensures faults { self.new.faults + 1 ≡ self.old.faults }
     {
         let from = self.covered.len();
         let covered = cover(&mut self.bytes, &mut self.covered, at, piece);
+        self.calls -= 1;
         self.spare -= piece.len();
         self.faults -= 1;
         let end = at + piece.len();
@@ -207,11 +217,12 @@ impl RecordedFile {
 
     fn cut_whole(&mut self, to: usize)
         requires within { to ≤ length (content (told_in self.old)) }
-        requires room { 1 ≤ spare_entries self.old }
+        requires room { 1 ≤ self.old.calls }
         ensures told { told_in self.new ≡ more (take to (content (told_in self.old))) (told_in self.old) }
-        ensures spare { (spare_entries self.new + 1 ≡ spare_entries self.old) × (self.new.spare ≡ self.old.spare) }
+        ensures spare { (self.new.calls + 1 ≡ self.old.calls) × (self.new.spare ≡ self.old.spare) }
         ensures faults { self.new.faults ≡ self.old.faults }
     {
+        self.calls -= 1;
         note(&mut self.entries, Entry::Cut { len: self.len });
         self.len = to;
     }
@@ -219,14 +230,15 @@ impl RecordedFile {
     // A cut that fails leaves the image that the seed names, of the file before and after.
     fn cut_mixed(&mut self, to: usize, seed: u64)
         requires within { to ≤ length (content (told_in self.old)) }
-        requires room { 1 ≤ spare_entries self.old }
+        requires room { 1 ≤ self.old.calls }
         requires faults { 1 ≤ self.old.faults }
         ensures told { told_in self.new ≡ more (image_of seed (content (told_in self.old)) (take to (content (told_in self.old)))) (told_in self.old) }
-        ensures spare { (spare_entries self.new + 1 ≡ spare_entries self.old) × (self.new.spare ≡ self.old.spare) }
+        ensures spare { (self.new.calls + 1 ≡ self.old.calls) × (self.new.spare ≡ self.old.spare) }
         ensures faults { self.new.faults + 1 ≡ self.old.faults }
     {
         let count = self.len - to;
         push_all(&mut self.covered, &self.bytes[to..self.len]);
+        self.calls -= 1;
         self.faults -= 1;
         // Where the seed takes the cut file, there is no byte.
         fill(&mut self.bytes, true, to, self.len, &[], seed);
@@ -242,16 +254,17 @@ impl RecordedFile {
 
     // A sync that fails leaves the image that the seed names, of what was last synced and the file.
     fn sync_mixed(&mut self, seed: u64)
-        requires room { 1 ≤ spare_entries self.old }
+        requires room { 1 ≤ self.old.calls }
         requires faults { 1 ≤ self.old.faults }
         ensures told { told_in self.new ≡ more (image_left seed (told_in self.old)) (told_in self.old) }
-        ensures spare { (spare_entries self.new + 1 ≡ spare_entries self.old) × (self.new.spare ≡ self.old.spare) }
+        ensures spare { (self.new.calls + 1 ≡ self.old.calls) × (self.new.spare ≡ self.old.spare) }
         ensures faults { self.new.faults + 1 ≡ self.old.faults }
     {
         let kept = self.covered.len();
         let len = self.len;
         let count = self.bytes.len();
         push_all(&mut self.covered, &self.bytes);
+        self.calls -= 1;
         self.faults -= 1;
         self.len = mix(
             &mut self.bytes,

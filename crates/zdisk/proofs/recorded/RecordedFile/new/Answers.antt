@@ -13,7 +13,7 @@ invariant_of-result-clause-fits c =
 pub invariant_of-result-clause-kept : goal.invariant_of-result-clause-kept
 invariant_of-result-clause-kept c = omega (arith, c.new.ensures.len, room_none (c.into_vec-bytes.result.len + 0), room_none c.into_vec-bytes.result.len)
 
-pub returns : goal.returns
-returns c =
+pub returns-clause-told : goal.returns-clause-told
+returns-clause-told c =
     let v = c.into_vec-bytes.result in
-    record { told = told_new _ v.items c.new.result.items c.len.result c.new-2.result.items (take_all c.len.result v.items (omega (arith, c.len.ensures, v.ok)) ∙ c.into_vec-bytes.ensures) c.new-2.ensures.items }
+    told_new _ v.items c.new.result.items c.len.result c.new-2.result.items (take_all c.len.result v.items (omega (arith, c.len.ensures, v.ok)) ∙ c.into_vec-bytes.ensures) c.new-2.ensures.items

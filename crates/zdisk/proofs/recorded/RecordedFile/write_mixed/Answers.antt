@@ -24,8 +24,8 @@ overflow_add-end c =
     let inside : d.len ≤ length d.bytes.items = fits_len (buffer_of d) (reverse d.entries.items) d.fits in
     omega (arith, place_within (buffer_of d) d.entries.items c.args.at inside c.requires.within, inside, d.room, c.requires.space, d.bytes.ok, d.bytes.small)
 
-pub overflow_sub-self-3 : goal.overflow_sub-self-3
-overflow_sub-self-3 c =
+pub overflow_sub-self-4 : goal.overflow_sub-self-4
+overflow_sub-self-4 c =
     let d = c.args.self.now in
     place_within (buffer_of d) d.entries.items c.args.at (fits_len (buffer_of d) (reverse d.entries.items) d.fits) c.requires.within
 
