@@ -1,5 +1,6 @@
 ghost use Rattle.std.specs.Prelude.{◌≡◌, ◌++◌, ℕ, true, IfOk, OnOk};
 ghost use Rattle.std.specs.List.{filter, list_any};
+ghost use Rattle.acquisition.specs.Acquiring as acquiring;
 ghost use Rattle.acquisition.specs.Acquiring.{IsOnce, has, joined};
 ghost use Rattle.acquisition.specs.Marks.{AreMarked, is_marked, others};
 
@@ -11,6 +12,9 @@ const MARKS: usize = 8192;
 
 // How many objects are looked at together.
 const BLOCK: usize = 32;
+
+// Up to how many objects it is cheaper to look through those before each than to mark them.
+const FEW: usize = 16;
 
 /// The same objects in a list of their own.
 pub(crate) fn list_of(alloc: Global, oids: &[Oid]) -> Result<Oids, Memory>
@@ -86,8 +90,8 @@ fn put_others(
     Ok(())
 }
 
-/// The objects of a path, and behind them those of the order that aren't on it.
-pub(crate) fn join(alloc: Global, path: &[Oid], order: &[Oid]) -> Result<Oids, Memory>
+// The objects of a path, and behind them those of the order that aren't on it. The path has marks.
+fn join_by_marks(alloc: Global, path: &[Oid], order: &[Oid]) -> Result<Oids, Memory>
     requires { IsOnce order.now }
     ensures { IfOk result (λ list. list ≡ joined path.now order.now) }
 {
@@ -101,4 +105,37 @@ pub(crate) fn join(alloc: Global, path: &[Oid], order: &[Oid]) -> Result<Oids, M
         rest = behind;
     }
     Ok(Items::from_vec(out))
+}
+
+// Puts an object behind the others, where it isn't among them.
+fn put(out: &mut Vec<Oid>, oid: Oid) -> Result<(), Memory>
+    ensures { OnOk result (out.new.items ≡ acquiring.put out.old.items oid) }
+{
+    if !out.contains(&oid) {
+        out.push(oid)?;
+    }
+    Ok(())
+}
+
+// The same, where each is looked for among those before it.
+fn join_few(path: Oids, order: &[Oid]) -> Result<Oids, Memory>
+    ensures { IfOk result (λ list. list ≡ joined path order.now) }
+{
+    let mut out = path.into_vec();
+    for oid in order {
+        put(&mut out, *oid)?;
+    }
+    Ok(Items::from_vec(out))
+}
+
+/// The objects of a path, and behind them those of the order that aren't on it.
+pub(crate) fn join(alloc: Global, path: Oids, order: &[Oid]) -> Result<Oids, Memory>
+    requires { IsOnce order.now }
+    ensures { IfOk result (λ list. list ≡ joined path order.now) }
+{
+    if path.len() + order.len() <= FEW {
+        join_few(path, order)
+    } else {
+        join_by_marks(alloc, path.as_slice(), order)
+    }
 }

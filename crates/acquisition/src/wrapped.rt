@@ -110,7 +110,7 @@ impl Wrapped {
     {
         let alloc = self.order.alloc();
         let path = containers(alloc, known, oid)?;
-        let order = join(alloc, path.as_slice(), self.order.as_slice())?;
+        let order = join(alloc, path, self.order.as_slice())?;
         Ok(Wrapped { order })
     }
 

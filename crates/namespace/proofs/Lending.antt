@@ -1,10 +1,9 @@
 -- What an object lends that was viewed is what its name means.
-use Rattle.std.proofs.Common.{ℕ, ◌≡◌, ◌∙◌, ◌||◌, refl, sym, ap, subst, Bool, true, false, nat_eq, if◌then◌else◌, List, [], ◌∷◌, ◌++◌, reverse, codes, Option, None, Some, option_map, is_some, Result, Ok, Err}
+use Rattle.std.proofs.Common.{ℕ, ◌≡◌, ◌∙◌, ◌||◌, refl, sym, ap, Bool, true, false, nat_eq, if◌then◌else◌, List, [], ◌∷◌, ◌++◌, reverse, codes, Option, None, Some, option_map, Ok}
 use Rattle.std.proofs.lemmas.Cmp.{nat_eq_equiv}
 use Rattle.std.specs.Prelude.{IfSome}
 use Rattle.std.specs.List.{find, list_any}
 use Rattle.std.specs.Str.{bytes_eq}
-use Rattle.zbase.specs.Query.{run}
 use Rattle.evaluator.specs.declared.reply.Shown.{Shown}
 use Rattle.zobject.specs.Texts.{begins_with}
 use Rattle.zobject.specs.Shapes.{shape_of}
@@ -26,7 +25,7 @@ use Rattle.namespace.specs.declared.word.Word.TheVariants as word
 use Rattle.namespace.specs.Looks.{Looks, Done, looked, taken, ◌>>=◌}
 use Rattle.namespace.specs.LookLaws.{looked_goes}
 use Rattle.namespace.specs.Names.{text, title_or_id, word_of, value_of, property_value, seeing, viewing, by_word, in_one, searched, in_object, title_in, title_or_id_in, property_in, property_or_child, in_layer, in_layers, in_base, named_for}
-use Rattle.namespace.specs.Told.{Begins, OnlyAnswers, OnlyHits}
+use Rattle.namespace.specs.Told.{Begins}
 use Rattle.namespace.specs.Viewing.{IsViewed, IsRemembered, lent, lent_as, lent_property, lent_value}
 use Rattle.namespace.proofs.Loops.{hit_ends, search_hits, layer_hits}
 use Rattle.namespace.proofs.Properties.{property_is}

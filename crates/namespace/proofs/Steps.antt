@@ -1,14 +1,15 @@
 -- What looks come to, one after another.
-use Rattle.std.proofs.Common.{ℕ, ◌≡◌, ◌∙◌, sym, ap, subst, List, Option, Result, Ok, Err}
-use Rattle.zbase.specs.Query.{run, or_else, Told, Halt, Cause, ◌>>=◌ as ◌>>>◌}
+use Rattle.std.proofs.Common.{ℕ, ◌≡◌, ◌∙◌, sym, ap, subst, List, Option, Some, None, option_map, Result, Ok, Err}
+use Rattle.zbase.specs.Query.{run, go_on, or_else, Told, Halt, Cause, ◌>>=◌ as ◌>>>◌}
 use Rattle.zbase.specs.QueryLaws.{run_goes, run_passes, or_else_goes}
 use Rattle.evaluator.specs.declared.reply.Shown.{Shown}
 use Rattle.zobject.specs.declared.object.Object.{Object}
-use Rattle.zobject.specs.Shapes.{Shape}
+use Rattle.zobject.specs.Shapes.{Shape, shape_of}
 use Rattle.zknown.specs.declared.kept.Kept.{Kept}
-use Rattle.zknown.specs.Seen.{Seen, Shapes, Objects, objects, shapes}
+use Rattle.zknown.specs.declared.kept.Kept.TheVariants as kept
+use Rattle.zknown.specs.Seen.{Seen, Shapes, Objects, seen_as, last_added, objects, shapes}
 use Rattle.acquisition.specs.Acquiring as acquiring
-use Rattle.acquisition.specs.Acquiring.{here, reached}
+use Rattle.acquisition.specs.Acquiring.{here, present, upwards, containers, reached}
 use Rattle.acquisition.specs.declared.refusal.AqRefusal.{AqRefusal}
 use Rattle.acquisition.specs.declared.refusal.AqRefusal.TheVariants as lower
 use Rattle.permissions.specs.Roles.{Role}
@@ -34,6 +35,24 @@ reworded_stops r lower.TooDeep e = ap reworded e
 pub outlined_stops : {A : Type 0} (rows : List (ℕ × Kept)) (q : Shapes acquiring.Fault A) (a : AqRefusal) → Told (acquiring.told a) (run (shapes rows) q) → Told (told (of_acquisition a)) (run (objects rows) (outlined q))
 outlined_stops rows q a e =
     subst (Told (told (of_acquisition a))) (sym (run_outlined (objects rows) q ∙ ap (λ k. reworded (run k q)) (veiled_rows rows))) (reworded_stops (run (shapes rows) q) a e)
+
+-- an object that is here is seen as its shape
+shape_at : (o : ℕ) (k : ℕ → Option (Seen Object)) (j : ℕ → Option (Seen Shape)) (object : Object) (x : Option Kept) → go_on o (λ seen. run k (present o seen)) (option_map (seen_as (λ object. object)) x) ≡ Ok object → go_on o (λ seen. run j (present o seen)) (option_map (seen_as shape_of) x) ≡ Ok (shape_of object)
+shape_at o k j object None e = absurd (let bad = e in cc)
+shape_at o k j object (Some (kept.Here other)) e = let same : other ≡ object = cc in ap (λ x. Ok (shape_of x)) same
+shape_at o k j object (Some kept.Absent) e = absurd (let bad = e in cc)
+shape_at o k j object (Some kept.Unreadable) e = absurd (let bad = e in cc)
+
+pub shape_here : (rows : List (ℕ × Kept)) (o : ℕ) (object : Object) → run (objects rows) (here o) ≡ Ok object → run (shapes rows) (here o) ≡ Ok (shape_of object)
+shape_here rows o object e = shape_at o (objects rows) (shapes rows) object (last_added rows o) e
+
+-- where an object isn't here, there is no verdict on it
+unseen_stops : (rows : List (ℕ × Kept)) (who : Who) (o permission : ℕ) (halt : Option (Halt ℕ acquiring.Fault)) → Told halt (run (shapes rows) (here o)) → Told halt (run (shapes rows) (verdict_on who o permission))
+unfolding verdict_on containers upwards
+unseen_stops rows who o permission halt t = run_passes (shapes rows) (containers o) _ halt (run_passes (shapes rows) (here o) _ halt t)
+
+pub viewing_unseen : (rows : List (ℕ × Kept)) (who : Who) (o : ℕ) (a : AqRefusal) (shown : List Shown) → Told (acquiring.told a) (run (shapes rows) (here o)) → Told (told (of_acquisition a)) (looked (objects rows) shown (viewing who o))
+viewing_unseen rows who o a shown t = run_passes (objects rows) (outlined (verdict_on who o view)) _ (told (of_acquisition a)) (outlined_stops rows (verdict_on who o view) a (unseen_stops rows who o view (acquiring.told a) t))
 
 -- ---- one question after another
 

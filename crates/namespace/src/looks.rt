@@ -16,7 +16,7 @@ ghost use Rattle.namespace.specs.Told.{told, OnlyAnswers, Shows};
 use crate::refusal::NameRefusal;
 use crate::showing::Showing;
 use acquisition::{Wrapped, here};
-use permissions::{GrantedRole, Verdict, Who, verdict_on};
+use permissions::{GrantedRole, Verdict, Who, verdict_from, verdict_on};
 use std::alloc::Global;
 use zbase::{Memory, Oid};
 use zknown::Known;
@@ -40,6 +40,23 @@ fn verdict(
     ensures { Answers told (λ v. v) result (run (objects known.now) (outlined (verdict_on who.now oid permission))) }
 {
     let verdict = verdict_on(alloc, who, known, oid, permission)?;
+    Ok(verdict)
+}
+
+// The verdict on this object, which is here.
+#[tactic(auto, using(crate::proofs::Steps::outlined_is, crate::proofs::Steps::outlined_stops, crate::proofs::Steps::shape_here))]
+fn verdict_here(
+    alloc: Global,
+    known: &Known,
+    who: &Who,
+    oid: Oid,
+    object: &Object,
+    permission: u8,
+) -> Result<Verdict, NameRefusal>
+    requires { run (objects known.now) (acquiring.here oid) ≡ Ok object.now }
+    ensures { Answers told (λ v. v) result (run (objects known.now) (outlined (verdict_on who.now oid permission))) }
+{
+    let verdict = verdict_from(alloc, who, known, oid, object, permission)?;
     Ok(verdict)
 }
 
@@ -81,18 +98,20 @@ pub(crate) fn enter(alloc: Global, known: &Known, who: &Who, oid: Oid) -> Result
     entered(oid, verdict)
 }
 
-/// The role by which a user may view an object.
+/// The role by which a user may view this object, which is here.
 #[tactic(auto, using(crate::proofs::Steps::passes, crate::proofs::Steps::viewing_denied))]
 pub(crate) fn view_role(
     alloc: Global,
     known: &Known,
     who: &Who,
     oid: Oid,
+    object: &Object,
 ) -> Result<GrantedRole, NameRefusal>
+    requires { run (objects known.now) (acquiring.here oid) ≡ Ok object.now }
     ensures ok { IfOk result (λ role. run (objects known.now) (outlined (verdict_on who.now oid looks.view)) ≡ Ok (verdicts.Granted role)) }
     ensures err { IfErr result (λ e. (shown : List ShownObject) → Told (told e) (looked (objects known.now) shown (spec.viewing who.now oid))) }
 {
-    let verdict = verdict(alloc, known, who, oid, VIEW)?;
+    let verdict = verdict_here(alloc, known, who, oid, object, VIEW)?;
     match verdict {
         Verdict::Denied(_) => Err(NameRefusal::Unauthorized(oid, VIEW)),
         Verdict::Granted(role) => Ok(role),
@@ -112,8 +131,8 @@ pub(crate) fn view<'k>(
     ensures viewed { IfOk result (λ o. IsViewed known.now who.now shown.new oid o.now) }
     ensures shown { OnlyAnswers shown.old shown.new result }
 {
-    let role = view_role(alloc, known, who, oid)?;
     let object = here(known, oid)?;
+    let role = view_role(alloc, known, who, oid, object)?;
     shown.take(alloc, oid, role)?;
     Ok(object)
 }

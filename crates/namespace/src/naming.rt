@@ -53,7 +53,7 @@ fn title(
     ensures is { Shows told (λ v. v) shown.new result (looked (objects known.now) shown.old (spec.title_in who.now oid)) }
     ensures shown { OnlyHits shown.old shown.new result }
 {
-    let role = view_role(alloc, known, who, oid)?;
+    let role = view_role(alloc, known, who, oid, object)?;
     let title = text_value(&object.title)?;
     shown.take(alloc, oid, role)?;
     Ok(Some(title))
@@ -73,7 +73,7 @@ fn title_or_else_id(
     ensures is { Shows told (λ v. v) shown.new result (looked (objects known.now) shown.old (spec.title_or_id_in who.now oid)) }
     ensures shown { OnlyHits shown.old shown.new result }
 {
-    let role = view_role(alloc, known, who, oid)?;
+    let role = view_role(alloc, known, who, oid, object)?;
     let title = text_value(title_or_id(object))?;
     shown.take(alloc, oid, role)?;
     Ok(Some(title))
@@ -208,7 +208,7 @@ fn viewed_property(
     ensures is { Shows told (λ v. v) shown.new result (looked (objects known.now) shown.old (spec.property_in who.now name.now oid)) }
     ensures shown { OnlyHits shown.old shown.new result }
 {
-    let role = view_role(alloc, known, who, oid)?;
+    let role = view_role(alloc, known, who, oid, object)?;
     let value = value_of(alloc, &property.value)?;
     shown.take(alloc, oid, role)?;
     Ok(Some(value))

@@ -10,7 +10,7 @@ use permissions::GrantedRole;
 use std::alloc::Global;
 use std::collections::BTreeSet;
 use std::marker::Model;
-use zbase::{Memory, Oid, Text};
+use zbase::{Memory, Oid};
 
 /// The objects that a page shows, each once, in the order of their first uses. A set tells whether one is among them, so
 /// that a page of many objects doesn't look through all of them at each use.
@@ -32,6 +32,20 @@ impl Model for Showing {
     ghost view = { λ s. s.list };
 
     ghost invariant = { λ s. (o : ℕ) → contains nat_cmp s.oids o ≡ list_any (λ (x : ShownObject). nat_eq x.oid o) s.list };
+}
+
+// Adds an object to a list.
+fn push_shown(
+    alloc: Global,
+    list: &mut ShownList,
+    oid: Oid,
+    role: GrantedRole,
+) -> Result<(), Memory>
+    ensures added { OnOk result (list.new ≡ list.old ++ record { oid = oid; role = role } ∷ []) }
+    ensures kept { OnErr result (list.new ≡ list.old) }
+{
+    let role = role.into_text(alloc)?;
+    list.push(Shown { oid, role })
 }
 
 impl Showing {
@@ -62,34 +76,18 @@ impl Showing {
         }
     }
 
-    fn has(&self, oid: Oid) -> bool
-        ensures { result ≡ list_any (λ (s : ShownObject). nat_eq s.oid oid) self.now }
-    {
-        self.is_newest(oid) || self.oids.contains(&oid.0)
-    }
-
-    fn add(&mut self, oid: Oid, role: Text) -> Result<(), Memory>
-        requires { list_any (λ (s : ShownObject). nat_eq s.oid oid) self.old ≡ false }
-        ensures added { OnOk result (self.new ≡ self.old ++ record { oid = oid; role = role } ∷ []) }
-        ensures kept { OnErr result (self.new ≡ self.old) }
-    {
-        self.oids.insert(oid.0)?;
-        let added = self.list.push(Shown { oid, role });
-        if added.is_err() {
-            self.oids.remove(&oid.0);
-        }
-        added
-    }
-
     /// An object is shown by a role; its first use counts. For want of memory all stays as it was.
     pub(crate) fn take(&mut self, alloc: Global, oid: Oid, role: GrantedRole) -> Result<(), Memory>
         ensures taken { OnOk result ((who : User) → self.new ≡ looks.taken who oid role self.old) }
         ensures shown { OnlyAnswers self.old self.new result }
     {
-        if self.has(oid) {
+        if self.is_newest(oid) || !self.oids.insert(oid.0)? {
             return Ok(());
         }
-        let role = role.into_text(alloc)?;
-        self.add(oid, role)
+        let added = push_shown(alloc, &mut self.list, oid, role);
+        if added.is_err() {
+            self.oids.remove(&oid.0);
+        }
+        added
     }
 }

@@ -1,5 +1,5 @@
 -- What nobody speaks of on an object's path is granted by the default alone.
-use Rattle.std.proofs.Common.{ℕ, suc, ◌≡◌, ◌∙◌, ◌+◌, ◌-◌, ◌<◌, ◌≤◌, refl, sym, ap, subst, arith, nat_eq, Bool, true, false, cond, if◌then◌else◌, List, [], ◌∷◌, ◌++◌, codes, length, Option, None, Some, Result, Ok, Err}
+use Rattle.std.proofs.Common.{ℕ, suc, ◌≡◌, ◌∙◌, ◌+◌, ◌-◌, ◌<◌, ◌≤◌, refl, sym, ap, subst, arith, nat_eq, Bool, true, false, cond, if◌then◌else◌, List, [], ◌∷◌, ◌++◌, codes, length, Option, None, Some, Ok, Err}
 use Rattle.std.specs.List.{AllByRecursion, filter}
 use Rattle.zbase.specs.Query.{Done, Halt, Cause, ◌>>=◌, run, go_on, Told}
 use Rattle.zbase.specs.QueryLaws.{run_goes, run_passes}
@@ -101,6 +101,11 @@ module _ (k : ℕ → Option (Seen Shape)) (permission : ℕ) where
   -- what was gone through says nothing, and the rest is still to be gone through
   abbrev pub Climbs : ℕ → ℕ → ℕ → Type 0
   Climbs o n at = (path : List ℕ) × Unsaid path × (run k (upwards (65 - n) path at) ≡ run k (containers o))
+
+  -- nothing was gone through yet
+  pub begins : (o : ℕ) → Climbs o 0 o
+  unfolding containers
+  begins o = ([], tt, refl)
 
   module _ (o n at : ℕ) (few : n < 65) (so : Climbs o n at) where
     abbrev further : Shape → Shapes Fault (List ℕ)

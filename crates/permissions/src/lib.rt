@@ -24,5 +24,5 @@ pub use laws::{
 };
 pub use proxy::acting;
 pub use roles::{roles_for, user_roles};
-pub use verdicts::{allowed, verdict, verdict_on};
+pub use verdicts::{allowed, verdict, verdict_from, verdict_on};
 pub use who::{Verdict, Who};

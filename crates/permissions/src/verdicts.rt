@@ -1,6 +1,7 @@
 ghost use Rattle.std.specs.Prelude.{◌≡◌, ◌<◌, [], length, get_or, IfOk, Ok, Some, if◌then◌else◌};
 ghost use Rattle.std.specs.List.{AllByRecursion};
 ghost use Rattle.zbase.specs.Query.{run, Answers};
+ghost use Rattle.zobject.specs.Shapes.{shape_of};
 ghost use Rattle.zknown.specs.Seen.{shapes};
 ghost use Rattle.acquisition.specs.Acquiring as acquiring;
 ghost use Rattle.acquisition.specs.Expressions.{IsHere};
@@ -10,11 +11,11 @@ use crate::everyones::is_everyones;
 use crate::granted::GrantedRole;
 use crate::roles::{roles_for, user_roles};
 use crate::who::{Verdict, Who};
-use acquisition::{AqRefusal, containers, containers_are_here};
+use acquisition::{AqRefusal, containers, containers_are_here, here};
 use std::alloc::Global;
 use zbase::{Memory, Oid, Text};
 use zknown::Known;
-use zobject::Roles;
+use zobject::{Object, Roles};
 
 fn is_among(mine: &[Text], role: &Text) -> bool
     ensures { result ≡ spec.is_among mine.now role.now }
@@ -94,8 +95,28 @@ pub fn verdict(
     verdict_of(&roles, place, permission)
 }
 
-/// Whether a user has a permission on an object; or why the object has no path to the root.
+/// Whether a user has a permission on this object, which is here; or why it has no path to the root.
 #[tactic(auto, using(crate::proofs::Steps::goes, crate::proofs::Steps::passes), unfolding(crate::specs::Verdicts::verdict_on))]
+pub fn verdict_from(
+    alloc: Global,
+    who: &Who,
+    known: &Known,
+    oid: Oid,
+    object: &Object,
+    permission: u8,
+) -> Result<Verdict, AqRefusal>
+    requires { run (shapes known.now) (acquiring.here oid) ≡ Ok (shape_of object.now) }
+    ensures { Answers acquiring.told (λ verdict. verdict) result (run (shapes known.now) (spec.verdict_on who.now oid permission)) }
+{
+    if is_everyones(known, oid, object, permission)? {
+        return Ok(Verdict::Granted(GrantedRole::everyones()));
+    }
+    containers_are_here();
+    let path = containers(alloc, known, oid)?;
+    Ok(verdict(alloc, who, known, path.as_slice(), permission)?)
+}
+
+/// Whether a user has a permission on an object; or why the object isn't here or has no path to the root.
 pub fn verdict_on(
     alloc: Global,
     who: &Who,
@@ -105,10 +126,6 @@ pub fn verdict_on(
 ) -> Result<Verdict, AqRefusal>
     ensures { Answers acquiring.told (λ verdict. verdict) result (run (shapes known.now) (spec.verdict_on who.now oid permission)) }
 {
-    if is_everyones(known, oid, permission)? {
-        return Ok(Verdict::Granted(GrantedRole::everyones()));
-    }
-    containers_are_here();
-    let path = containers(alloc, known, oid)?;
-    Ok(verdict(alloc, who, known, path.as_slice(), permission)?)
+    let object = here(known, oid)?;
+    verdict_from(alloc, who, known, oid, object, permission)
 }

@@ -1,4 +1,4 @@
-use Rattle.std.proofs.Common.{◌≡◌, ◌∙◌, ◌∷◌, ◌++◌, [], ℕ, List, sym, ap, subst, Ok, Some}
+use Rattle.std.proofs.Common.{◌≡◌, ◌∙◌, ◌∷◌, ◌++◌, [], sym, ap, subst, Ok, Some}
 use Rattle.std.specs.Prelude.{IfSome}
 use Rattle.zknown.specs.Seen.{objects}
 use Rattle.permissions.specs.Verdicts.{or_user}

@@ -1,6 +1,6 @@
 use Rattle.std.proofs.Common.{◌≡◌, ◌++◌, length}
 use Rattle.acquisition.specs.Marks.{others}
-use Rattle.acquisition.proofs.join.join.Given as goal
+use Rattle.acquisition.proofs.join.join_by_marks.Given as goal
 
 -- what was put, and those of the rest that aren't on the path
 abbrev pub invariant-loop-rest : goal.invariant-loop-rest

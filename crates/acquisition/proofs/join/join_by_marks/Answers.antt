@@ -1,7 +1,7 @@
 use Rattle.std.proofs.Common.{◌≡◌, ◌∙◌, length, arith}
 use Rattle.std.proofs.lemmas.Bool.Decides.{nat_tests}
 use Rattle.acquisition.proofs.Joining.{joined_behind, all_are_put}
-use Rattle.acquisition.proofs.join.join.Goals as goal
+use Rattle.acquisition.proofs.join.join_by_marks.Goals as goal
 
 pub returns : goal.returns
 returns c =
