@@ -25,7 +25,11 @@ def main():
             folder.mkdir(exist_ok=True)
             for edit in sorted((KEPT / name).glob("*.edit")):
                 shutil.copy(edit, folder)
-        sys.exit(subprocess.run(["rt", "must-fail", *names], cwd=copy).returncode)
+        # `rt ci` begins with what earlier runs on this machine have proved; one that can't be tried is no failure to it.
+        done = subprocess.run(["rt", "ci", *names], cwd=copy, capture_output=True, text=True)
+    lines = [line for line in done.stdout.splitlines() if "must-fail" in line]
+    print("\n".join(done.stdout.splitlines() if done.returncode else lines))
+    sys.exit(done.returncode or any("BAD EDIT" in line for line in lines))
 
 
 if __name__ == "__main__":
