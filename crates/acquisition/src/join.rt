@@ -117,7 +117,7 @@ fn put(out: &mut Vec<Oid>, oid: Oid) -> Result<(), Memory>
     Ok(())
 }
 
-// The same, where each is looked for among those before it.
+// As by marks, for a short path and a short order: each object is looked for among those before it.
 fn join_few(path: Oids, order: &[Oid]) -> Result<Oids, Memory>
     ensures { IfOk result (λ list. list ≡ joined path order.now) }
 {

@@ -18,7 +18,8 @@ use zobject::Object;
 /// How many objects are asked for at most to come from an object to the root: it and 64 containers.
 const MOST_ON_PATH: usize = 65;
 
-// What one object tells of that: it isn't so where the object says something, and is where the root doesn't; else nothing.
+// What one object tells of whether nothing on a path speaks of a permission: it isn't so where the object says something of
+// it, and it is so where the root says nothing; else nothing is told, and the container is asked.
 fn told_by(object: &Object, at: Oid, permission: u8) -> Option<bool>
     ensures ends { result ≡ Some true → (setting_of permission object.now.settings ≡ None) × (true ≡ nat_eq at 0) }
     ensures goes_on { result ≡ None → (setting_of permission object.now.settings ≡ None) × (false ≡ nat_eq at 0) }
