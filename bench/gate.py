@@ -6,10 +6,10 @@
 With crates it is these and those below them alone.
 
 Ten times a second it looks at the processor time of each process that proves. A row of the table is a crate: the minutes of
-one processor for its proof and its program, and for its wrong bodies; a crate whose name ends in `_cases` or `_tests` is
-counted among the cases. Behind them stand the sums, what the whole run took of the processors (with what the programs took,
-the linking, and the last tenth of a second of each process), and the time by the clock. All else on the machine should stand
-still.
+one processor for its proof and its program, and for its wrong bodies; the tests of a crate, and a crate whose name ends in
+`_cases` or `_tests`, are counted among the cases. Behind them stand the sums, what the whole run took of the processors
+(with what the programs took, the linking, and the last tenth of a second of each process), and the time by the clock. All
+else on the machine should stand still.
 """
 
 import collections
@@ -26,8 +26,14 @@ HOME = pathlib.Path(__file__).resolve().parent.parent
 TICKS = os.sysconf("SC_CLK_TCK")
 
 
+def kind_of(crate, words, folder):
+    if "rt-edit" in folder:
+        return "wrong"
+    return "cases" if b"--test" in words or crate.endswith(("_cases", "_tests")) else "proof"
+
+
 def prover(process, session):
-    """What a process of the session proves: its crate, whether it tries a wrong body, and its seconds; none for others."""
+    """What a process of the session proves: its crate, what that is counted as, and its seconds; none for others."""
     try:
         words = (process / "cmdline").read_bytes().split(b"\0")
         if pathlib.Path(words[0].decode()).name != "rattle" or b"--crate-name" not in words:
@@ -36,8 +42,9 @@ def prover(process, session):
         if int(stat[3]) != session:
             return None
         crate = words[words.index(b"--crate-name") + 1].decode()
-        seconds = sum(int(ticks) for ticks in stat[11:15]) / TICKS
-        return (process.name, stat[19]), (crate, "rt-edit" in os.readlink(process / "cwd")), seconds
+        # Its own time: its workers are processes of their own here, so what it says of those that ended would count twice.
+        seconds = sum(int(ticks) for ticks in stat[11:13]) / TICKS
+        return (process.name, stat[19]), (crate, kind_of(crate, words, os.readlink(process / "cwd"))), seconds
     except (OSError, IndexError):
         return None
 
@@ -66,12 +73,6 @@ def run(clone, crates):
     return status, spent, took, used.ru_utime + used.ru_stime
 
 
-def kind_of(crate, is_wrong):
-    if is_wrong:
-        return "wrong"
-    return "cases" if crate.endswith(("_cases", "_tests")) else "proof"
-
-
 def main():
     revision = sys.argv[1] if len(sys.argv) > 1 else "HEAD"
     with tempfile.TemporaryDirectory() as made:
@@ -80,9 +81,9 @@ def main():
         subprocess.run(["git", "checkout", "-q", revision], cwd=clone, check=True)
         status, spent, took, used = run(clone, sys.argv[2:])
     rows, sums = collections.defaultdict(collections.Counter), collections.Counter()
-    for (crate, is_wrong), seconds in spent.values():
-        rows[crate][kind_of(crate, is_wrong)] += seconds / 60
-        sums[kind_of(crate, is_wrong)] += seconds / 60
+    for (crate, kind), seconds in spent.values():
+        rows[crate][kind] += seconds / 60
+        sums[kind] += seconds / 60
     print("| crate | proof | cases | wrong bodies |\n|---|---|---|---|")
     for crate, row in [*sorted(rows.items()), ("all", sums)]:
         print(f"| {crate} | {row['proof']:.1f} | {row['cases']:.1f} | {row['wrong']:.1f} |")
