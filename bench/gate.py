@@ -27,6 +27,7 @@ TICKS = os.sysconf("SC_CLK_TCK")
 
 
 def kind_of(crate, words, folder):
+    """What a prover's time is counted as, by its words and the folder that it works in."""
     if "rt-edit" in folder:
         return "wrong"
     return "cases" if b"--test" in words or crate.endswith(("_cases", "_tests")) else "proof"

@@ -15,7 +15,7 @@ use Rattle.dtml_values.specs.Values.{Left, spend_tag, sequence}
 use Rattle.dtml_values.specs.StepLaws.{goes, goes_so, stops, keeps_on}
 use Rattle.dtml_values.specs.Told.{told, left_of}
 use Rattle.dtml_render.specs.Rendering as rendering
-use Rattle.dtml_render.specs.Rendering.{State, state, Inside, argument, name_of, needed, must_be, given, as_text, rendered, rendered_if, rendered_or, object_rendered, sourced, source_value, scope_in, pushed_if, var_text, put_value, call_text, without_text, unless_text, unless_met, has_turn, turn, turn_text, item_pushed, item_scope, turned, each, over_items, over_value, loop_text, with_value, inside_object, with_text, bound, in_bound, let_text, item_text, items_text, arms_text, else_text, source_text, one_more, text_and_left}
+use Rattle.dtml_render.specs.Rendering.{State, state, Inside, needed, has_turn, turn, turn_text, item_pushed, item_scope, turned, each, over_items, over_value, loop_text, items_text, else_text, source_text}
 use Rattle.dtml_render.proofs.Steps.{item_stops, next_item, last_item, length_turned, moved, halts_so, paid_on, shows_under, keeps_under}
 use Rattle.dtml_render.proofs.rendering.+render.Goals as goal
 

@@ -17,8 +17,7 @@ use Rattle.dtml_values.specs.Values.{Left, defined}
 use Rattle.dtml_values.specs.Expressions.{evaluated}
 use Rattle.dtml_values.specs.StepLaws.{goes, goes_so, stops, left_so}
 use Rattle.dtml_values.specs.Told.{told, left_of}
-use Rattle.dtml_render.specs.Rendering as rendering
-use Rattle.dtml_render.specs.Rendering.{State, state, Inside, argument, name_of, needed, must_be, given, as_text, rendered, rendered_if, rendered_or, object_rendered, sourced, source_value, scope_in, pushed_if, var_text, put_value, call_text, without_text, unless_text, unless_met, has_turn, turn, turn_text, item_pushed, item_scope, turned, each, over_items, over_value, loop_text, with_value, inside_object, with_text, bound, in_bound, let_text, item_text, items_text, arms_text, else_text, source_text, one_more, text_and_left}
+use Rattle.dtml_render.specs.Rendering.{argument, name_of, needed, must_be, given, rendered, rendered_if, rendered_or, object_rendered, sourced, source_text}
 use Rattle.dtml_render.proofs.rendering.+render.Goals as goal
 
 pub needed-returns-in_err-found-clause-is : goal.needed-returns-in_err-found-clause-is
