@@ -1,28 +1,14 @@
 use cases::CasesRefusal;
-use fs_record::{Damage, DataHead};
+use fs_record::DataHead;
 use fs_scan::{Checked, OidValue, ScanRefusal, Scanned, Whole};
 use std::alloc::Global;
 use zbase::{Bytes, Memory, Oid, Row, Value, hex_digits};
-
-// The number of a kind of damage.
-fn kind_number(kind: Damage) -> u8 {
-    match kind {
-        Damage::BadLength => 2,
-        Damage::BadTid => 3,
-        Damage::BadPrev => 4,
-        Damage::BadBack => 5,
-        Damage::BadStatus => 6,
-        Damage::BadTail => 7,
-        Damage::BadVersion => 8,
-        Damage::BadMagic => 9,
-    }
-}
 
 /// Why a file isn't read: `damaged KIND PLACE` or `fault`.
 pub fn refusal_words(alloc: Global, refusal: ScanRefusal) -> Result<String, CasesRefusal> {
     match refusal {
         ScanRefusal::Damaged(kind, place) => {
-            let kind = kind_number(kind);
+            let kind = kind.number();
             Ok(format!(in alloc; "damaged {kind} {place}")?)
         }
         ScanRefusal::Disk => Ok(String::from_str(alloc, "fault")?),

@@ -1,6 +1,7 @@
 pub mod Spelling
 pub mod Fits
 pub mod SpellingLaws
+pub mod Damages
 pub mod File
 pub mod FileLaws
 pub mod Opening

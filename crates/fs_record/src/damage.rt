@@ -1,3 +1,6 @@
+ghost use Rattle.std.specs.Prelude.{◌≡◌};
+ghost use Rattle.fs_record.specs.Damages.{kind_number};
+
 /// What is wrong with a file, in the order in which it is tried.
 ///
 /// Each is tried over a whole transaction, and the place that is given with it is the transaction's start.
@@ -19,4 +22,22 @@ pub enum Damage {
     BadTail,
     /// The two zero bytes of a data record aren't zero.
     BadVersion,
+}
+
+impl Damage {
+    /// Its number, by which a line names it: from 2 to 9.
+    pub fn number(self) -> u8
+        ensures { result ≡ kind_number self }
+    {
+        match self {
+            Damage::BadLength => 2,
+            Damage::BadTid => 3,
+            Damage::BadPrev => 4,
+            Damage::BadBack => 5,
+            Damage::BadStatus => 6,
+            Damage::BadTail => 7,
+            Damage::BadVersion => 8,
+            Damage::BadMagic => 9,
+        }
+    }
 }

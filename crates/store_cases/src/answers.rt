@@ -1,6 +1,5 @@
 //! Answers of a store as lines: words, and numbers behind them.
 use evaluator::{LogRows, Parts};
-use fs_record::Damage;
 use fs_store::{FinishRefusal, LoadRefusal, Loaded, OpenRefusal, Spent, VoteRefusal};
 use zbase::{Bytes, Clash, Memory, Value};
 
@@ -75,25 +74,15 @@ pub(crate) fn put_load_refusal(out: &mut Bytes, refusal: LoadRefusal) -> Result<
     }
 }
 
-// The number that the format gives a damage.
-fn kind_number(kind: Damage) -> u64 {
-    match kind {
-        Damage::BadMagic => 9,
-        Damage::BadLength => 2,
-        Damage::BadTid => 3,
-        Damage::BadPrev => 4,
-        Damage::BadBack => 5,
-        Damage::BadStatus => 6,
-        Damage::BadTail => 7,
-        Damage::BadVersion => 8,
-    }
-}
-
 /// `not opened CAUSE`.
 pub(crate) fn put_open_refusal(out: &mut Bytes, refusal: OpenRefusal) -> Result<(), Memory> {
     match refusal {
         OpenRefusal::Damaged(kind, place) => {
-            put_line(out, "not opened damaged", &[kind_number(kind), place])
+            put_line(
+                out,
+                "not opened damaged",
+                &[u64::from(kind.number()), place],
+            )
         }
         OpenRefusal::Disk => put_line(out, "not opened disk", &[]),
         OpenRefusal::TooLong(len) => put_line(out, "not opened long", &[len]),

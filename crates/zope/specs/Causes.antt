@@ -2,7 +2,7 @@
 use Rattle.std.specs.Prelude.{◌≡◌, ◌⊎◌, ℕ, List, [], ◌∷◌, ◌++◌, Option, codes, decimal}
 use Rattle.std.specs.Io.KnownBytes.{append_known}
 use Rattle.zio.specs.Shelves.{Entry}
-use Rattle.fs_record.specs.declared.damage.Damage.{Damage}
+use Rattle.fs_record.specs.Damages.{kind_number}
 use Rattle.zope.specs.declared.refusal.Refusal.{Refusal}
 use Rattle.zope.specs.CheckCauses.{CheckCause}
 use Rattle.zope.specs.DumpCauses.{DumpCause, Dumped}
@@ -41,17 +41,6 @@ Cause words old new written e =
     ⊎ (((name : List ℕ) × IsCheckOf words name × CheckCause name old.files (SinkFailed old new) (DiskFailed old new) old.written written e)
     ⊎ (((name : List ℕ) × IsDumpOf words name × DumpCause name old.files (SinkFailed old new) (DiskFailed old new) old.written written e)
     ⊎ ((file : List ℕ) × (name : List ℕ) × (password : List ℕ) × IsInitOf words file name password × MakeCause file name password old.files (SinkFailed old new) (DiskFailed old new) old.written written e))))
-
--- the number of a damage
-abbrev pub kind_number : Damage → ℕ
-kind_number Damage.BadLength = 2
-kind_number Damage.BadTid = 3
-kind_number Damage.BadPrev = 4
-kind_number Damage.BadBack = 5
-kind_number Damage.BadStatus = 6
-kind_number Damage.BadTail = 7
-kind_number Damage.BadVersion = 8
-kind_number Damage.BadMagic = 9
 
 -- the last line, which names the cause
 abbrev pub last_line : List ℕ → Refusal → List ℕ

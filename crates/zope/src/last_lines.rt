@@ -2,31 +2,14 @@ ghost use Rattle.std.specs.Prelude.{◌≡◌, IsErrOf, MatchResult, OnOk, map, 
 ghost use Rattle.std.specs.Io.KnownBytes.{append_known};
 ghost use Rattle.zbase.specs.Faults.{Counts};
 ghost use Rattle.zio.specs.Sinks.{AppendsFront};
-ghost use Rattle.zope.specs.Causes.{Names, kind_number, last_line};
+ghost use Rattle.zope.specs.Causes.{Names, last_line};
 
 use crate::command::file_of;
 use crate::inputs::MAX_INPUT;
 use crate::refusal::Refusal;
-use fs_record::Damage;
 use std::alloc::Global;
 use words::{WordsRefusal, read_words};
 use zio::{OutsideRefusal, Sink};
-
-// The number of a damage.
-fn kind_number(kind: Damage) -> u8
-    ensures { result ≡ kind_number kind }
-{
-    match kind {
-        Damage::BadLength => 2,
-        Damage::BadTid => 3,
-        Damage::BadPrev => 4,
-        Damage::BadBack => 5,
-        Damage::BadStatus => 6,
-        Damage::BadTail => 7,
-        Damage::BadVersion => 8,
-        Damage::BadMagic => 9,
-    }
-}
 
 // Writes the last line that says why. The sink's own fault has none.
 fn put_last_line<K: Sink>(
@@ -42,7 +25,7 @@ fn put_last_line<K: Sink>(
         Refusal::Usage => out.write_all(b"usage\n"),
         Refusal::NotLegible => out.write_all(b"not legible\n"),
         Refusal::Damaged(kind, place) => {
-            let number = kind_number(kind);
+            let number = kind.number();
             put_text(format!(in alloc; "damaged {number} at {place}\n"), out)
         }
         Refusal::BadLine(line) => put_text(format!(in alloc; "bad line {line}\n"), out),

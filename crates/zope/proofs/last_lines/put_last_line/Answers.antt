@@ -3,7 +3,7 @@ use Rattle.zope.proofs.LastLines.{put_is}
 use Rattle.zope.proofs.last_lines.put_last_line.Goals as goal
 
 pub returns-in-Damaged-clause-ok : goal.returns-in-Damaged-clause-ok
-returns-in-Damaged-clause-ok g c = rw c.in-Damaged.is (put_is c.put_text.result c.format.result string_bytes _ _ _ c.put_text.ensures.ok (rw c.kind_number-number.ensures at c.format.ensures.ok))
+returns-in-Damaged-clause-ok g c = rw c.in-Damaged.is (put_is c.put_text.result c.format.result string_bytes _ _ _ c.put_text.ensures.ok (rw c.number-number.ensures at c.format.ensures.ok))
 
 pub returns-in-BadLine-clause-ok : goal.returns-in-BadLine-clause-ok
 returns-in-BadLine-clause-ok g c = rw c.in-BadLine.is (put_is c.put_text-in-BadLine.result c.format-in-BadLine.result string_bytes _ _ _ c.put_text-in-BadLine.ensures.ok c.format-in-BadLine.ensures.ok)
