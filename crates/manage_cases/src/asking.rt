@@ -3,7 +3,7 @@ ghost use Rattle.manage.specs.Changing.{KeepRules};
 
 use crate::telling::put_refusal;
 use acquisition::Wrapped;
-use cases::{CasesRefusal, Part};
+use cases::{CasesRefusal, Part, add_bytes, add_line, put_number, put_numbered, put_word};
 use evaluator::{Entry, Name};
 use form_fields::{Fields, fields};
 use http_in::{Message, Reader, Verb};
@@ -22,8 +22,7 @@ pub(crate) fn put_name(
         Some(call) => call_name(call),
         None => "none",
     };
-    parts.push(Part::new(alloc, 0, format!(in alloc; "call {name}")?.as_str())?)?;
-    Ok(())
+    add_line(alloc, parts, format!(in alloc; "call {name}")?.as_str())
 }
 
 // The call that a word of the part names.
@@ -72,11 +71,10 @@ pub(crate) fn put_need(
     let on = wrapper_of(alloc, known, part, Oid(part.number(3)?))?;
     let mut line = String::from_str(alloc, "permission")?;
     match permission_at(known, call, verb, &on) {
-        Ok(number) => line.push_str(format!(in alloc; " {number}")?.as_str())?,
+        Ok(number) => put_number(alloc, &mut line, u64::from(number))?,
         Err(refusal) => put_refusal(alloc, &mut line, refusal)?,
     }
-    parts.push(Part::new(alloc, 0, line.as_str())?)?;
-    Ok(())
+    add_line(alloc, parts, line.as_str())
 }
 
 // The message that posts a form.
@@ -101,37 +99,42 @@ fn fields_of(alloc: Global, part: &Part) -> Result<Fields, CasesRefusal> {
     }
 }
 
-// The record that an entry writes; what it writes besides is told too.
-fn written(alloc: Global, entry: Entry) -> Result<Part, CasesRefusal> {
+// A line of a word and a number.
+fn line_of(alloc: Global, word: &str, number: u64) -> Result<String, CasesRefusal> {
+    let mut line = String::from_str(alloc, word)?;
+    put_number(alloc, &mut line, number)?;
+    Ok(line)
+}
+
+// What an entry does, in words.
+fn words_of(alloc: Global, entry: &Entry) -> Result<String, CasesRefusal> {
     match entry {
         Entry::Write {
-            name: Name::Old(Oid(oid)),
-            bytes,
+            name: Name::Old(oid),
             holes,
+            ..
         } => {
-            let holes = holes.len();
-            let line = if holes == 0 {
-                format!(in alloc; "written {oid}")?
-            } else {
-                format!(in alloc; "written {oid} with {holes} holes")?
-            };
-            Ok(Part::with(alloc, line.as_str(), bytes)?)
+            let mut line = line_of(alloc, "written", oid.0)?;
+            if !holes.is_empty() {
+                put_numbered(alloc, &mut line, "with", holes.len() as u64)?;
+                put_word(&mut line, "holes")?;
+            }
+            Ok(line)
         }
         Entry::Write {
             name: Name::New(number),
-            bytes,
-            holes: _,
-        } => {
-            let line = format!(in alloc; "made {number}")?;
-            Ok(Part::with(alloc, line.as_str(), bytes)?)
-        }
-        Entry::Restore {
-            oid: Oid(oid),
-            to: _,
-        } => {
-            let line = format!(in alloc; "restored {oid}")?;
-            Ok(Part::new(alloc, 0, line.as_str())?)
-        }
+            ..
+        } => line_of(alloc, "made", u64::from(*number)),
+        Entry::Restore { oid, .. } => line_of(alloc, "restored", oid.0),
+    }
+}
+
+// Adds what an entry does, with the record that it writes.
+fn put_entry(alloc: Global, entry: &Entry, parts: &mut Vec<Part>) -> Result<(), CasesRefusal> {
+    let line = words_of(alloc, entry)?;
+    match entry {
+        Entry::Write { bytes, .. } => add_bytes(alloc, parts, line.as_str(), bytes.copy()?),
+        Entry::Restore { .. } => add_line(alloc, parts, line.as_str()),
     }
 }
 
@@ -142,17 +145,17 @@ fn put_answer(
 ) -> Result<(), CasesRefusal> {
     match answer {
         Ok(change) => {
-            for entry in change.entries.into_vec() {
-                parts.push(written(alloc, entry)?)?;
+            for entry in change.entries.as_slice() {
+                put_entry(alloc, entry, parts)?;
             }
+            Ok(())
         }
         Err(refusal) => {
             let mut line = String::from_str(alloc, "refused")?;
             put_refusal(alloc, &mut line, refusal)?;
-            parts.push(Part::new(alloc, 0, line.as_str())?)?;
+            add_line(alloc, parts, line.as_str())
         }
     }
-    Ok(())
 }
 
 /// Adds what a call changes by the form below.

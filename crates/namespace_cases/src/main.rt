@@ -3,7 +3,6 @@
 #![tactic(auto)]
 
 mod asking;
-mod building;
 mod running;
 mod showing;
 

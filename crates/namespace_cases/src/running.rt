@@ -1,24 +1,18 @@
-use crate::asking::{answer, change, stack_of};
-use crate::building::known_of;
-use cases::{Case, CasesRefusal, Part, Runner};
+use crate::asking::{answer, change};
+use case_sites::known_of;
+use case_stacks::stack_of;
+use cases::{Case, CasesRefusal, Part, Runner, add_line};
+use namespace::Stack;
 use std::alloc::Global;
+use zknown::Known;
 
 /// What names mean in a stack over a small site.
 ///
-/// `site` is what is known of it, an object a line, by its id and its parent's, both in decimal, and what further lines
-/// say of an object:
+/// `site` is what is known of it, as `case_sites` says; the stack is that of `user`, `client` and `message`, as
+/// `case_stacks` says. The other parts are done in their order:
 ///
-/// - `folder ID PARENT NAME=ID ..`, with its children; `method ID PARENT`, `document ID PARENT`, `users ID PARENT`;
-/// - `absent ID`, which has no value; `unreadable ID`, whose value is no record;
-/// - `id ID NAME`, `title ID WORD ..`; `property ID NAME line WORD ..`, `.. int NUMBER` or `.. lines WORD ..`;
-/// - `setting ID PERMISSION acquire ROLE ..` or `.. alone ROLE ..`; `local ID USER ROLE ..`.
-///
-/// The stack is that of `user NAME HOME ROLE ..` (without it, of nobody), over the client that is reached from the root
-/// through the objects of `client ID ..` (without it, the root) and the names of the request that `message` has (without
-/// it, none). The other parts are done in their order:
-///
-/// - `push ID ..` and `names NAME=TEXT ..` push a layer, `pop` takes the newest away, where there is one; `act ROLE ..`
-///   takes verdicts for someone with these roles from then on, `act` for the user again;
+/// - `push` and `names` push a layer, `pop` takes the newest away, where there is one; `act ROLE ..` takes verdicts for
+///   someone with these roles from then on, `act` for the user again;
 /// - `find NAME` gives `found`, `look NAME ID ..` gives `looked`: a value as `text TEXT`, `int NUMBER`, `object ID ..` with
 ///   its wrapper, or `seq` and values with `|` before each; or `none`;
 /// - `open ID` gives `opened` with the object's title, `view ID` gives `viewed yes`, `offer ID` gives `offered yes` or
@@ -37,17 +31,27 @@ impl Runner for NamespaceCases {
     fn run(&self, alloc: Global, case: &Case) -> Result<Vec<Part>, CasesRefusal> {
         let known = known_of(alloc, case)?;
         let mut stack = stack_of(alloc, &known, case)?;
-        let mut parts = Vec::new(alloc);
-        for part in &case.parts {
-            if is_change(part.key()) {
-                change(alloc, &known, &mut stack, part)?;
-            } else if is_question(part.key()) {
-                let line = answer(alloc, &known, &mut stack, part)?;
-                parts.push(Part::new(alloc, 0, line.as_str())?)?;
-            }
-        }
-        Ok(parts)
+        answers(alloc, &known, &mut stack, case)
     }
+}
+
+// What comes of a case's questions, between which its changes are made.
+fn answers(
+    alloc: Global,
+    known: &Known,
+    stack: &mut Stack<'_>,
+    case: &Case,
+) -> Result<Vec<Part>, CasesRefusal> {
+    let mut parts = Vec::new(alloc);
+    for part in &case.parts {
+        if is_change(part.key()) {
+            change(alloc, known, stack, part)?;
+        } else if is_question(part.key()) {
+            let line = answer(alloc, known, stack, part)?;
+            add_line(alloc, &mut parts, line.as_str())?;
+        }
+    }
+    Ok(parts)
 }
 
 fn is_given(key: &str) -> bool {

@@ -1,25 +1,6 @@
-use cases::CasesRefusal;
+use cases::{CasesRefusal, put_number, put_numbered, put_word};
 use namespace::{NameRefusal, Single, Val};
 use std::alloc::Global;
-use zbase::Oid;
-
-/// Adds a number to a line, a blank before it.
-pub(crate) fn put_number(
-    alloc: Global,
-    line: &mut String,
-    number: u64,
-) -> Result<(), CasesRefusal> {
-    let text = format!(in alloc; " {number}")?;
-    line.push_str(text.as_str())?;
-    Ok(())
-}
-
-/// Adds a word to a line, a blank before it.
-pub(crate) fn put_word(line: &mut String, word: &str) -> Result<(), CasesRefusal> {
-    line.push_str(" ")?;
-    line.push_str(word)?;
-    Ok(())
-}
 
 fn put_single(alloc: Global, line: &mut String, single: &Single) -> Result<(), CasesRefusal> {
     match single {
@@ -62,11 +43,6 @@ pub(crate) fn put_value(
     }
 }
 
-fn put_object(alloc: Global, line: &mut String, word: &str, oid: Oid) -> Result<(), CasesRefusal> {
-    put_word(line, word)?;
-    put_number(alloc, line, oid.0)
-}
-
 /// Adds why there is no value.
 pub(crate) fn put_refusal(
     alloc: Global,
@@ -75,10 +51,10 @@ pub(crate) fn put_refusal(
 ) -> Result<(), CasesRefusal> {
     match refusal {
         NameRefusal::Memory => Err(CasesRefusal::Memory),
-        NameRefusal::Need(oid) => put_object(alloc, line, "need", oid),
-        NameRefusal::Broken(oid) => put_object(alloc, line, "broken", oid),
+        NameRefusal::Need(oid) => put_numbered(alloc, line, "need", oid.0),
+        NameRefusal::Broken(oid) => put_numbered(alloc, line, "broken", oid.0),
         NameRefusal::Unauthorized(oid, permission) => {
-            put_object(alloc, line, "unauthorized", oid)?;
+            put_numbered(alloc, line, "unauthorized", oid.0)?;
             put_number(alloc, line, u64::from(permission))
         }
         NameRefusal::TooDeep => put_word(line, "deep"),

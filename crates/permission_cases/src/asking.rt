@@ -1,6 +1,6 @@
-use crate::reading::{permission_at, roles_from, who_of, word_at};
 use acquisition::{AqRefusal, containers, containers_are_here, here};
-use cases::{CasesRefusal, Part};
+use case_sites::{oid_in, permission_at, put_refusal, roles_in, texts_from, three, word_at};
+use cases::{CasesRefusal, Part, put_number, put_numbered, put_word};
 use permissions::{
     Verdict, Who, acting, allowed, find_user, roles_for, user_roles, verdict, verdict_on,
 };
@@ -9,17 +9,18 @@ use zbase::{Oid, Text};
 use zknown::Known;
 use zobject::Roles;
 
-// A word behind a blank.
-fn put_word(line: &mut String, word: &str) -> Result<(), CasesRefusal> {
-    line.push_str(" ")?;
-    line.push_str(word)?;
-    Ok(())
-}
-
-fn put_number(alloc: Global, line: &mut String, number: u64) -> Result<(), CasesRefusal> {
-    let text = format!(in alloc; " {number}")?;
-    line.push_str(text.as_str())?;
-    Ok(())
+// A user for verdicts: `anonymous`, or NAME:HOME:ROLE,ROLE.
+fn who_of(alloc: Global, part: &Part, word: &str) -> Result<Who, CasesRefusal> {
+    if word == "anonymous" {
+        return Ok(Who::Anonymous);
+    }
+    let (name, home, roles) = three(part, word)?;
+    let home = oid_in(part, home)?;
+    Ok(Who::Known {
+        name: Text::from_str(alloc, name)?,
+        roles: roles_in(alloc, roles)?,
+        home,
+    })
 }
 
 fn put_roles(line: &mut String, roles: &Roles) -> Result<(), CasesRefusal> {
@@ -29,22 +30,6 @@ fn put_roles(line: &mut String, roles: &Roles) -> Result<(), CasesRefusal> {
     Ok(())
 }
 
-// Why there is no answer.
-fn put_refusal(alloc: Global, line: &mut String, refusal: AqRefusal) -> Result<(), CasesRefusal> {
-    match refusal {
-        AqRefusal::Need(oid) => {
-            put_word(line, "need")?;
-            put_number(alloc, line, oid.0)
-        }
-        AqRefusal::Broken(oid) => {
-            put_word(line, "broken")?;
-            put_number(alloc, line, oid.0)
-        }
-        AqRefusal::TooDeep => put_word(line, "deep"),
-        AqRefusal::Memory => Err(CasesRefusal::Memory),
-    }
-}
-
 fn put_verdict(alloc: Global, line: &mut String, verdict: &Verdict) -> Result<(), CasesRefusal> {
     match verdict {
         Verdict::Granted(role) => {
@@ -52,8 +37,7 @@ fn put_verdict(alloc: Global, line: &mut String, verdict: &Verdict) -> Result<()
             put_word(line, role.as_str())
         }
         Verdict::Denied(permission) => {
-            put_word(line, "denied")?;
-            put_number(alloc, line, u64::from(*permission))
+            put_numbered(alloc, line, "denied", u64::from(*permission))
         }
     }
 }
@@ -165,7 +149,7 @@ pub(crate) fn put_judge(
     put_judged(alloc, line, judged_on(alloc, known, oid, &who, permission))
 }
 
-/// `source ID`.
+/// `acts ID`.
 pub(crate) fn put_acting(
     alloc: Global,
     known: &Known,
@@ -187,21 +171,12 @@ pub(crate) fn put_allowed(
     line: &mut String,
 ) -> Result<(), CasesRefusal> {
     line.push_str("place")?;
-    let given = roles_from(alloc, part, 2)?;
-    let mine = mine_of(alloc, part)?;
+    let given = texts_from(alloc, part, 2)?;
+    let mine = roles_in(alloc, word_at(part, 1)?)?;
     match allowed(&given, &mine) {
         Some(place) => put_number(alloc, line, place as u64),
         None => put_word(line, "none"),
     }
-}
-
-// The roles between the commas of the first word.
-fn mine_of(alloc: Global, part: &Part) -> Result<Roles, CasesRefusal> {
-    let mut roles = Roles::new(alloc);
-    for role in word_at(part, 1)?.split(',') {
-        roles.push(Text::from_str(alloc, role)?)?;
-    }
-    Ok(roles)
 }
 
 // The name and the password of a part, if it has them.

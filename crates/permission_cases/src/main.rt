@@ -3,8 +3,6 @@
 #![tactic(auto)]
 
 mod asking;
-mod knowing;
-mod reading;
 mod running;
 
 use cases::run_files;

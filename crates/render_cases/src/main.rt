@@ -2,7 +2,6 @@
 #![tactic(auto)]
 
 mod asking;
-mod building;
 mod running;
 mod showing;
 

@@ -1,26 +1,17 @@
-use crate::asking::{budget_of, page, stack_of, text_of};
-use crate::building::known_of;
-use crate::showing::{layers, left, listed, refused};
-use cases::{Case, CasesRefusal, Part, Runner};
+use crate::asking::{budget_of, page, text_of};
+use crate::showing::{left, listed, refused};
+use case_sites::known_of;
+use case_stacks::{push_layers, stack_of};
+use cases::{Case, CasesRefusal, Part, Runner, add_bytes, add_line, add_number};
 use dtml_render::{Budget, RenderRefusal};
 use namespace::Stack;
 use std::alloc::Global;
-use zbase::{Bytes, Items, Oid, Text};
+use zbase::{Bytes, Oid, Text};
 
 /// Pages over a small site.
 ///
-/// `site` is what is known of it, an object a line, by its id and its parent's, both in decimal, and what further lines
-/// say of an object:
-///
-/// - `folder ID PARENT NAME=ID ..`, with its children; `method ID PARENT`, `document ID PARENT`, `users ID PARENT`;
-/// - `absent ID`, which has no value; `unreadable ID`, whose value is no record;
-/// - `id ID NAME`, `title ID WORD ..`; `property ID NAME line WORD ..`, `.. int NUMBER` or `.. lines WORD ..`;
-/// - `setting ID PERMISSION acquire ROLE ..` or `.. alone ROLE ..`; `local ID USER ROLE ..`; `proxy ID ROLE ..`.
-///
-/// `source ID` has the source of a method or a document. The stack is that of `user NAME HOME ROLE ..` (without it, of
-/// nobody), over the client that is reached from the root through the objects of `client ID ..` (without it, the root)
-/// and the names of the request that `message` has (without it, none), with the layers of each `push ID ..` and
-/// `names NAME=TEXT ..`. `budget TAGS RENDERS OUTPUT` is what may be spent (without it, what a published object may).
+/// `site` is what is known of it, and `source ID` the source of an object, as `case_sites` says; the stack is that of
+/// `user`, `client` and `message`, with the layers of each `push` and `names`, as `case_stacks` says. `budget TAGS RENDERS OUTPUT` is what may be spent (without it, what a published object may).
 ///
 /// `page ID` renders that object as it is published, `template` a template that stands in no object. Of each comes
 /// `text` with the text, or `refused` with why there is none: `need ID`, `broken ID`, `unauthorized ID PERMISSION`,
@@ -36,19 +27,30 @@ impl Runner for RenderCases {
     }
 
     fn run(&self, alloc: Global, case: &Case) -> Result<Vec<Part>, CasesRefusal> {
+        let mut budget = budget_of(case)?;
         let known = known_of(alloc, case)?;
         let mut stack = stack_of(alloc, &known, case)?;
-        let mut budget = budget_of(case)?;
-        let mut parts = Vec::new(alloc);
-        for part in &case.parts {
-            if is_question(part.key()) {
-                let page = rendered(alloc, part, &mut stack, &mut budget)?;
-                put_answer(alloc, &mut parts, page)?;
-                put_state(alloc, &mut parts, &stack, &budget)?;
-            }
-        }
-        Ok(parts)
+        push_layers(alloc, &known, &mut stack, case)?;
+        answers(alloc, case, &mut stack, &mut budget)
     }
+}
+
+// What comes of a case's questions, in their order.
+fn answers(
+    alloc: Global,
+    case: &Case,
+    stack: &mut Stack<'_>,
+    budget: &mut Budget,
+) -> Result<Vec<Part>, CasesRefusal> {
+    let mut parts = Vec::new(alloc);
+    for part in &case.parts {
+        if is_question(part.key()) {
+            let page = rendered(alloc, part, stack, budget)?;
+            put_answer(alloc, &mut parts, page)?;
+            put_state(alloc, &mut parts, stack, budget)?;
+        }
+    }
+    Ok(parts)
 }
 
 fn rendered(
@@ -71,16 +73,11 @@ fn put_answer(
 ) -> Result<(), CasesRefusal> {
     match page {
         Ok(text) => {
-            let mut bytes: Bytes = Items::new(alloc);
-            bytes.append(text.as_bytes())?;
-            parts.push(Part::with(alloc, "text", bytes)?)?;
+            let bytes = Bytes::from_slice(alloc, text.as_bytes())?;
+            add_bytes(alloc, parts, "text", bytes)
         }
-        Err(refusal) => {
-            let line = refused(alloc, refusal)?;
-            parts.push(Part::new(alloc, 0, line.as_str())?)?;
-        }
+        Err(refusal) => add_line(alloc, parts, refused(alloc, refusal)?.as_str()),
     }
-    Ok(())
 }
 
 // What stands after it.
@@ -90,13 +87,9 @@ fn put_state(
     stack: &Stack<'_>,
     budget: &Budget,
 ) -> Result<(), CasesRefusal> {
-    let shown = listed(alloc, stack)?;
-    parts.push(Part::new(alloc, 0, shown.as_str())?)?;
-    let rest = left(alloc, budget)?;
-    parts.push(Part::new(alloc, 0, rest.as_str())?)?;
-    let depth = layers(alloc, stack)?;
-    parts.push(Part::new(alloc, 0, depth.as_str())?)?;
-    Ok(())
+    add_line(alloc, parts, listed(alloc, stack)?.as_str())?;
+    add_line(alloc, parts, left(alloc, budget)?.as_str())?;
+    add_number(alloc, parts, "layers", stack.depth() as u64)
 }
 
 fn is_given(key: &str) -> bool {

@@ -2,7 +2,6 @@
 //! its words name, and tells which are wrong.
 #![tactic(auto)]
 
-mod knowing;
 mod reaching;
 mod running;
 

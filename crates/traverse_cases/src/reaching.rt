@@ -1,44 +1,10 @@
-use crate::knowing::number;
 use acquisition::{AqRefusal, Wrapped, containers};
-use cases::{CasesRefusal, Part};
+use case_sites::{put_objects, put_refusal, reached};
+use cases::{CasesRefusal, Part, put_word};
 use std::alloc::Global;
 use traverse::{Target, TravRefusal, publish};
 use zbase::{Items, Oid, Text, Texts};
 use zknown::Known;
-
-// Adds objects to a line, a blank before each.
-fn put_objects(alloc: Global, line: &mut String, oids: &[Oid]) -> Result<(), CasesRefusal> {
-    for oid in oids {
-        put_number(alloc, line, oid.0)?;
-    }
-    Ok(())
-}
-
-fn put_number(alloc: Global, line: &mut String, number: u64) -> Result<(), CasesRefusal> {
-    let text = format!(in alloc; " {number}")?;
-    line.push_str(text.as_str())?;
-    Ok(())
-}
-
-fn put_word_and_number(
-    alloc: Global,
-    line: &mut String,
-    word: &str,
-    oid: Oid,
-) -> Result<(), CasesRefusal> {
-    line.push_str(word)?;
-    put_number(alloc, line, oid.0)
-}
-
-// Why there are no objects.
-fn put_refusal(alloc: Global, line: &mut String, refusal: AqRefusal) -> Result<(), CasesRefusal> {
-    match refusal {
-        AqRefusal::Need(oid) => put_word_and_number(alloc, line, " need", oid),
-        AqRefusal::Broken(oid) => put_word_and_number(alloc, line, " broken", oid),
-        AqRefusal::TooDeep => Ok(line.push_str(" deep")?),
-        AqRefusal::Memory => Err(CasesRefusal::Memory),
-    }
-}
 
 /// What holds the object of the part.
 pub(crate) fn put_containers(
@@ -53,23 +19,6 @@ pub(crate) fn put_containers(
         Ok(path) => put_objects(alloc, line, path.as_slice()),
         Err(refusal) => put_refusal(alloc, line, refusal),
     }
-}
-
-// The wrapper of the objects that the words from that one on name, from the root on.
-fn reached(
-    alloc: Global,
-    known: &Known,
-    part: &Part,
-    from: usize,
-) -> Result<Result<Wrapped, AqRefusal>, CasesRefusal> {
-    let mut wrapper = Wrapped::root(alloc)?;
-    for word in part.words.iter().skip(from) {
-        match wrapper.reach(known, number(part, word.as_str())?) {
-            Ok(next) => wrapper = next,
-            Err(refusal) => return Ok(Err(refusal)),
-        }
-    }
-    Ok(Ok(wrapper))
 }
 
 /// The wrapper of the objects of the part.
@@ -94,7 +43,7 @@ fn put_find(
 ) -> Result<(), CasesRefusal> {
     match found {
         Ok(Some(wrapper)) => put_objects(alloc, line, wrapper.order()),
-        Ok(None) => Ok(line.push_str(" none")?),
+        Ok(None) => put_word(line, "none"),
         Err(refusal) => put_refusal(alloc, line, refusal),
     }
 }
@@ -144,8 +93,8 @@ fn put_target(alloc: Global, line: &mut String, target: Target) -> Result<(), Ca
     match target {
         Target::Page { object, client } => put_page(alloc, line, object.order(), client.order()),
         Target::Call { name, on } => {
-            line.push_str(" call ")?;
-            line.push_str(name.as_str())?;
+            put_word(line, "call")?;
+            put_word(line, name.as_str())?;
             put_objects(alloc, line, on.order())
         }
     }
@@ -157,21 +106,21 @@ fn put_page(
     object: &[Oid],
     client: &[Oid],
 ) -> Result<(), CasesRefusal> {
-    line.push_str(" page")?;
+    put_word(line, "page")?;
     put_objects(alloc, line, object)?;
-    line.push_str(" client")?;
+    put_word(line, "client")?;
     put_objects(alloc, line, client)
 }
 
 fn put_nowhere(alloc: Global, line: &mut String, refusal: TravRefusal) -> Result<(), CasesRefusal> {
     match refusal {
-        TravRefusal::Need(oid) => put_word_and_number(alloc, line, " need", oid),
-        TravRefusal::Broken(oid) => put_word_and_number(alloc, line, " broken", oid),
         TravRefusal::NotFound(segment) => {
-            line.push_str(" missing ")?;
-            Ok(line.push_str(segment.as_str())?)
+            put_word(line, "missing")?;
+            put_word(line, segment.as_str())
         }
-        TravRefusal::TooDeep => Ok(line.push_str(" deep")?),
+        TravRefusal::Need(oid) => put_refusal(alloc, line, AqRefusal::Need(oid)),
+        TravRefusal::Broken(oid) => put_refusal(alloc, line, AqRefusal::Broken(oid)),
+        TravRefusal::TooDeep => put_refusal(alloc, line, AqRefusal::TooDeep),
         TravRefusal::Memory => Err(CasesRefusal::Memory),
     }
 }
