@@ -3,12 +3,12 @@ use crate::page::Page;
 use crate::shapes::marks_of;
 use crate::sources::{put_parts, put_refusal};
 use crate::templates::put_tree;
-use cases::{Case, CasesRefusal, Part, Runner};
+use cases::{Case, CasesRefusal, Part, Runner, add_bytes, add_line, add_number};
 use dtml_expr::parse_expr;
 use dtml_format::shape;
 use dtml_parse::parse;
 use std::alloc::Global;
-use zbase::Bytes;
+use zbase::{Bytes, Text};
 
 /// Readings of DTML, and texts that are shaped. Given are `source WORD` with its bytes, any number of them, and `from N`, which is 0 where it isn't
 /// there. The word says what the bytes are:
@@ -123,6 +123,19 @@ fn text_of(part: &Part) -> Result<&str, CasesRefusal> {
     }
 }
 
+// Adds a page, and how many lines and steps it has.
+fn add_page(
+    alloc: Global,
+    parts: &mut Vec<Part>,
+    key: &str,
+    page: &Page,
+) -> Result<(), CasesRefusal> {
+    let text = Bytes::from_slice(alloc, page.text()?.as_bytes())?;
+    add_bytes(alloc, parts, key, text)?;
+    add_number(alloc, parts, "lines", page.lines)?;
+    add_number(alloc, parts, "deepest", page.deepest)
+}
+
 // Adds the parts that come of a source.
 fn take_source(
     alloc: Global,
@@ -132,18 +145,27 @@ fn take_source(
 ) -> Result<(), CasesRefusal> {
     let mut page = Page::new(alloc);
     match put_reading(alloc, &mut page, part, text_of(part)?, from)? {
-        Some(key) => {
-            let Page { lines, deepest, .. } = &page;
-            let lines = format!(in alloc; "lines {lines}")?;
-            let deepest = format!(in alloc; "deepest {deepest}")?;
-            let bytes = Bytes::from_slice(alloc, page.text()?.as_bytes())?;
-            parts.push(Part::with(alloc, key, bytes)?)?;
-            parts.push(Part::new(alloc, 0, lines.as_str())?)?;
-            parts.push(Part::new(alloc, 0, deepest.as_str())?)?;
-        }
-        None => parts.push(Part::new(alloc, 0, page.text()?)?)?,
+        Some(key) => add_page(alloc, parts, key, &page),
+        None => add_line(alloc, parts, page.text()?),
     }
-    Ok(())
+}
+
+// Adds a row of a part, with what came of its source.
+fn put_row(
+    alloc: Global,
+    out: &mut Bytes,
+    part: &Part,
+    row: &str,
+    from: usize,
+) -> Result<(), CasesRefusal> {
+    let Some((source, _)) = row.split_once(" => ") else {
+        return Err(CasesRefusal::BadPart(part.line));
+    };
+    let mut page = Page::new(alloc);
+    put_reading(alloc, &mut page, part, source, from)?;
+    out.append(source.as_bytes())?;
+    out.append(b" => ".as_slice())?;
+    Ok(out.append(page.text()?.as_bytes())?)
 }
 
 // Adds the rows of a part, with what came of their sources.
@@ -155,18 +177,20 @@ fn take_rows(
 ) -> Result<(), CasesRefusal> {
     let mut bytes = Bytes::new(alloc);
     for row in text_of(part)?.lines() {
-        let Some((source, _)) = row.split_once(" => ") else {
-            return Err(CasesRefusal::BadPart(part.line));
-        };
-        let mut page = Page::new(alloc);
-        put_reading(alloc, &mut page, part, source, from)?;
-        bytes.append(source.as_bytes())?;
-        bytes.append(b" => ".as_slice())?;
-        bytes.append(page.text()?.as_bytes())?;
+        put_row(alloc, &mut bytes, part, row, from)?;
     }
     let words = format!(in alloc; "rows {}", part.word(1).unwrap_or(""))?;
-    parts.push(Part::with(alloc, words.as_str(), bytes)?)?;
-    Ok(())
+    add_bytes(alloc, parts, words.as_str(), bytes)
+}
+
+// The text of a part, shaped by its marks.
+fn shaped(alloc: Global, case: &Case, part: &Part) -> Result<Text, CasesRefusal> {
+    let etc = match case.part("etc") {
+        Some(etc) => text_of(etc)?,
+        None => "",
+    };
+    let marks = marks_of(alloc, part, etc)?;
+    Ok(shape(alloc, text_of(part)?, &marks)?)
 }
 
 // Adds the text of a part, shaped by its marks.
@@ -176,15 +200,9 @@ fn take_shape(
     case: &Case,
     part: &Part,
 ) -> Result<(), CasesRefusal> {
-    let etc = match case.part("etc") {
-        Some(etc) => text_of(etc)?,
-        None => "",
-    };
-    let marks = marks_of(alloc, part, etc)?;
-    let shaped = shape(alloc, text_of(part)?, &marks)?;
-    let bytes = Bytes::from_slice(alloc, shaped.as_bytes())?;
-    parts.push(Part::with(alloc, "shaped", bytes)?)?;
-    Ok(())
+    let text = shaped(alloc, case, part)?;
+    let bytes = Bytes::from_slice(alloc, text.as_bytes())?;
+    add_bytes(alloc, parts, "shaped", bytes)
 }
 
 impl Runner for Readings {

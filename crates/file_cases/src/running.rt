@@ -1,7 +1,7 @@
 use crate::telling::{
     check_words, head_words, put_rows, put_step, put_value, refusal_words, scan_words,
 };
-use cases::{Case, CasesRefusal, Part, Runner};
+use cases::{Case, CasesRefusal, Part, Runner, add_bytes, add_line, add_number, put_word};
 use fs_record::DataHead;
 use fs_scan::{
     Checked, ScanRefusal, Scanned, Walk, check, follow_from, read_head, scan, scan_bytes,
@@ -42,28 +42,15 @@ fn disk_of(alloc: Global, case: &Case) -> Result<MemoryDisk, CasesRefusal> {
 }
 
 // Adds a part of this key and these words.
-fn put_part(
+fn add_words(
     alloc: Global,
     parts: &mut Vec<Part>,
     key: &str,
     words: &str,
-    bytes: Bytes,
 ) -> Result<(), CasesRefusal> {
-    let text = format!(in alloc; "{key} {words}")?;
-    parts.push(Part::with(alloc, text.as_str(), bytes)?)?;
-    Ok(())
-}
-
-// Adds how many calls the disk has had.
-fn put_calls(
-    alloc: Global,
-    parts: &mut Vec<Part>,
-    key: &str,
-    disk: &MemoryDisk,
-) -> Result<(), CasesRefusal> {
-    let calls = disk.calls();
-    let words = format!(in alloc; "{calls}")?;
-    put_part(alloc, parts, key, words.as_str(), Bytes::new(alloc))
+    let mut line = String::from_str(alloc, key)?;
+    put_word(&mut line, words)?;
+    add_line(alloc, parts, line.as_str())
 }
 
 // Adds what a scan says.
@@ -77,46 +64,63 @@ fn put_scan(
         Ok(scanned) => scan_words(alloc, scanned)?,
         Err(refusal) => refusal_words(alloc, *refusal)?,
     };
-    put_part(alloc, parts, key, words.as_str(), Bytes::new(alloc))
+    add_words(alloc, parts, key, words.as_str())
+}
+
+// Adds where the last records stand, if a scan found that.
+fn put_places(
+    alloc: Global,
+    parts: &mut Vec<Part>,
+    found: &Result<Scanned, ScanRefusal>,
+) -> Result<(), CasesRefusal> {
+    let Ok(scanned) = found else {
+        return Ok(());
+    };
+    let mut rows = Bytes::new(alloc);
+    put_rows(alloc, &mut rows, scanned.rows.as_slice())?;
+    add_bytes(alloc, parts, "rows", rows)
+}
+
+// What a scan of the case's disk says, and how many calls it made.
+fn scanned(
+    alloc: Global,
+    case: &Case,
+) -> Result<(Result<Scanned, ScanRefusal>, u64), CasesRefusal> {
+    let mut disk = disk_of(alloc, case)?;
+    let found = scan(alloc, &mut disk);
+    Ok((found, disk.calls()))
 }
 
 // Scans the file, on a disk and without one.
 fn run_scan(alloc: Global, case: &Case, parts: &mut Vec<Part>) -> Result<(), CasesRefusal> {
-    let mut disk = disk_of(alloc, case)?;
-    let found = scan(alloc, &mut disk);
+    let (found, calls) = scanned(alloc, case)?;
     put_scan(alloc, parts, "scan", &found)?;
-    if let Ok(scanned) = &found {
-        let mut rows = Bytes::new(alloc);
-        put_rows(alloc, &mut rows, scanned.rows.as_slice())?;
-        put_part(alloc, parts, "rows", "", rows)?;
-    }
-    put_calls(alloc, parts, "scan_calls", &disk)?;
+    put_places(alloc, parts, &found)?;
+    add_number(alloc, parts, "scan_calls", calls)?;
     let bytes = case.bytes(alloc, "file")?;
-    put_scan(
-        alloc,
-        parts,
-        "scan_bytes",
-        &scan_bytes(alloc, bytes.as_slice()),
-    )
+    let without = scan_bytes(alloc, bytes.as_slice());
+    put_scan(alloc, parts, "scan_bytes", &without)
 }
 
-// What a check says.
-fn checked_words(
+// What a check of the case's disk says, and how many calls it made.
+fn checked(
     alloc: Global,
-    found: Result<Checked, ScanRefusal>,
-) -> Result<String, CasesRefusal> {
-    match found {
-        Ok(checked) => check_words(alloc, &checked),
-        Err(refusal) => refusal_words(alloc, refusal),
-    }
+    case: &Case,
+) -> Result<(Result<Checked, ScanRefusal>, u64), CasesRefusal> {
+    let mut disk = disk_of(alloc, case)?;
+    let found = check(alloc, &mut disk);
+    Ok((found, disk.calls()))
 }
 
 // Checks the file.
 fn run_check(alloc: Global, case: &Case, parts: &mut Vec<Part>) -> Result<(), CasesRefusal> {
-    let mut disk = disk_of(alloc, case)?;
-    let words = checked_words(alloc, check(alloc, &mut disk))?;
-    put_part(alloc, parts, "check", words.as_str(), Bytes::new(alloc))?;
-    put_calls(alloc, parts, "check_calls", &disk)
+    let (found, calls) = checked(alloc, case)?;
+    let words = match found {
+        Ok(checked) => check_words(alloc, &checked)?,
+        Err(refusal) => refusal_words(alloc, refusal)?,
+    };
+    add_words(alloc, parts, "check", words.as_str())?;
+    add_number(alloc, parts, "check_calls", calls)
 }
 
 // The lines of a walk over the disk's file.
@@ -135,8 +139,8 @@ fn walked<D: Disk>(alloc: Global, disk: &mut D) -> Result<Bytes, CasesRefusal> {
 fn run_walk(alloc: Global, case: &Case, parts: &mut Vec<Part>) -> Result<(), CasesRefusal> {
     let mut disk = disk_of(alloc, case)?;
     let lines = walked(alloc, &mut disk)?;
-    put_part(alloc, parts, "walk", "", lines)?;
-    put_calls(alloc, parts, "walk_calls", &disk)
+    add_bytes(alloc, parts, "walk", lines)?;
+    add_number(alloc, parts, "walk_calls", disk.calls())
 }
 
 // The head and the meaning of the data record at a place.
@@ -168,9 +172,9 @@ fn put_found(
         Ok(None) => String::from_str(alloc, "none")?,
         Err(refusal) => refusal_words(alloc, refusal)?,
     };
-    put_part(alloc, parts, "head", words.as_str(), Bytes::new(alloc))?;
+    add_words(alloc, parts, "head", words.as_str())?;
     let value = str::from_utf8(value.as_slice()).unwrap_or("");
-    put_part(alloc, parts, "value", value, Bytes::new(alloc))
+    add_words(alloc, parts, "value", value)
 }
 
 // Reads the data record at the place of the case, if it has one.
@@ -181,7 +185,7 @@ fn run_at(alloc: Global, case: &Case, parts: &mut Vec<Part>) -> Result<(), Cases
     let mut disk = disk_of(alloc, case)?;
     let found = read_at(alloc, &mut disk, case.number("at", 0)?);
     put_found(alloc, parts, found)?;
-    put_calls(alloc, parts, "at_calls", &disk)
+    add_number(alloc, parts, "at_calls", disk.calls())
 }
 
 impl Runner for FileRuns {

@@ -1,5 +1,5 @@
-use cases::{CasesRefusal, Part};
-use form_fields::{Field, FieldRefusal, FieldValue, Scalar, cookies, fields};
+use cases::{CasesRefusal, Part, add_bytes};
+use form_fields::{Field, FieldRefusal, FieldValue, Fields, Scalar, cookies, fields};
 use http_in::{Message, Reader, Request};
 use std::alloc::Global;
 use zbase::{Bytes, Memory};
@@ -57,27 +57,32 @@ fn request_of(alloc: Global, part: &Part) -> Result<Request, CasesRefusal> {
     }
 }
 
+// The fields of the request that a part has.
+fn fields_of(alloc: Global, part: &Part) -> Result<Result<Fields, FieldRefusal>, CasesRefusal> {
+    let request = request_of(alloc, part)?;
+    Ok(fields(alloc, &request))
+}
+
 /// Adds the fields of the request that a part has.
 pub fn put_fields(alloc: Global, part: &Part, parts: &mut Vec<Part>) -> Result<(), CasesRefusal> {
-    let request = request_of(alloc, part)?;
-    match fields(alloc, &request) {
-        Ok(all) => {
-            let lines = lines_of(alloc, all.as_slice())?;
-            parts.push(Part::with(alloc, "fields", lines)?)?;
-        }
+    match fields_of(alloc, part)? {
+        Ok(all) => add_bytes(alloc, parts, "fields", lines_of(alloc, all.as_slice())?),
         Err(FieldRefusal::NotANumber(name)) => {
             let name = Bytes::from_slice(alloc, name.as_bytes())?;
-            parts.push(Part::with(alloc, "no-number", name)?)?;
+            add_bytes(alloc, parts, "no-number", name)
         }
-        Err(FieldRefusal::Memory) => return Err(CasesRefusal::Memory),
+        Err(FieldRefusal::Memory) => Err(CasesRefusal::Memory),
     }
-    Ok(())
+}
+
+// The cookies of the request that a part has.
+fn cookies_of(alloc: Global, part: &Part) -> Result<Fields, CasesRefusal> {
+    let request = request_of(alloc, part)?;
+    Ok(cookies(alloc, &request)?)
 }
 
 /// Adds the cookies of the request that a part has.
 pub fn put_cookies(alloc: Global, part: &Part, parts: &mut Vec<Part>) -> Result<(), CasesRefusal> {
-    let request = request_of(alloc, part)?;
-    let lines = lines_of(alloc, cookies(alloc, &request)?.as_slice())?;
-    parts.push(Part::with(alloc, "cookies", lines)?)?;
-    Ok(())
+    let all = cookies_of(alloc, part)?;
+    add_bytes(alloc, parts, "cookies", lines_of(alloc, all.as_slice())?)
 }

@@ -1,5 +1,5 @@
 use crate::showing::put_message;
-use cases::{Case, CasesRefusal, Part};
+use cases::{Case, CasesRefusal, Part, add_bytes, add_line, add_number};
 use http_in::{Reader, take_message};
 use std::alloc::Global;
 use zbase::{Bytes, Memory};
@@ -86,9 +86,16 @@ pub fn put_stream(alloc: Global, part: &Part, parts: &mut Vec<Part>) -> Result<(
     let stream = part.bytes.as_slice();
     let reading = read_by(alloc, stream, stream.len())?;
     let rest = stream.len().saturating_sub(reading.at);
-    parts.push(Part::with(alloc, "messages", reading.lines)?)?;
-    parts.push(Part::new(alloc, 0, format!(in alloc; "rest {rest}")?.as_str())?)?;
-    Ok(())
+    add_bytes(alloc, parts, "messages", reading.lines)?;
+    add_number(alloc, parts, "rest", rest as u64)
+}
+
+// The bytes of the case's stream.
+fn stream_of(case: &Case) -> Result<&[u8], CasesRefusal> {
+    match case.part("stream") {
+        Some(source) => Ok(source.bytes.as_slice()),
+        None => Err(CasesRefusal::Missing),
+    }
 }
 
 /// Adds how many bytes the reader held at most, in pieces of the size that a part says.
@@ -98,28 +105,27 @@ pub fn put_held(
     part: &Part,
     parts: &mut Vec<Part>,
 ) -> Result<(), CasesRefusal> {
-    let Some(source) = case.part("stream") else {
-        return Err(CasesRefusal::Missing);
-    };
     let size = usize::try_from(part.number(1)?).unwrap_or(usize::MAX);
-    let most = read_by(alloc, source.bytes.as_slice(), size)?.most;
-    parts.push(Part::new(alloc, 0, format!(in alloc; "held {most}")?.as_str())?)?;
-    Ok(())
+    let most = read_by(alloc, stream_of(case)?, size)?.most;
+    add_number(alloc, parts, "held", most as u64)
+}
+
+// The lines of the one message that bytes are; none where they are no message.
+fn lines_of(alloc: Global, bytes: &[u8]) -> Result<Option<Bytes>, Memory> {
+    let Some(message) = take_message(alloc, bytes)? else {
+        return Ok(None);
+    };
+    let mut lines = Bytes::new(alloc);
+    put_message(alloc, &mut lines, &message, bytes.len(), "")?;
+    Ok(Some(lines))
 }
 
 /// Adds the lines of the one message that the part's bytes are.
 pub fn put_taken(alloc: Global, part: &Part, parts: &mut Vec<Part>) -> Result<(), CasesRefusal> {
-    let bytes = part.bytes.as_slice();
-    let taken = match take_message(alloc, bytes)? {
-        Some(message) => {
-            let mut lines = Bytes::new(alloc);
-            put_message(alloc, &mut lines, &message, bytes.len(), "")?;
-            Part::with(alloc, "taken", lines)?
-        }
-        None => Part::new(alloc, 0, "taken none")?,
-    };
-    parts.push(taken)?;
-    Ok(())
+    match lines_of(alloc, part.bytes.as_slice())? {
+        Some(lines) => add_bytes(alloc, parts, "taken", lines),
+        None => add_line(alloc, parts, "taken none"),
+    }
 }
 
 // Whether a stream gives the same in two pieces, wherever they part.
@@ -147,6 +153,21 @@ fn is_same_by(
     Ok(is_same(&read_by(alloc, stream, size)?, whole))
 }
 
+// The first word of a part in whose pieces a stream gives something else.
+fn other_cut<'a>(
+    alloc: Global,
+    stream: &[u8],
+    part: &'a Part,
+) -> Result<Option<&'a str>, CasesRefusal> {
+    let whole = read_by(alloc, stream, stream.len())?;
+    for (number, word) in part.words.iter().enumerate().skip(1) {
+        if !is_same_by(alloc, stream, &whole, part, number)? {
+            return Ok(Some(word.as_str()));
+        }
+    }
+    Ok(None)
+}
+
 /// Adds whether the case's stream gives the same in all the pieces that a part says.
 pub fn put_cuts(
     alloc: Global,
@@ -154,18 +175,12 @@ pub fn put_cuts(
     part: &Part,
     parts: &mut Vec<Part>,
 ) -> Result<(), CasesRefusal> {
-    let Some(source) = case.part("stream") else {
-        return Err(CasesRefusal::Missing);
-    };
-    let stream = source.bytes.as_slice();
-    let whole = read_by(alloc, stream, stream.len())?;
-    for (number, word) in part.words.iter().enumerate().skip(1) {
-        if !is_same_by(alloc, stream, &whole, part, number)? {
-            let word = word.as_str();
-            parts.push(Part::new(alloc, 0, format!(in alloc; "cuts other {word}")?.as_str())?)?;
-            return Ok(());
-        }
+    match other_cut(alloc, stream_of(case)?, part)? {
+        None => add_line(alloc, parts, "cuts same"),
+        Some(word) => add_line(
+            alloc,
+            parts,
+            format!(in alloc; "cuts other {word}")?.as_str(),
+        ),
     }
-    parts.push(Part::new(alloc, 0, "cuts same")?)?;
-    Ok(())
 }

@@ -1,4 +1,4 @@
-use cases::{Case, CasesRefusal, Part};
+use cases::{Case, CasesRefusal, Part, add_bytes, add_line};
 use std::alloc::Global;
 use user_folder::{HeaderRefusal, authenticate, credentials, keep};
 use zbase::{Bytes, Memory, Text};
@@ -35,21 +35,23 @@ pub fn put_credentials(
     match credentials(alloc, header) {
         Ok(Some((name, password))) => {
             let line = pair_line(alloc, &name, &password)?;
-            parts.push(Part::with(alloc, "credentials", line)?)?;
+            add_bytes(alloc, parts, "credentials", line)
         }
-        Ok(None) => parts.push(Part::new(alloc, 0, "credentials none")?)?,
-        Err(HeaderRefusal::BadHeader) => parts.push(Part::new(alloc, 0, "credentials bad")?)?,
-        Err(HeaderRefusal::Memory) => return Err(CasesRefusal::Memory),
+        Ok(None) => add_line(alloc, parts, "credentials none"),
+        Err(HeaderRefusal::BadHeader) => add_line(alloc, parts, "credentials bad"),
+        Err(HeaderRefusal::Memory) => Err(CasesRefusal::Memory),
     }
-    Ok(())
 }
 
 /// Adds what is kept of the password that a part has.
 pub fn put_kept(alloc: Global, part: &Part, parts: &mut Vec<Part>) -> Result<(), CasesRefusal> {
     let kept = keep(alloc, text_of(part)?)?;
-    let kept = Bytes::from_slice(alloc, kept.as_bytes())?;
-    parts.push(Part::with(alloc, "kept", kept)?)?;
-    Ok(())
+    add_bytes(
+        alloc,
+        parts,
+        "kept",
+        Bytes::from_slice(alloc, kept.as_bytes())?,
+    )
 }
 
 // The users that the case's parts have: a name, and below it what is kept of the password.
@@ -70,6 +72,16 @@ fn users_of(alloc: Global, case: &Case) -> Result<Users, CasesRefusal> {
     Ok(users)
 }
 
+// The line of the user of the case whose name and password a part has.
+fn found_line(alloc: Global, case: &Case, part: &Part) -> Result<Option<Bytes>, CasesRefusal> {
+    let users = users_of(alloc, case)?;
+    let name = part.word(1).unwrap_or("");
+    match authenticate(alloc, &users, name, text_of(part)?)? {
+        Some(user) => Ok(Some(pair_line(alloc, &user.name, &user.password)?)),
+        None => Ok(None),
+    }
+}
+
 /// Adds the user of the case whose name and password a part has.
 pub fn put_found(
     alloc: Global,
@@ -77,14 +89,8 @@ pub fn put_found(
     part: &Part,
     parts: &mut Vec<Part>,
 ) -> Result<(), CasesRefusal> {
-    let users = users_of(alloc, case)?;
-    let name = part.word(1).unwrap_or("");
-    match authenticate(alloc, &users, name, text_of(part)?)? {
-        Some(user) => {
-            let line = pair_line(alloc, &user.name, &user.password)?;
-            parts.push(Part::with(alloc, "found", line)?)?;
-        }
-        None => parts.push(Part::new(alloc, 0, "found none")?)?,
+    match found_line(alloc, case, part)? {
+        Some(line) => add_bytes(alloc, parts, "found", line),
+        None => add_line(alloc, parts, "found none"),
     }
-    Ok(())
 }

@@ -1,45 +1,57 @@
 use crate::showing::shown;
-use cases::{CasesRefusal, Part};
+use cases::{CasesRefusal, Part, add_bytes, add_number};
 use std::alloc::Global;
 use zbase::{Bytes, Memory, hex_digits};
 use zcodec::{decode, encode, records_are_exact};
-use zobject::{CodecRefusal, Object};
+use zobject::CodecRefusal;
 
-// The object of a record with its record of the second version, or the place where the bytes are none.
-fn read(alloc: Global, bytes: &[u8]) -> Result<Result<(Object, Bytes), usize>, Memory> {
+// The record of the second version of the object that a record has, or the place where the bytes are none.
+fn again_of(alloc: Global, bytes: &[u8]) -> Result<Result<Bytes, usize>, Memory> {
     records_are_exact();
     match decode(alloc, bytes) {
-        Ok(object) => {
-            let again = encode(alloc, &object)?;
-            Ok(Ok((object, again)))
-        }
+        Ok(object) => Ok(Ok(encode(alloc, &object)?)),
         Err(CodecRefusal::BadRecord(at)) => Ok(Err(at)),
+        Err(CodecRefusal::Memory) => Err(Memory),
+    }
+}
+
+// The fields of the object that a record has; none where the bytes are no record.
+fn fields_of(alloc: Global, bytes: &[u8]) -> Result<Bytes, Memory> {
+    match decode(alloc, bytes) {
+        Ok(object) => shown(alloc, &object),
+        Err(CodecRefusal::BadRecord(_)) => Ok(Bytes::new(alloc)),
         Err(CodecRefusal::Memory) => Err(Memory),
     }
 }
 
 /// Adds what comes of reading a record.
 pub fn put_record(alloc: Global, part: &Part, parts: &mut Vec<Part>) -> Result<(), CasesRefusal> {
-    match read(alloc, part.bytes.as_slice())? {
-        Ok((object, again)) => {
-            parts.push(Part::with(alloc, "object", shown(alloc, &object)?)?)?;
-            parts.push(Part::with(alloc, "again", again)?)?;
+    let bytes = part.bytes.as_slice();
+    match again_of(alloc, bytes)? {
+        Ok(again) => {
+            add_bytes(alloc, parts, "object", fields_of(alloc, bytes)?)?;
+            add_bytes(alloc, parts, "again", again)
         }
-        Err(at) => parts.push(Part::new(alloc, 0, format!(in alloc; "bad {at}")?.as_str())?)?,
+        Err(at) => add_number(alloc, parts, "bad", at as u64),
+    }
+}
+
+// Adds the record that comes again: a word where it is the one that was read.
+fn put_again(out: &mut Bytes, again: &[u8], bytes: &[u8]) -> Result<(), Memory> {
+    if again == bytes {
+        return out.append(b"same");
+    }
+    out.push(b'=')?;
+    for byte in again {
+        out.append(hex_digits(*byte).as_slice())?;
     }
     Ok(())
 }
 
 // Adds a line of what comes of reading a record.
 fn put_line(alloc: Global, out: &mut Bytes, bytes: &[u8]) -> Result<(), Memory> {
-    match read(alloc, bytes)? {
-        Ok((_object, again)) if again.as_slice() == bytes => out.append(b"same")?,
-        Ok((_object, again)) => {
-            out.push(b'=')?;
-            for byte in again.as_slice() {
-                out.append(hex_digits(*byte).as_slice())?;
-            }
-        }
+    match again_of(alloc, bytes)? {
+        Ok(again) => put_again(out, again.as_slice(), bytes)?,
         Err(at) => out.append(format!(in alloc; "{at}")?.as_bytes())?,
     }
     out.push(b'\n')

@@ -1,5 +1,5 @@
 use crate::records::{put_cuts, put_flips, put_record};
-use cases::{Case, CasesRefusal, Part, Runner};
+use cases::{Case, CasesRefusal, Part, Runner, add_bytes};
 use std::alloc::Global;
 
 /// Records of objects.
@@ -25,8 +25,8 @@ impl Runner for ObjectCases {
         for part in &case.parts {
             match part.key() {
                 "record" => put_record(alloc, part, &mut parts)?,
-                "cut" => parts.push(Part::with(alloc, "places", put_cuts(alloc, part)?)?)?,
-                "flip" => parts.push(Part::with(alloc, "flipped", put_flips(alloc, part)?)?)?,
+                "cut" => add_bytes(alloc, &mut parts, "places", put_cuts(alloc, part)?)?,
+                "flip" => add_bytes(alloc, &mut parts, "flipped", put_flips(alloc, part)?)?,
                 _ => {}
             }
         }

@@ -118,16 +118,26 @@ fn put_kind(alloc: Global, out: &mut Bytes, part: &Part2) -> Result<(), Memory> 
     }
 }
 
+// Adds the fields that have one value.
+fn put_plain(alloc: Global, out: &mut Bytes, object: &Object) -> Result<(), Memory> {
+    let parent = object.parent.0;
+    put_field(out, b"id", &object.id)?;
+    out.append(format!(in alloc; "parent {parent:016x}\n")?.as_bytes())?;
+    put_field(out, b"title", &object.title)
+}
+
+// Adds the fields that have many values.
+fn put_lists(alloc: Global, out: &mut Bytes, object: &Object) -> Result<(), Memory> {
+    put_settings(alloc, out, &object.settings)?;
+    put_locals(out, &object.locals)?;
+    put_properties(alloc, out, &object.properties)
+}
+
 /// The fields of an object, one a line.
 pub fn shown(alloc: Global, object: &Object) -> Result<Bytes, Memory> {
-    let parent = object.parent.0;
     let mut out = Bytes::new(alloc);
-    put_field(&mut out, b"id", &object.id)?;
-    out.append(format!(in alloc; "parent {parent:016x}\n")?.as_bytes())?;
-    put_field(&mut out, b"title", &object.title)?;
-    put_settings(alloc, &mut out, &object.settings)?;
-    put_locals(&mut out, &object.locals)?;
-    put_properties(alloc, &mut out, &object.properties)?;
+    put_plain(alloc, &mut out, object)?;
+    put_lists(alloc, &mut out, object)?;
     put_kind(alloc, &mut out, &object.part)?;
     Ok(out)
 }

@@ -1,8 +1,8 @@
-use cases::{Case, CasesRefusal, Part, Runner};
+use cases::{Case, CasesRefusal, Part, Runner, add_bytes, add_line};
 use evaluator::Cells;
 use fs_record::MAX_LENGTH;
 use replay::{RunRefusal, replay};
-use schedule::read_schedule;
+use schedule::{Schedule, read_schedule};
 use std::alloc::Global;
 use zbase::{Bytes, FaultPlan};
 use zdisk::{Disk, MemoryDisk};
@@ -40,18 +40,42 @@ fn contents_of(alloc: Global, disk: MemoryDisk) -> Result<Bytes, CasesRefusal> {
     }
 }
 
+// The schedule of the case.
+fn schedule_of(alloc: Global, case: &Case) -> Result<Schedule, CasesRefusal> {
+    let input = case.bytes(alloc, "input")?;
+    match read_schedule(alloc, input.as_slice()) {
+        Ok(schedule) => Ok(schedule),
+        Err(_) => Err(CasesRefusal::Missing),
+    }
+}
+
+// Replays the case's schedule over its file.
+fn ran(
+    alloc: Global,
+    case: &Case,
+    sink: &mut MemorySink,
+) -> Result<Result<MemoryDisk, RunRefusal>, CasesRefusal> {
+    let limit = case.number("limit", 100_000)?.min(MAX_LENGTH);
+    let schedule = schedule_of(alloc, case)?;
+    let bytes = case.bytes(alloc, "file")?;
+    if bytes.len() as u64 > MAX_LENGTH {
+        return Err(CasesRefusal::Missing);
+    }
+    let evaluator = Cells::new(alloc);
+    Ok(replay(alloc, bytes, limit, &schedule, evaluator, sink))
+}
+
 // The parts of what a disk reads that came back, or of why none did.
 fn ended(alloc: Global, ran: Result<MemoryDisk, RunRefusal>) -> Result<Vec<Part>, CasesRefusal> {
     let mut parts = Vec::new(alloc);
     match ran {
         Ok(disk) => {
-            let bytes = contents_of(alloc, disk)?;
-            parts.push(Part::with(alloc, "status done", Bytes::new(alloc))?)?;
-            parts.push(Part::with(alloc, "disk", bytes)?)?;
+            add_line(alloc, &mut parts, "status done")?;
+            add_bytes(alloc, &mut parts, "disk", contents_of(alloc, disk)?)?;
         }
         Err(refusal) => {
             let status = status_of(alloc, refusal)?;
-            parts.push(Part::with(alloc, status.as_str(), Bytes::new(alloc))?)?;
+            add_line(alloc, &mut parts, status.as_str())?;
         }
     }
     Ok(parts)
@@ -63,20 +87,10 @@ impl Runner for CellRuns {
     }
 
     fn run(&self, alloc: Global, case: &Case) -> Result<Vec<Part>, CasesRefusal> {
-        let bytes = case.bytes(alloc, "file")?;
-        if bytes.len() as u64 > MAX_LENGTH {
-            return Err(CasesRefusal::Missing);
-        }
-        let limit = case.number("limit", 100_000)?.min(MAX_LENGTH);
-        let input = case.bytes(alloc, "input")?;
-        let Ok(schedule) = read_schedule(alloc, input.as_slice()) else {
-            return Err(CasesRefusal::Missing);
-        };
         let mut sink = MemorySink::new(alloc, FaultPlan::new(case.failing(alloc, "output")?));
-        let ran = replay(alloc, bytes, limit, &schedule, Cells::new(alloc), &mut sink);
-        let mut parts = ended(alloc, ran)?;
+        let mut parts = ended(alloc, ran(alloc, case, &mut sink)?)?;
         let output = Bytes::from_slice(alloc, sink.bytes())?;
-        parts.push(Part::with(alloc, "output", output)?)?;
+        add_bytes(alloc, &mut parts, "output", output)?;
         Ok(parts)
     }
 }

@@ -1,9 +1,8 @@
-use crate::answers::put_open_refusal;
+use crate::answers::{put_line, put_open_refusal};
 use crate::arming::{Planned, arm, each_of, gone_on, planned_by, with_one};
-use crate::looking::put_numbers;
 use crate::script::read_script;
 use crate::session::run_script;
-use cases::{Case, CasesRefusal, Part, Runner};
+use cases::{Case, CasesRefusal, Part, Runner, add_bytes, add_line, add_number};
 use fs_record::MAX_LENGTH;
 use fs_store::Store;
 use std::alloc::Global;
@@ -71,25 +70,33 @@ struct Came {
     calls: u64,
 }
 
+// How many calls a disk has had that isn't wanted any more.
+fn calls_of(disk: MemoryDisk) -> u64 {
+    disk.calls()
+}
+
 // What opening a file answers, and how many device calls it makes.
 fn opening_of(alloc: Global, file: &Bytes, limit: u64) -> Result<(Bytes, u64), CasesRefusal> {
-    let mut answer = Bytes::new(alloc);
+    let mut answer = Bytes::from_slice(alloc, b"again ")?;
     let disk = MemoryDisk::new(alloc, file.copy()?);
     match Store::open(alloc, disk, limit.min(MAX_LENGTH)) {
         Ok(store) => {
-            put_numbers(&store, "again opened", &mut answer)?;
-            Ok((answer, store.into_disk().calls()))
+            let numbers = [store.last().0, store.len()];
+            let calls = calls_of(store.into_disk());
+            put_line(&mut answer, "opened", &numbers)?;
+            Ok((answer, calls))
         }
         Err((refusal, disk)) => {
-            answer.append(b"again ")?;
+            let calls = calls_of(disk);
             put_open_refusal(&mut answer, refusal)?;
-            Ok((answer, disk.calls()))
+            Ok((answer, calls))
         }
     }
 }
 
 // The bytes of a disk's file.
-fn bytes_of(alloc: Global, disk: &mut MemoryDisk) -> Result<Bytes, CasesRefusal> {
+fn bytes_of(alloc: Global, disk: MemoryDisk) -> Result<Bytes, CasesRefusal> {
+    let mut disk = disk;
     let Ok(len) = disk.len() else {
         return Err(CasesRefusal::Missing);
     };
@@ -100,24 +107,54 @@ fn bytes_of(alloc: Global, disk: &mut MemoryDisk) -> Result<Bytes, CasesRefusal>
     }
 }
 
+// How many device calls an opening makes of the case's base, or of this file where it has none.
+fn opening_calls(
+    alloc: Global,
+    case: &Case,
+    file: &Bytes,
+    limit: u64,
+) -> Result<u64, CasesRefusal> {
+    let (_, calls) = match case.part("base") {
+        Some(base) => opening_of(alloc, &base.bytes, limit)?,
+        None => opening_of(alloc, file, limit)?,
+    };
+    Ok(calls)
+}
+
+// The steps of the case's script.
+fn steps_of(alloc: Global, case: &Case) -> Result<Vec<Part>, CasesRefusal> {
+    match case.part("script") {
+        Some(script) => read_script(alloc, script.bytes.as_slice()),
+        None => Ok(Vec::new(alloc)),
+    }
+}
+
 // Reads what is given.
 fn given_by(alloc: Global, case: &Case) -> Result<Given, CasesRefusal> {
-    let file = case.bytes(alloc, "file")?;
     let limit = case.number("limit", 1_000_000)?;
-    let base = if case.part("base").is_some() {
-        case.bytes(alloc, "base")?
-    } else {
-        file.copy()?
-    };
-    let script = case.bytes(alloc, "script")?;
-    let steps = read_script(alloc, script.as_slice())?;
-    let (_, opening) = opening_of(alloc, &base, limit)?;
+    let file = case.bytes(alloc, "file")?;
+    let opening = opening_calls(alloc, case, &file, limit)?;
+    let steps = steps_of(alloc, case)?;
     Ok(Given {
         file,
         limit,
         steps,
         opening,
     })
+}
+
+// A disk of the file with this rest behind it, on which what is planned is armed.
+fn armed(
+    alloc: Global,
+    file: &Bytes,
+    rest: &[u8],
+    planned: &[Planned],
+) -> Result<MemoryDisk, CasesRefusal> {
+    let mut file = file.copy()?;
+    file.append(rest)?;
+    let mut disk = MemoryDisk::new(alloc, file);
+    arm(&mut disk, planned)?;
+    Ok(disk)
 }
 
 // Runs the script over a disk of the file with this rest behind it, which stops and fails as it is planned.
@@ -127,20 +164,30 @@ fn run_once(
     rest: &[u8],
     planned: &[Planned],
 ) -> Result<Came, CasesRefusal> {
-    let mut file = given.file.copy()?;
-    file.append(rest)?;
-    let mut disk = MemoryDisk::new(alloc, file);
-    arm(&mut disk, planned)?;
+    let disk = armed(alloc, &given.file, rest, planned)?;
     let mut answers = Bytes::new(alloc);
     let steps = given.steps.as_slice();
     let disk = run_script(alloc, disk, given.limit, steps, &mut answers)?;
     let calls = disk.calls();
-    let mut disk = gone_on(disk);
     Ok(Came {
         answers,
-        disk: bytes_of(alloc, &mut disk)?,
+        disk: bytes_of(alloc, gone_on(disk))?,
         calls,
     })
+}
+
+// Adds what opening a file answers.
+fn add_again(
+    alloc: Global,
+    parts: &mut Vec<Part>,
+    file: &Bytes,
+    limit: u64,
+) -> Result<(), CasesRefusal> {
+    let (again, _) = opening_of(alloc, file, limit)?;
+    match str::from_utf8(again.as_slice()) {
+        Ok(text) => add_line(alloc, parts, text),
+        Err(_) => Err(CasesRefusal::Missing),
+    }
 }
 
 /// The parts that came so far, and the last run of which they came.
@@ -163,18 +210,11 @@ impl Groups {
     // Adds the parts of a run, with so many calls taken off.
     fn put(&mut self, given: &Given, came: &Came, without: u64) -> Result<(), CasesRefusal> {
         let alloc = came.answers.alloc();
-        let (again, _) = opening_of(alloc, &came.disk, given.limit)?;
-        let Ok(again) = str::from_utf8(again.as_slice()) else {
-            return Err(CasesRefusal::Missing);
-        };
-        let calls = came.calls.saturating_sub(without);
-        let calls = format!(in alloc; "calls {calls}")?;
         let parts = &mut self.parts;
-        parts.push(Part::with(alloc, "answers", came.answers.copy()?)?)?;
-        parts.push(Part::with(alloc, "disk", came.disk.copy()?)?)?;
-        parts.push(Part::with(alloc, again, Bytes::new(alloc))?)?;
-        parts.push(Part::with(alloc, calls.as_str(), Bytes::new(alloc))?)?;
-        Ok(())
+        add_bytes(alloc, parts, "answers", came.answers.copy()?)?;
+        add_bytes(alloc, parts, "disk", came.disk.copy()?)?;
+        add_again(alloc, parts, &came.disk, given.limit)?;
+        add_number(alloc, parts, "calls", came.calls.saturating_sub(without))
     }
 
     // The same, unless all is as in the run before.
@@ -199,8 +239,7 @@ impl Groups {
             count,
         } = self;
         let mut parts = parts;
-        let groups = format!(in alloc; "groups {count}")?;
-        parts.push(Part::with(alloc, groups.as_str(), Bytes::new(alloc))?)?;
+        add_number(alloc, &mut parts, "groups", count)?;
         Ok(parts)
     }
 }

@@ -14,6 +14,30 @@ use zbase::Bytes;
 use zdisk::MemoryDisk;
 
 // The calls over a store that is open, up to `close` or the script's end.
+fn run_calls(
+    store: &mut Store<MemoryDisk>,
+    steps: &[Part],
+    taken: &mut usize,
+    out: &mut Bytes,
+) -> Result<(), CasesRefusal>
+    requires told { IsTold store.old }
+    requires idle { store.old.out ≡ None }
+    ensures idle { store.new.out ≡ None }
+{
+    for _ in 0..steps.len() {
+        let Some(step) = next_step(steps, taken) else {
+            break;
+        };
+        match step.key() {
+            "close" => return Ok(put_line(out, "closed", &[])?),
+            "vote" => vote(store, step, steps, taken, out)?,
+            _ => look(store, step, out)?,
+        }
+    }
+    Ok(())
+}
+
+// What is done with a store that was just opened, until its disk is handed back.
 fn run_open(
     store: Store<MemoryDisk>,
     steps: &[Part],
@@ -26,19 +50,7 @@ fn run_open(
 {
     let mut store = store;
     put_numbers(&store, "opened", out)?;
-    for _ in 0..steps.len() {
-        let Some(step) = next_step(steps, taken) else {
-            break;
-        };
-        if step.key() == "close" {
-            put_line(out, "closed", &[])?;
-            break;
-        } else if step.key() == "vote" {
-            vote(&mut store, step, steps, taken, out)?;
-        } else {
-            look(&mut store, step, out)?;
-        }
-    }
+    run_calls(&mut store, steps, taken, out)?;
     Ok(store.into_disk())
 }
 

@@ -1,8 +1,8 @@
 use crate::items::{item_of, put_items};
 use crate::lines::line_of;
 use crate::replies::put_reply;
-use cases::{Case, CasesRefusal, Part, Runner};
-use schedule::{ScheduleRefusal, read_schedule, write_item, write_line};
+use cases::{Case, CasesRefusal, Part, Runner, add_bytes, add_line, add_number};
+use schedule::{Item2, ScheduleRefusal, read_schedule, write_item, write_line};
 use std::alloc::Global;
 use zbase::Bytes;
 
@@ -22,27 +22,32 @@ use zbase::Bytes;
 #[derive(Drop)]
 pub struct TextCases;
 
-// The parts that come of reading a schedule.
-fn put_read(alloc: Global, text: &Bytes, parts: &mut Vec<Part>) -> Result<(), CasesRefusal> {
-    let items = match read_schedule(alloc, text.as_slice()) {
-        Ok(items) => items,
-        Err(ScheduleRefusal::Memory) => return Err(CasesRefusal::Memory),
-        Err(ScheduleRefusal::BadLine(line)) => {
-            parts.push(Part::new(alloc, 0, format!(in alloc; "bad {line}")?.as_str())?)?;
-            return Ok(());
-        }
-    };
+// The parts that come of the items of a schedule.
+fn put_read(
+    alloc: Global,
+    items: &[Item2],
+    text: &Bytes,
+    parts: &mut Vec<Part>,
+) -> Result<(), CasesRefusal> {
     let mut shown = Bytes::new(alloc);
     let mut again = Bytes::from_slice(alloc, b"zope schedule 1\n")?;
-    put_items(alloc, items.as_slice(), &mut shown, &mut again)?;
+    put_items(alloc, items, &mut shown, &mut again)?;
     let said = if again.same(text) {
         "again same"
     } else {
         "again other"
     };
-    parts.push(Part::with(alloc, "items", shown)?)?;
-    parts.push(Part::new(alloc, 0, said)?)?;
-    Ok(())
+    add_bytes(alloc, parts, "items", shown)?;
+    add_line(alloc, parts, said)
+}
+
+// The parts that come of reading a schedule.
+fn put_schedule(alloc: Global, text: &Bytes, parts: &mut Vec<Part>) -> Result<(), CasesRefusal> {
+    match read_schedule(alloc, text.as_slice()) {
+        Ok(items) => put_read(alloc, items.as_slice(), text, parts),
+        Err(ScheduleRefusal::BadLine(line)) => add_number(alloc, parts, "bad", line),
+        Err(ScheduleRefusal::Memory) => Err(CasesRefusal::Memory),
+    }
 }
 
 // Writes what a part says.
@@ -72,14 +77,14 @@ impl Runner for TextCases {
     fn run(&self, alloc: Global, case: &Case) -> Result<Vec<Part>, CasesRefusal> {
         let mut parts = Vec::new(alloc);
         if let Some(part) = case.part("schedule") {
-            put_read(alloc, &part.bytes, &mut parts)?;
+            put_schedule(alloc, &part.bytes, &mut parts)?;
         }
         let mut out = Bytes::new(alloc);
         for part in &case.parts {
             put_part(alloc, case, part, &mut out)?;
         }
         if !out.is_empty() {
-            parts.push(Part::with(alloc, "output", out)?)?;
+            add_bytes(alloc, &mut parts, "output", out)?;
         }
         Ok(parts)
     }

@@ -1,10 +1,10 @@
 ghost use Rattle.std.specs.Prelude.{◌<◌, IfOk};
 
-use cases::{Case, CasesRefusal, Part, Runner};
+use cases::{Case, CasesRefusal, Part, Runner, add_bytes, add_number};
 use std::alloc::Global;
 use zbase::{Bytes, FaultPlan, Text};
 use zio::{MemoryClock, MemoryFile, MemoryHub, MemoryShelf, MemorySink, MemorySource};
-use zope::run;
+use zope::{Status, run};
 
 /// The program: `words`, each `file NAME` with its bytes, `input`, `clock SECONDS NANOSECONDS` since 1970 (else its first
 /// moment), and `failing KIND NUMBER`, where a kind is `opening` (also of a new file), `disk` and `new` (the disks of files
@@ -22,10 +22,10 @@ fn failing_of(alloc: Global, case: &Case, kind: &str) -> Result<Option<u64>, Cas
     Ok(numbers.first().copied())
 }
 
-// The files of the case, on a shelf.
-fn shelf_of(alloc: Global, case: &Case) -> Result<MemoryShelf, CasesRefusal> {
-    let mut files = Vec::new(alloc);
+// The files of the case.
+fn files_of(alloc: Global, case: &Case) -> Result<Vec<MemoryFile>, CasesRefusal> {
     let failing = failing_of(alloc, case, "disk")?;
+    let mut files = Vec::new(alloc);
     for part in &case.parts {
         if part.key() == "file" {
             files.push(MemoryFile {
@@ -35,9 +35,15 @@ fn shelf_of(alloc: Global, case: &Case) -> Result<MemoryShelf, CasesRefusal> {
             })?;
         }
     }
+    Ok(files)
+}
+
+// The files of the case, on a shelf.
+fn shelf_of(alloc: Global, case: &Case) -> Result<MemoryShelf, CasesRefusal> {
+    let new = failing_of(alloc, case, "new")?;
     let plan = FaultPlan::new(case.failing(alloc, "opening")?);
-    let shelf = MemoryShelf::new(alloc, files, plan);
-    match failing_of(alloc, case, "new")? {
+    let shelf = MemoryShelf::new(alloc, files_of(alloc, case)?, plan);
+    match new {
         Some(number) => Ok(shelf.with_failing_new(number)),
         None => Ok(shelf),
     }
@@ -67,6 +73,30 @@ fn clock_of(alloc: Global, case: &Case) -> Result<MemoryClock, CasesRefusal> {
     Ok(MemoryClock::new(ticks, plan))
 }
 
+// The status and the output of the program with these words over these files.
+fn ran(
+    alloc: Global,
+    case: &Case,
+    words: &[String],
+    shelf: &mut MemoryShelf,
+) -> Result<(Status, MemorySink), CasesRefusal> {
+    let plan = FaultPlan::new(case.failing(alloc, "input")?);
+    let mut input = MemorySource::new(case.bytes(alloc, "input")?, plan);
+    let mut output = MemorySink::new(alloc, FaultPlan::new(case.failing(alloc, "output")?));
+    let mut clock = clock_of(alloc, case)?;
+    let mut hub = MemoryHub::new(alloc, Vec::new(alloc), FaultPlan::none(alloc));
+    let status = run(
+        alloc,
+        words,
+        shelf,
+        &mut input,
+        &mut output,
+        &mut hub,
+        &mut clock,
+    );
+    Ok((status, output))
+}
+
 // What a run left in a file.
 fn left_of(alloc: Global, file: &MemoryFile) -> Result<Part, CasesRefusal> {
     let key = format!(in alloc; "left {}", file.name.as_str())?;
@@ -80,11 +110,10 @@ fn parts_of(
     output: &MemorySink,
     shelf: &MemoryShelf,
 ) -> Result<Vec<Part>, CasesRefusal> {
-    let status = format!(in alloc; "status {status}")?;
-    let bytes = Bytes::from_slice(alloc, output.bytes())?;
     let mut parts = Vec::new(alloc);
-    parts.push(Part::with(alloc, status.as_str(), Bytes::new(alloc))?)?;
-    parts.push(Part::with(alloc, "output", bytes)?)?;
+    add_number(alloc, &mut parts, "status", u64::from(status))?;
+    let bytes = Bytes::from_slice(alloc, output.bytes())?;
+    add_bytes(alloc, &mut parts, "output", bytes)?;
     for file in shelf.files() {
         parts.push(left_of(alloc, file)?)?;
     }
@@ -99,20 +128,7 @@ impl Runner for Program {
     fn run(&self, alloc: Global, case: &Case) -> Result<Vec<Part>, CasesRefusal> {
         let words = case.words(alloc, "words")?;
         let mut shelf = shelf_of(alloc, case)?;
-        let plan = FaultPlan::new(case.failing(alloc, "input")?);
-        let mut input = MemorySource::new(case.bytes(alloc, "input")?, plan);
-        let mut output = MemorySink::new(alloc, FaultPlan::new(case.failing(alloc, "output")?));
-        let mut hub = MemoryHub::new(alloc, Vec::new(alloc), FaultPlan::none(alloc));
-        let mut clock = clock_of(alloc, case)?;
-        let status = run(
-            alloc,
-            words.as_slice(),
-            &mut shelf,
-            &mut input,
-            &mut output,
-            &mut hub,
-            &mut clock,
-        );
+        let (status, output) = ran(alloc, case, words.as_slice(), &mut shelf)?;
         parts_of(alloc, status.0, &output, &shelf)
     }
 }

@@ -1,6 +1,6 @@
 use Rattle.std.proofs.Common.{◌≡◌, None}
 use Rattle.fs_store.specs.Stores.{IsTold}
-use Rattle.store_cases.proofs.session.run_open.Given as goal
+use Rattle.store_cases.proofs.session.run_calls.Given as goal
 
 abbrev pub invariant-loop : goal.invariant-loop
 invariant-loop l = record {
