@@ -21,6 +21,30 @@ fn core_of(alloc: Global, store: Store<MemoryDisk>) -> Result<Core<MemoryDisk, C
     }
 }
 
+/// The store of a core that is closed, opened anew where it has to be; and whether a request of worker 5 was cut off.
+fn reopened(core: Core<MemoryDisk, Cells>) -> Result<(Store<MemoryDisk>, bool), Fail>
+    ensures idle { IfOk result (λ (store, _). store.out ≡ None) }
+    ensures fresh { IfOk result (λ (store, _). store.stale ≡ false) }
+{
+    let Ok(ended) = core.close() else {
+        return Err(Fail::from("the disk failed"));
+    };
+    let (mut store, taken) = ended;
+    let Ok(()) = store.refresh() else {
+        return Err(Fail::from("not opened"));
+    };
+    Ok((store, taken[5]))
+}
+
+/// Gives worker 5 a copy and steps it so often at a stamp. Whether it took the request.
+fn copies(core: &mut Core<MemoryDisk, Cells>, stamp: u64, count: usize) -> bool {
+    let is_given = core.give(5, COPY).is_ok();
+    for _ in 0..count {
+        let _line = core.step(5, Tid(stamp));
+    }
+    is_given
+}
+
 /// The store behind a core over it, in which worker 5 is given a copy and stepped so often at a stamp; and whether its
 /// request was cut off.
 fn closed(
@@ -34,19 +58,10 @@ fn closed(
     ensures fresh { IfOk result (λ (store, _). store.stale ≡ false) }
 {
     let mut core = core_of(alloc, store)?;
-    let is_given = core.give(5, COPY).is_ok();
-    for _ in 0..count {
-        let _line = core.step(5, Tid(stamp));
-    }
-    let Ok(ended) = core.close() else {
-        return Err(Fail::from("the disk failed"));
-    };
-    let (mut store, taken) = ended;
-    let Ok(()) = store.refresh() else {
-        return Err(Fail::from("not opened"));
-    };
+    let is_given = copies(&mut core, stamp, count);
+    let ended = reopened(core)?;
     if is_given {
-        Ok((store, taken[5]))
+        Ok(ended)
     } else {
         Err(Fail::from("not given"))
     }
@@ -70,24 +85,23 @@ fn a_vote_that_is_out_at_the_end_never_stands(rt: HostRuntime) -> Result<(), Fai
     Ok(())
 }
 
+/// Whether worker 3 takes a request, no other until that has ended, and then one again.
+fn takes_one_at_a_time(core: &mut Core<MemoryDisk, Cells>) -> bool {
+    let refused = Err((GiveRefusal::WorkerTaken, CellRequest::Log));
+    let mut is_so = core.give(3, COPY) == Ok(());
+    for _ in 0..5usize {
+        is_so = core.give(3, CellRequest::Log) == refused && is_so;
+        let _line = core.step(3, Tid(0));
+    }
+    core.give(3, CellRequest::Log) == Ok(()) && is_so
+}
+
 #[test]
 fn a_worker_with_a_request_takes_no_other(rt: HostRuntime) -> Result<(), Fail> {
     let alloc = rt.alloc();
     let mut core = core_of(alloc, store_of(alloc)?)?;
-    let refused = Err((GiveRefusal::WorkerTaken, CellRequest::Log));
-    assert_eq!(rt; core.give(3, COPY), Ok(()));
-    for _ in 0..5usize {
-        assert_eq!(rt; core.give(3, CellRequest::Log), refused);
-        let _line = core.step(3, Tid(0));
-    }
-    assert_eq!(rt; core.give(3, CellRequest::Log), Ok(()));
-    let Ok(ended) = core.close() else {
-        return Err(Fail::from("the disk failed"));
-    };
-    let (mut store, _taken) = ended;
-    let Ok(()) = store.refresh() else {
-        return Err(Fail::from("not opened"));
-    };
-    assert_eq!(rt; store.last(), Tid(1));
+    let is_so = takes_one_at_a_time(&mut core);
+    let (store, _taken) = reopened(core)?;
+    assert!(rt; is_so && store.last() == Tid(1));
     Ok(())
 }

@@ -1,10 +1,11 @@
 //! The history at the end of a replay is what a dump of the same file prints.
+use crate::running::ran;
 use cases::{CaseFile, read_cases};
 use std::alloc::Global;
 use std::test::Fail;
 use zbase::{Bytes, FaultPlan, Memory, Text};
-use zio::{MemoryClock, MemoryFile, MemoryHub, MemoryShelf, MemorySink, MemorySource};
-use zope::{Status, run};
+use zio::{MemoryFile, MemoryShelf, MemorySink, MemorySource};
+use zope::Status;
 
 /// Files that open, as those of a file of cases: with packed and undone transactions, chains of back pointers, two
 /// records of an object in one transaction, and none. To each comes each torn rest.
@@ -91,45 +92,34 @@ file
   hex 0331620000000009 00000000000000ac 20 0000 0000 0000
 ";
 
-/// The status and the output of a command over a file.
-fn ran(
-    alloc: Global,
-    command: &str,
-    file: &[u8],
-    input: &str,
-) -> Result<(Status, MemorySink), Memory> {
-    let mut words = Vec::new(alloc);
-    for word in [command, "a.fs"] {
-        words.push(String::from_str(alloc, word)?)?;
-    }
+/// A shelf with that file alone.
+fn shelf_of(alloc: Global, file: &[u8]) -> Result<MemoryShelf, Memory> {
     let mut files = Vec::new(alloc);
     files.push(MemoryFile {
         name: Text::from_str(alloc, "a.fs")?,
         bytes: Bytes::from_slice(alloc, file)?,
         failing: None,
     })?;
-    let mut shelf = MemoryShelf::new(alloc, files, FaultPlan::none(alloc));
+    Ok(MemoryShelf::new(alloc, files, FaultPlan::none(alloc)))
+}
+
+/// The status and the output of a command over a file.
+fn printed(
+    alloc: Global,
+    command: &str,
+    file: &[u8],
+    input: &str,
+) -> Result<(Status, MemorySink), Memory> {
     let input = Bytes::from_slice(alloc, input.as_bytes())?;
     let mut source = MemorySource::new(input, FaultPlan::none(alloc));
-    let mut sink = MemorySink::new(alloc, FaultPlan::none(alloc));
-    let mut hub = MemoryHub::new(alloc, Vec::new(alloc), FaultPlan::none(alloc));
-    let mut clock = MemoryClock::new(Vec::new(alloc), FaultPlan::none(alloc));
-    let status = run(
-        alloc,
-        words.as_slice(),
-        &mut shelf,
-        &mut source,
-        &mut sink,
-        &mut hub,
-        &mut clock,
-    );
-    Ok((status, sink))
+    let mut shelf = shelf_of(alloc, file)?;
+    ran(alloc, &[command, "a.fs"], &mut shelf, &mut source)
 }
 
 /// Whether a replay without steps over the file prints two lines and then what a dump of it prints.
 fn is_replayed_as_dumped(alloc: Global, file: &[u8]) -> Result<bool, Memory> {
-    let (dumped, history) = ran(alloc, "dump", file, "")?;
-    let (replayed, report) = ran(alloc, "replay", file, "zope schedule 1\nend\n")?;
+    let (dumped, history) = printed(alloc, "dump", file, "")?;
+    let (replayed, report) = printed(alloc, "replay", file, "zope schedule 1\nend\n")?;
     let mut lines = report.bytes().splitn(3, |byte| *byte == b'\n').skip(2);
     let behind = lines.next();
     Ok(dumped == Status(0) && replayed == Status(0) && behind == Some(history.bytes()))

@@ -7,3 +7,5 @@ mod dumped_files;
 mod long_files;
 #[cfg(test)]
 mod made_files;
+#[cfg(test)]
+mod running;

@@ -2,12 +2,13 @@
 ghost use Rattle.std.specs.Prelude.{None};
 ghost use Rattle.zbase.specs.Limits.{greatest_number};
 
+use crate::running::ran;
 use std::alloc::Global;
 use std::test::Fail;
 use zbase::{Bytes, Failed, FaultCount, FaultPlan, Memory};
 use zdisk::Disk;
-use zio::{MemoryClock, MemoryHub, MemorySink, MemorySource, Shelf, ShelfRefusal, Source};
-use zope::{Status, run};
+use zio::{MemorySource, Shelf, ShelfRefusal, Source};
+use zope::Status;
 
 /// A source that never ends.
 #[derive(Drop)]
@@ -105,32 +106,17 @@ impl Shelf for LongShelf {
 /// Whether a command over a file of that length ends with this status and this output.
 fn ends_long<S: Source>(
     alloc: Global,
-    command: &[&str],
+    command: &str,
     length: u64,
     input: &mut S,
     status: u8,
     output: &str,
 ) -> Result<bool, Memory> {
-    let mut words = Vec::new(alloc);
-    for word in command {
-        words.push(String::from_str(alloc, word)?)?;
-    }
     let mut files = LongShelf {
         length,
         faults: FaultCount::new(),
     };
-    let mut sink = MemorySink::new(alloc, FaultPlan::none(alloc));
-    let mut hub = MemoryHub::new(alloc, Vec::new(alloc), FaultPlan::none(alloc));
-    let mut clock = MemoryClock::new(Vec::new(alloc), FaultPlan::none(alloc));
-    let ended = run(
-        alloc,
-        words.as_slice(),
-        &mut files,
-        input,
-        &mut sink,
-        &mut hub,
-        &mut clock,
-    );
+    let (ended, sink) = ran(alloc, &[command, "long.fs"], &mut files, input)?;
     Ok(ended == Status(status) && sink.bytes() == output.as_bytes())
 }
 
@@ -139,9 +125,8 @@ fn an_input_without_end_is_too_large(rt: HostRuntime) -> Result<(), Fail> {
     let mut input = Endless {
         faults: FaultCount::new(),
     };
-    let replay = &["replay", "long.fs"];
     let said = "too large 67108864\n";
-    assert!(rt; ends_long(rt.alloc(), replay, 268_435_457, &mut input, 9, said)?);
+    assert!(rt; ends_long(rt.alloc(), "replay", 268_435_457, &mut input, 9, said)?);
     Ok(())
 }
 
@@ -169,9 +154,8 @@ fn files_that_are_too_long_are_refused_by_their_length(rt: HostRuntime) -> Resul
     ] {
         let text = Bytes::from_slice(alloc, b"zope schedule 1\nend\n")?;
         let mut input = MemorySource::new(text, FaultPlan::none(alloc));
-        let words = &[command, "long.fs"];
         assert!(rt;
-            ends_long(alloc, words, length, &mut input, status, output)?,
+            ends_long(alloc, command, length, &mut input, status, output)?,
             "{command} {length}"
         );
     }

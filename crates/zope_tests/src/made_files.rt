@@ -1,4 +1,5 @@
 //! A new site in a folder of the system.
+use crate::running::ran;
 use cases::{CaseFile, read_cases};
 use std::alloc::Global;
 use std::path::PathBuf;
@@ -6,8 +7,8 @@ use std::rt::{Env, Files};
 use std::test::Fail;
 use std::{fs, process};
 use zbase::{Bytes, FaultPlan, Memory};
-use zio::{Folder, MemoryClock, MemoryHub, MemorySink, MemorySource};
-use zope::{Status, run};
+use zio::{Folder, MemorySink, MemorySource};
+use zope::Status;
 
 /// The file of a new site, made as the year 2000 began for the manager `admin` with the password `secret`: by the formats, a
 /// transaction of three records of the second version.
@@ -41,42 +42,37 @@ const COMMANDS: [(&str, u8, &str); 4] = [
     ),
 ];
 
-/// The status of a command about the file of that path, as the year 2000 begins, and whether it prints what it should: the words,
-/// with the path behind them where it didn't end well.
-fn ran(
+/// The status and the output of a command about the file of that path.
+fn printed(
     alloc: Global,
     rt: &impl Files,
     command: &str,
     path: &str,
-    wanted: &str,
-) -> Result<(Status, bool), Memory> {
-    let mut words = Vec::new(alloc);
-    words.push(String::from_str(alloc, command)?)?;
-    words.push(String::from_str(alloc, path)?)?;
-    if command == "init" {
-        words.push(String::from_str(alloc, "admin")?)?;
-        words.push(String::from_str(alloc, "secret")?)?;
-    }
+) -> Result<(Status, MemorySink), Memory> {
     let mut files = Folder::new(rt);
     let mut source = MemorySource::new(Bytes::new(alloc), FaultPlan::none(alloc));
-    let mut sink = MemorySink::new(alloc, FaultPlan::none(alloc));
-    let mut hub = MemoryHub::new(alloc, Vec::new(alloc), FaultPlan::none(alloc));
-    let mut clock = MemoryClock::new(vec![in alloc; (946_684_800, 0); 1]?, FaultPlan::none(alloc));
-    let status = run(
-        alloc,
-        words.as_slice(),
-        &mut files,
-        &mut source,
-        &mut sink,
-        &mut hub,
-        &mut clock,
-    );
-    let line = if status == Status(0) {
+    let words = [command, path, "admin", "secret"];
+    let count = if command == "init" { 4 } else { 2 };
+    ran(alloc, &words[..count], &mut files, &mut source)
+}
+
+/// Whether a command about the file of that path ends with this status, and prints what it should: the words, with the path
+/// behind them where it doesn't end well.
+fn ends(
+    alloc: Global,
+    rt: &impl Files,
+    command: &str,
+    path: &str,
+    status: u8,
+    wanted: &str,
+) -> Result<bool, Memory> {
+    let (ended, sink) = printed(alloc, rt, command, path)?;
+    let line = if status == 0 {
         format!(in alloc; "{wanted}\n")?
     } else {
         format!(in alloc; "{wanted} {path}\n")?
     };
-    Ok((status, sink.bytes() == line.as_bytes()))
+    Ok(ended == Status(status) && sink.bytes() == line.as_bytes())
 }
 
 /// A path of this process's own.
@@ -91,9 +87,9 @@ fn a_new_site_is_its_file_and_stays(rt: HostRuntime) -> Result<(), Fail> {
     let path = own_path(&rt, process::id(rt.process()))?;
     let path = path.as_path().to_str().expect(&rt, "a path that is text");
     for (command, status, wanted) in COMMANDS {
-        assert_eq!(rt;
-            ran(alloc, &rt, command, path, wanted)?,
-            (Status(status), true)
+        assert!(rt;
+            ends(alloc, &rt, command, path, status, wanted)?,
+            "{command}"
         );
     }
     let Ok(CaseFile { pieces: _, cases }) = read_cases(alloc, SITE, &[]) else {
