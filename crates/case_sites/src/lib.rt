@@ -22,5 +22,7 @@ mod wrappers;
 
 pub use asking::{Asking, answers};
 pub use sites::known_of;
-pub use words::{bytes_text, named, oid_in, permission_at, roles_in, texts_from, three, word_at};
+pub use words::{
+    bytes_text, oid_in, permission_at, roles_in, split_named, split_three, texts_from, word_at,
+};
 pub use wrappers::{put_objects, put_refusal, reached};

@@ -1,6 +1,7 @@
 use crate::rows::{said_text, said_texts, says};
 use crate::words::{
-    bytes_text, named, oid_in, permission_at, roles_in, text_from, texts_from, three, word_at,
+    bytes_text, oid_in, permission_at, roles_in, split_named, split_three, text_from, texts_from,
+    word_at,
 };
 use cases::{Case, CasesRefusal, Part};
 use std::alloc::Global;
@@ -108,7 +109,7 @@ fn part_of(alloc: Global, case: &Case, row: &Part, rows: &[Part]) -> Result<Part
 fn children_of(alloc: Global, row: &Part) -> Result<Children, CasesRefusal> {
     let mut children = Items::new(alloc);
     for word in row.words.iter().skip(3) {
-        let (name, id) = named(row, word.as_str())?;
+        let (name, id) = split_named(row, word.as_str())?;
         let oid = oid_in(row, id)?;
         let name = Text::from_str(alloc, name)?;
         children.push(Child { name, oid })?;
@@ -120,7 +121,7 @@ fn children_of(alloc: Global, row: &Part) -> Result<Children, CasesRefusal> {
 fn users_of(alloc: Global, row: &Part) -> Result<Users, CasesRefusal> {
     let mut users = Items::new(alloc);
     for word in row.words.iter().skip(3) {
-        let (name, password, roles) = three(row, word.as_str())?;
+        let (name, password, roles) = split_three(row, word.as_str())?;
         users.push(User {
             name: Text::from_str(alloc, name)?,
             password: user_folder::keep(alloc, password)?,

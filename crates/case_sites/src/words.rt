@@ -68,7 +68,7 @@ pub fn roles_in(alloc: Global, text: &str) -> Result<Roles, CasesRefusal> {
 }
 
 /// The name before an equals sign, and what is behind it.
-pub fn named<'a>(part: &Part, word: &'a str) -> Result<(&'a str, &'a str), CasesRefusal> {
+pub fn split_named<'a>(part: &Part, word: &'a str) -> Result<(&'a str, &'a str), CasesRefusal> {
     match word.split_once('=') {
         Some(pair) => Ok(pair),
         None => Err(CasesRefusal::BadPart(part.line)),
@@ -76,7 +76,10 @@ pub fn named<'a>(part: &Part, word: &'a str) -> Result<(&'a str, &'a str), Cases
 }
 
 /// The three texts between colons; the last may have colons of its own.
-pub fn three<'a>(part: &Part, word: &'a str) -> Result<(&'a str, &'a str, &'a str), CasesRefusal> {
+pub fn split_three<'a>(
+    part: &Part,
+    word: &'a str,
+) -> Result<(&'a str, &'a str, &'a str), CasesRefusal> {
     let Some((first, rest)) = word.split_once(':') else {
         return Err(CasesRefusal::BadPart(part.line));
     };

@@ -1,5 +1,5 @@
 use acquisition::Wrapped;
-use case_sites::{named, reached};
+use case_sites::{reached, split_named};
 use cases::{Case, CasesRefusal, Part};
 use namespace::{Label, Named, Names, Single, Stack, Val};
 use std::alloc::Global;
@@ -23,7 +23,7 @@ pub fn wrapper_of(
 fn names_of(alloc: Global, part: &Part) -> Result<Names, CasesRefusal> {
     let mut names = Items::new(alloc);
     for word in part.words.iter().skip(1) {
-        let (name, text) = named(part, word.as_str())?;
+        let (name, text) = split_named(part, word.as_str())?;
         let name = Label::of(Text::from_str(alloc, name)?);
         let text = Text::from_str(alloc, text)?;
         let val = Val::Single(Single::Text(text));

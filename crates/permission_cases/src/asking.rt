@@ -1,5 +1,5 @@
 use acquisition::{AqRefusal, containers, containers_are_here, here};
-use case_sites::{oid_in, permission_at, put_refusal, roles_in, texts_from, three, word_at};
+use case_sites::{oid_in, permission_at, put_refusal, roles_in, split_three, texts_from, word_at};
 use cases::{CasesRefusal, Part, put_number, put_numbered, put_word};
 use permissions::{
     Verdict, Who, acting, allowed, find_user, roles_for, user_roles, verdict, verdict_on,
@@ -14,7 +14,7 @@ fn who_of(alloc: Global, part: &Part, word: &str) -> Result<Who, CasesRefusal> {
     if word == "anonymous" {
         return Ok(Who::Anonymous);
     }
-    let (name, home, roles) = three(part, word)?;
+    let (name, home, roles) = split_three(part, word)?;
     let home = oid_in(part, home)?;
     Ok(Who::Known {
         name: Text::from_str(alloc, name)?,
