@@ -28,9 +28,14 @@ impl<E: Evaluator> Model for Active<E> {
 
     ghost Value = { ActiveView E.Request };
 
-    ghost view = { λ a. record { attempt = record { request = a.request; clashes = clashes_of a.conflicts; snapshot = a.snapshot; facts = a.facts }; reads = a.reads.items; ready = a.ready } };
+    ghost view = { λ a. record {
+      attempt = record { request = a.request; clashes = clashes_of a.conflicts; snapshot = a.snapshot; facts = a.facts };
+      reads = a.reads.items;
+      ready = a.ready;
+    } };
 
-    ghost invariant = { λ a. (E.fits a.state a.facts a.request) × AreReads a.reads.items a.facts × IsTrail (λ known. E.meaning (look known) a.request) a.facts };
+    ghost invariant = { λ a. (E.fits a.state a.facts a.request) × AreReads a.reads.items a.facts
+        × IsTrail (λ known. E.meaning (look known) a.request) a.facts };
 }
 
 impl<E: Evaluator> Drop for Active<E> {
@@ -60,7 +65,11 @@ impl<E: Evaluator> Active<E> {
         snapshot: Tid,
         evaluator: &E,
     ) -> Active<E>
-        ensures { result ≡ record { attempt = record { request = request; clashes = clashes_of conflicts; snapshot = snapshot; facts = [] }; reads = []; ready = None } }
+        ensures { result ≡ record {
+          attempt = record { request = request; clashes = clashes_of conflicts; snapshot = snapshot; facts = [] };
+          reads = [];
+          ready = None;
+        } }
     {
         Active {
             alloc,
@@ -233,7 +242,8 @@ impl<E: Evaluator> Active<E> {
     ) -> Result<Pending<E>, CommitRefusal<E>>
         requires ready { (x : Reply) × (d : Draft) × (self.ready ≡ Some (x, d)) × IsDraft d }
         requires reads { AreSeen store.old self.reads }
-        ensures voted { IfOk result (λ pending. (x : Reply) × (d : Draft) × (self.ready ≡ Some (x, d)) × IsVoted store.old store.new holder now self.attempt x d pending) }
+        ensures voted { IfOk result (λ pending. (x : Reply) × (d : Draft) × (self.ready ≡ Some (x, d))
+            × IsVoted store.old store.new holder now self.attempt x d pending) }
         ensures refused { IfErr result (λ refusal. (x : Reply) × (d : Draft) × (self.ready ≡ Some (x, d)) × IsRefused store.old store.new self d refusal) }
         ensures kept { OnErr result (store.new.out ≡ store.old.out) }
         ensures twice { OnOk result (Twice store.old.disk.counter store.new.disk.counter) }

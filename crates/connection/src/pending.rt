@@ -21,7 +21,11 @@ impl<E: Evaluator> Model for Pending<E> {
 
     ghost Value = { PendingView E.Request };
 
-    ghost view = { λ p. record { attempt = record { request = p.request; clashes = clashes_of p.conflicts; snapshot = p.snapshot; facts = p.facts }; reply = p.reply; tid = p.voted } };
+    ghost view = { λ p. record {
+      attempt = record { request = p.request; clashes = clashes_of p.conflicts; snapshot = p.snapshot; facts = p.facts };
+      reply = p.reply;
+      tid = p.voted;
+    } };
 }
 
 impl<E: Evaluator> Pending<E> {

@@ -56,7 +56,8 @@ fn strays(name: TagName, kind: &PartKind) -> bool
 /// What follows the closing tag of the tag at a place, behind a block that nothing but this may follow.
 fn closed(at: usize, name: TagName, stop: Option<SourcePart>) -> Result<usize, DtmlRefusal>
     ensures read { (source : List ℕ) → Stops source stop → IfOk result (λ end. Stands source (stop_at source stop) (pieces.Close name) end) }
-    ensures refused { (source : List ℕ) (levels : ℕ) → Stops source stop → IfErr result (IsRefused source levels (Some (record { at = at; name = name; goes_on = false })) (stop_at source stop)) }
+    ensures refused { (source : List ℕ) (levels : ℕ) → Stops source stop
+        → IfErr result (IsRefused source levels (Some (record { at = at; name = name; goes_on = false })) (stop_at source stop)) }
 {
     let Some(SourcePart { start, end, kind }) = stop else {
         return Err(DtmlRefusal::Unclosed(at));
@@ -85,7 +86,8 @@ fn turn_of(
     ensures read { (source : List ℕ) → Stops source stop → IfOk result (λ x. Stands source (stop_at source stop) (piece_view x.0) x.2) }
     ensures place { (source : List ℕ) → IfOk result (λ x. x.1 ≡ stop_at source stop) }
     ensures turns { (source : List ℕ) → Stops source stop → IfOk result (λ x. Turns name (piece_view x.0)) }
-    ensures refused { (source : List ℕ) (levels : ℕ) → Stops source stop → IfErr result (IsRefused source levels (Some (record { at = at; name = name; goes_on = true })) (stop_at source stop)) }
+    ensures refused { (source : List ℕ) (levels : ℕ) → Stops source stop
+        → IfErr result (IsRefused source levels (Some (record { at = at; name = name; goes_on = true })) (stop_at source stop)) }
 {
     let Some(part) = stop else {
         return Err(DtmlRefusal::Unclosed(at));
@@ -262,7 +264,8 @@ fn in_of(
 ) -> Result<(Tree, Option<Tree>, usize), DtmlRefusal>
     requires small { length source.now ≤ 262144 }
     requires boundary { IsCharBoundary source.now start }
-    ensures read { IfOk result (λ x. (middle : ℕ) × (behind : ℕ) × IsBlock source.now (view x.0) levels start middle × IsElse source.now (otherwise_view x.1) levels middle behind × Stands source.now behind (pieces.Close tags.In) x.2) }
+    ensures read { IfOk result (λ x. (middle : ℕ) × (behind : ℕ) × IsBlock source.now (view x.0) levels start middle
+        × IsElse source.now (otherwise_view x.1) levels middle behind × Stands source.now behind (pieces.Close tags.In) x.2) }
     ensures refused { IfErr result (IsOfLoop source.now levels at start) }
 {
     let (block, stop) = block_of(alloc, source, levels, start, 0)?;

@@ -31,7 +31,8 @@ pub(crate) fn find(name: &Text, stack: &mut Stack<'_>) -> Result<Option<Val>, Re
 
 /// The object with its contents, which the user must be granted to view; it is then shown.
 pub(crate) fn open<'k>(oid: Oid, stack: &mut Stack<'k>) -> Result<&'k Object, RenderRefusal>
-    ensures is { Shows told (λ o. o.now) stack.new.shown result (looked (objects stack.old.known) stack.old.shown (names.viewing (names.whose stack.old.scope) oid)) }
+    ensures is { Shows told (λ o. o.now) stack.new.shown result
+        (looked (objects stack.old.known) stack.old.shown (names.viewing (names.whose stack.old.scope) oid)) }
     ensures known { stack.new.known ≡ stack.old.known }
     ensures scope { stack.new.scope ≡ stack.old.scope }
     ensures shown { Begins stack.old.shown stack.new.shown }
@@ -60,7 +61,8 @@ pub(crate) fn sourced(object: &Wrapped, known: &Known) -> Result<bool, RenderRef
 
 // Whether an item that is an object has its turn.
 fn object_turn(skip: bool, object: &Wrapped, stack: &mut Stack<'_>) -> Result<bool, RenderRefusal>
-    ensures is { Shows told (λ may. may) stack.new.shown result (looked (objects stack.old.known) stack.old.shown (rendering.object_turn stack.old.scope skip object.now)) }
+    ensures is { Shows told (λ may. may) stack.new.shown result
+        (looked (objects stack.old.known) stack.old.shown (rendering.object_turn stack.old.scope skip object.now)) }
     ensures known { stack.new.known ≡ stack.old.known }
     ensures scope { stack.new.scope ≡ stack.old.scope }
     ensures shown { Begins stack.old.shown stack.new.shown }
@@ -79,7 +81,8 @@ pub(crate) fn has_turn(
     item: &Single,
     stack: &mut Stack<'_>,
 ) -> Result<bool, RenderRefusal>
-    ensures is { Shows told (λ may. may) stack.new.shown result (looked (objects stack.old.known) stack.old.shown (rendering.has_turn stack.old.scope skip item.now)) }
+    ensures is { Shows told (λ may. may) stack.new.shown result
+        (looked (objects stack.old.known) stack.old.shown (rendering.has_turn stack.old.scope skip item.now)) }
     ensures known { stack.new.known ≡ stack.old.known }
     ensures scope { stack.new.scope ≡ stack.old.scope }
     ensures shown { Begins stack.old.shown stack.new.shown }
@@ -105,7 +108,9 @@ pub(crate) fn cut(depth: usize, stack: &mut Stack<'_>)
 /// The text that the object that was viewed last lends to a tag. Takes no memory.
 #[tactic(auto, unfolding(crate::specs::Rendering::argument, crate::specs::Rendering::rendered_if))]
 pub(crate) fn lent<'k>(arg: &Arg, stack: &Stack<'k>) -> Option<&'k Text>
-    ensures { IfSome result (λ t. (inside : rendering.Inside) (at : ℕ) (left : Left) → looked (objects stack.now.known) stack.now.shown (rendering.argument inside stack.now.scope at (arg_view arg.now) left) ≡ Ok ((Some (names.text t.now), left), stack.now.shown)) }
+    ensures { IfSome result (λ t. (inside : rendering.Inside) (at : ℕ) (left : Left)
+        → looked (objects stack.now.known) stack.now.shown (rendering.argument inside stack.now.scope at (arg_view arg.now) left)
+        ≡ Ok ((Some (names.text t.now), left), stack.now.shown)) }
 {
     match arg {
         Arg::Name(name) => stack.lent(name.as_str()),

@@ -32,7 +32,8 @@ pub fn source_of(part: &Part2) -> &str
 #[tactic(auto, using(crate::proofs::Steps::refused_so))]
 pub fn read_source(alloc: Global, oid: Oid, source: &str) -> Result<Tree, RenderRefusal>
     ensures read { IfOk result (λ tree. template source.now ≡ Ok (view tree)) }
-    ensures refused { IfErr result (λ e. (k : ℕ → Option (Seen Object)) (shown : List Shown) (renders : ℕ) (scope : Scope) (left : Left) → Told (told e) (looked k shown (rendering.source_text renders scope oid source.now left))) }
+    ensures refused { IfErr result (λ e. (k : ℕ → Option (Seen Object)) (shown : List Shown) (renders : ℕ) (scope : Scope) (left : Left)
+        → Told (told e) (looked k shown (rendering.source_text renders scope oid source.now left))) }
 {
     template_reader_agrees();
     match parse(alloc, source) {

@@ -47,7 +47,8 @@ pub(crate) fn name_of(alloc: Global, arg: &Arg) -> Result<Text, Memory>
 
 // The text in place of a name that has no value.
 fn missing(alloc: Global, tag: &VarTag) -> Result<Text, RenderRefusal>
-    ensures { (k : ℕ → Option (Seen Object)) (shown : List Shown) → Shows told (λ t. t) shown result (looked k shown (rendering.or_missing (arg_view tag.now.arg) tag.now.missing)) }
+    ensures { (k : ℕ → Option (Seen Object)) (shown : List Shown)
+        → Shows told (λ t. t) shown result (looked k shown (rendering.or_missing (arg_view tag.now.arg) tag.now.missing)) }
 {
     match &tag.missing {
         Some(text) => Ok(text.copy()?),
@@ -57,7 +58,8 @@ fn missing(alloc: Global, tag: &VarTag) -> Result<Text, RenderRefusal>
 
 // The text of a value, before its marks.
 fn text_of(alloc: Global, at: u32, tag: &VarTag, found: Option<Val>) -> Result<Text, RenderRefusal>
-    ensures { (k : ℕ → Option (Seen Object)) (shown : List Shown) → Shows told (λ t. t) shown result (looked k shown (rendering.text_of at (arg_view tag.now.arg) tag.now.missing found)) }
+    ensures { (k : ℕ → Option (Seen Object)) (shown : List Shown)
+        → Shows told (λ t. t) shown result (looked k shown (rendering.text_of at (arg_view tag.now.arg) tag.now.missing found)) }
 {
     match found {
         None => missing(alloc, tag),
@@ -94,7 +96,8 @@ fn is_plain(tag: &VarTag) -> bool
 
 // The text of a value with its marks applied.
 fn shaped(alloc: Global, at: u32, tag: &VarTag, found: Option<Val>) -> Result<Text, RenderRefusal>
-    ensures { (k : ℕ → Option (Seen Object)) (shown : List Shown) → Shows told (λ t. t) shown result (looked k shown (rendering.shaped at (arg_view tag.now.arg) (marks_view tag.now) found)) }
+    ensures { (k : ℕ → Option (Seen Object)) (shown : List Shown)
+        → Shows told (λ t. t) shown result (looked k shown (rendering.shaped at (arg_view tag.now.arg) (marks_view tag.now) found)) }
 {
     let text = text_of(alloc, at, tag, found)?;
     if is_plain(tag) {
@@ -113,7 +116,9 @@ pub(crate) fn put_value(
     budget: &mut Budget,
     out: &mut Text,
 ) -> Result<(), RenderRefusal>
-    ensures is { (k : ℕ → Option (Seen Object)) (shown : List Shown) → Shows told (λ u. rendering.state out.new (left_of budget.new)) shown result (looked k shown (rendering.put_value at (arg_view tag.now.arg) (marks_view tag.now) out.old (found, left_of budget.old))) }
+    ensures is { (k : ℕ → Option (Seen Object)) (shown : List Shown)
+        → Shows told (λ u. rendering.state out.new (left_of budget.new)) shown result
+        (looked k shown (rendering.put_value at (arg_view tag.now.arg) (marks_view tag.now) out.old (found, left_of budget.old))) }
     ensures renders { budget.new.renders ≡ budget.old.renders }
     ensures tags { budget.new.tags ≡ budget.old.tags }
     ensures within { budget.new.output ≤ budget.old.output }
@@ -131,7 +136,9 @@ pub(crate) fn put_text(
     budget: &mut Budget,
     out: &mut Text,
 ) -> Result<(), RenderRefusal>
-    ensures is { (k : ℕ → Option (Seen Object)) (shown : List Shown) → Shows told (λ u. rendering.state out.new (left_of budget.new)) shown result (looked k shown (rendering.put_value at (arg_view tag.now.arg) (marks_view tag.now) out.old (Some (value_text text.now), left_of budget.old))) }
+    ensures is { (k : ℕ → Option (Seen Object)) (shown : List Shown)
+        → Shows told (λ u. rendering.state out.new (left_of budget.new)) shown result
+        (looked k shown (rendering.put_value at (arg_view tag.now.arg) (marks_view tag.now) out.old (Some (value_text text.now), left_of budget.old))) }
     ensures renders { budget.new.renders ≡ budget.old.renders }
     ensures tags { budget.new.tags ≡ budget.old.tags }
     ensures within { budget.new.output ≤ budget.old.output }

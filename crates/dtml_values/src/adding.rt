@@ -18,7 +18,8 @@ use zbase::Text;
 // The sum, where it fits 64 bits.
 #[tactic(auto, unfolding(crate::specs::Values::fitting))]
 fn add_numbers(at: u32, left: i64, right: i64) -> Result<Val, RenderRefusal>
-    ensures { (k : ℕ → Option (Seen Object)) (shown : List Shown) (rest : Left) → Shows told (λ v. pair v rest) shown result (looked k shown (values.number_added at (left +ℤ right) rest)) }
+    ensures { (k : ℕ → Option (Seen Object)) (shown : List Shown) (rest : Left)
+        → Shows told (λ v. pair v rest) shown result (looked k shown (values.number_added at (left +ℤ right) rest)) }
 {
     match left.checked_add(right) {
         Some(sum) => Ok(number(sum)),
@@ -48,7 +49,8 @@ fn multiply_numbers(at: u32, left: i64, right: i64) -> Result<Val, RenderRefusal
 
 // Two texts as one, which is a text that is made.
 fn join(mut left: Text, right: &str, budget: &mut Budget) -> Result<Val, RenderRefusal>
-    ensures is { (k : ℕ → Option (Seen Object)) (shown : List Shown) → Shows told (λ v. (v, left_of budget.new)) shown result (looked k shown (values.text_joined (left ++ right.now) (left_of budget.old))) }
+    ensures is { (k : ℕ → Option (Seen Object)) (shown : List Shown)
+        → Shows told (λ v. (v, left_of budget.new)) shown result (looked k shown (values.text_joined (left ++ right.now) (left_of budget.old))) }
     ensures renders { budget.new.renders ≡ budget.old.renders }
     ensures tags { budget.new.tags ≡ budget.old.tags }
     ensures within { budget.new.output ≤ budget.old.output }
@@ -65,7 +67,8 @@ pub(crate) fn add(
     right: &Val,
     budget: &mut Budget,
 ) -> Result<Val, RenderRefusal>
-    ensures is { (k : ℕ → Option (Seen Object)) (shown : List Shown) → Shows told (λ v. (v, left_of budget.new)) shown result (looked k shown (values.added at left right.now (left_of budget.old))) }
+    ensures is { (k : ℕ → Option (Seen Object)) (shown : List Shown)
+        → Shows told (λ v. (v, left_of budget.new)) shown result (looked k shown (values.added at left right.now (left_of budget.old))) }
     ensures renders { budget.new.renders ≡ budget.old.renders }
     ensures tags { budget.new.tags ≡ budget.old.tags }
     ensures within { budget.new.output ≤ budget.old.output }
@@ -83,7 +86,8 @@ pub(crate) fn add(
 
 /// The difference of two numbers.
 pub(crate) fn subtract(at: u32, left: &Val, right: &Val) -> Result<Val, RenderRefusal>
-    ensures { (k : ℕ → Option (Seen Object)) (shown : List Shown) → Shows told (λ v. v) shown result (looked k shown (values.operated at values.Less left.now right.now)) }
+    ensures { (k : ℕ → Option (Seen Object)) (shown : List Shown)
+        → Shows told (λ v. v) shown result (looked k shown (values.operated at values.Less left.now right.now)) }
 {
     match (left, right) {
         (Val::Single(Single::Int(left)), Val::Single(Single::Int(right))) => {
@@ -95,7 +99,8 @@ pub(crate) fn subtract(at: u32, left: &Val, right: &Val) -> Result<Val, RenderRe
 
 /// The product of two numbers.
 pub(crate) fn multiply(at: u32, left: &Val, right: &Val) -> Result<Val, RenderRefusal>
-    ensures { (k : ℕ → Option (Seen Object)) (shown : List Shown) → Shows told (λ v. v) shown result (looked k shown (values.operated at values.Times left.now right.now)) }
+    ensures { (k : ℕ → Option (Seen Object)) (shown : List Shown)
+        → Shows told (λ v. v) shown result (looked k shown (values.operated at values.Times left.now right.now)) }
 {
     match (left, right) {
         (Val::Single(Single::Int(left)), Val::Single(Single::Int(right))) => {

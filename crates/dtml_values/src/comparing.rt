@@ -55,7 +55,8 @@ fn of_two_kinds(at: u32, order: Order) -> Result<Val, RenderRefusal>
 
 /// How two values compare: 1 or 0. Objects and sequences don't.
 pub(crate) fn compare(at: u32, order: Order, left: &Val, right: &Val) -> Result<Val, RenderRefusal>
-    ensures { (k : ℕ → Option (Seen Object)) (shown : List Shown) → Shows told (λ v. v) shown result (looked k shown (values.compared at order left.now right.now)) }
+    ensures { (k : ℕ → Option (Seen Object)) (shown : List Shown)
+        → Shows told (λ v. v) shown result (looked k shown (values.compared at order left.now right.now)) }
 {
     match (left, right) {
         (Val::Single(Single::Text(left)), Val::Single(Single::Text(right))) => {

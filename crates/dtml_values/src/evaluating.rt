@@ -57,7 +57,8 @@ fn left_side(expr: &Expr) -> Option<&Expr>
 // The expressions that have a left side, each the left side of the one before it, and the last left side, which has
 // none.
 fn chain_of<'a>(alloc: Global, expr: &'a Expr) -> Result<(Vec<&'a Expr>, &'a Expr), Memory>
-    ensures is { IfOk result (λ c. (scope : Scope) (at : ℕ) (left : Left) → evaluated scope at (view expr.now) left ≡ chains.chained scope at (view c.1.now) (reverse (chains.views c.0.items)) left) }
+    ensures is { IfOk result (λ c. (scope : Scope) (at : ℕ) (left : Left)
+        → evaluated scope at (view expr.now) left ≡ chains.chained scope at (view c.1.now) (reverse (chains.views c.0.items)) left) }
     ensures last { IfOk result (λ c. chains.left_side (view c.1.now) ≡ None) }
     ensures smaller { IfOk result (λ c. size-Expr c.1.now ≤ size-Expr expr.now) }
     ensures small { IfOk result (λ c. chains.AreWithin (size-Expr expr.now) c.0.items) }
@@ -84,7 +85,8 @@ pub fn evaluate(
     stack: &mut Stack<'_>,
     budget: &mut Budget,
 ) -> Result<Val, RenderRefusal>
-    ensures is { Shows told (λ v. (v, left_of budget.new)) stack.new.shown result (looked (objects stack.old.known) stack.old.shown (evaluated stack.old.scope at (view expr.now) (left_of budget.old))) }
+    ensures is { Shows told (λ v. (v, left_of budget.new)) stack.new.shown result
+        (looked (objects stack.old.known) stack.old.shown (evaluated stack.old.scope at (view expr.now) (left_of budget.old))) }
     ensures keeps { Keeps stack.old stack.new budget.old budget.new }
 {
     let known = stack.known();
@@ -102,7 +104,8 @@ fn evaluate_over(
     budget: &mut Budget,
 ) -> Result<Val, RenderRefusal>
     requires known { known.now ≡ stack.old.known }
-    ensures is { Shows told (λ v. (v, left_of budget.new)) stack.new.shown result (looked (objects known.now) stack.old.shown (evaluated stack.old.scope at (view expr.now) (left_of budget.old))) }
+    ensures is { Shows told (λ v. (v, left_of budget.new)) stack.new.shown result
+        (looked (objects known.now) stack.old.shown (evaluated stack.old.scope at (view expr.now) (left_of budget.old))) }
     ensures keeps { Keeps stack.old stack.new budget.old budget.new }
 {
     let (mut chain, inner) = chain_of(alloc, expr)?;
@@ -125,7 +128,8 @@ fn single(
 ) -> Result<Val, RenderRefusal>
     requires known { known.now ≡ stack.old.known }
     requires single { chains.left_side (view expr.now) ≡ None }
-    ensures is { Shows told (λ v. (v, left_of budget.new)) stack.new.shown result (looked (objects known.now) stack.old.shown (evaluated stack.old.scope at (view expr.now) (left_of budget.old))) }
+    ensures is { Shows told (λ v. (v, left_of budget.new)) stack.new.shown result
+        (looked (objects known.now) stack.old.shown (evaluated stack.old.scope at (view expr.now) (left_of budget.old))) }
     ensures keeps { Keeps stack.old stack.new budget.old budget.new }
 {
     match expr {
@@ -164,7 +168,8 @@ fn onto(
     budget: &mut Budget,
 ) -> Result<Val, RenderRefusal>
     requires known { known.now ≡ stack.old.known }
-    ensures is { Shows told (λ v. (v, left_of budget.new)) stack.new.shown result (looked (objects known.now) stack.old.shown (chains.onto stack.old.scope at (view expr.now) (left, left_of budget.old))) }
+    ensures is { Shows told (λ v. (v, left_of budget.new)) stack.new.shown result
+        (looked (objects known.now) stack.old.shown (chains.onto stack.old.scope at (view expr.now) (left, left_of budget.old))) }
     ensures keeps { Keeps stack.old stack.new budget.old budget.new }
 {
     match expr {
@@ -206,7 +211,9 @@ fn first_of(
     budget: &mut Budget,
 ) -> Result<Val, RenderRefusal>
     requires known { known.now ≡ stack.old.known }
-    ensures is { Shows told (λ v. (v, left_of budget.new)) stack.new.shown result (looked (objects known.now) stack.old.shown (first_of decides stack.old.scope at (list_view operands.now) (values.number (pos 0)) (left_of budget.old))) }
+    ensures is { Shows told (λ v. (v, left_of budget.new)) stack.new.shown result
+        (looked (objects known.now) stack.old.shown
+        (first_of decides stack.old.scope at (list_view operands.now) (values.number (pos 0)) (left_of budget.old))) }
     ensures keeps { Keeps stack.old stack.new budget.old budget.new }
 {
     let mut value = number(0);

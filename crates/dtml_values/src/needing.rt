@@ -57,7 +57,8 @@ pub fn object_in(at: u32, value: Val) -> Result<Wrapped, RenderRefusal>
 
 /// The value of a name in the stack, which must have one.
 pub(crate) fn value_of_name(name: &Text, stack: &mut Stack<'_>) -> Result<Val, RenderRefusal>
-    ensures is { Shows told (λ v. v) stack.new.shown result (looked (objects stack.old.known) stack.old.shown (expressions.value_of_name stack.old.scope name.now)) }
+    ensures is { Shows told (λ v. v) stack.new.shown result
+        (looked (objects stack.old.known) stack.old.shown (expressions.value_of_name stack.old.scope name.now)) }
     ensures known { stack.new.known ≡ stack.old.known }
     ensures scope { stack.new.scope ≡ stack.old.scope }
     ensures shown { Begins stack.old.shown stack.new.shown }
@@ -68,7 +69,8 @@ pub(crate) fn value_of_name(name: &Text, stack: &mut Stack<'_>) -> Result<Val, R
 
 // The value of a name in an object, which must have one.
 fn member_of(object: &Wrapped, name: &Text, stack: &mut Stack<'_>) -> Result<Val, RenderRefusal>
-    ensures is { Shows told (λ v. v) stack.new.shown result (looked (objects stack.old.known) stack.old.shown (expressions.member_of stack.old.scope name.now object.now)) }
+    ensures is { Shows told (λ v. v) stack.new.shown result
+        (looked (objects stack.old.known) stack.old.shown (expressions.member_of stack.old.scope name.now object.now)) }
     ensures known { stack.new.known ≡ stack.old.known }
     ensures scope { stack.new.scope ≡ stack.old.scope }
     ensures shown { Begins stack.old.shown stack.new.shown }
@@ -84,7 +86,8 @@ pub(crate) fn member(
     name: &Text,
     stack: &mut Stack<'_>,
 ) -> Result<Val, RenderRefusal>
-    ensures is { Shows told (λ v. v) stack.new.shown result (looked (objects stack.old.known) stack.old.shown (expressions.member stack.old.scope at value name.now)) }
+    ensures is { Shows told (λ v. v) stack.new.shown result
+        (looked (objects stack.old.known) stack.old.shown (expressions.member stack.old.scope at value name.now)) }
     ensures known { stack.new.known ≡ stack.old.known }
     ensures scope { stack.new.scope ≡ stack.old.scope }
     ensures shown { Begins stack.old.shown stack.new.shown }

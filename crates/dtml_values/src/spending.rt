@@ -13,7 +13,8 @@ use zbase::Text;
 
 /// A tag is evaluated. Takes no memory.
 pub fn spend_tag(budget: &mut Budget) -> Result<(), RenderRefusal>
-    ensures is { (k : ℕ → Option (Seen Object)) (shown : List Shown) → Shows told (λ u. left_of budget.new) shown result (looked k shown (values.spend_tag (left_of budget.old))) }
+    ensures is { (k : ℕ → Option (Seen Object)) (shown : List Shown)
+        → Shows told (λ u. left_of budget.new) shown result (looked k shown (values.spend_tag (left_of budget.old))) }
     ensures renders { budget.new.renders ≡ budget.old.renders }
     ensures output { budget.new.output ≡ budget.old.output }
     ensures less { OnOk result (budget.new.tags < budget.old.tags) }
@@ -28,7 +29,8 @@ pub fn spend_tag(budget: &mut Budget) -> Result<(), RenderRefusal>
 
 /// So many bytes of text are made.
 pub(crate) fn spend_output(bytes: usize, budget: &mut Budget) -> Result<(), RenderRefusal>
-    ensures is { (k : ℕ → Option (Seen Object)) (shown : List Shown) → Shows told (λ u. left_of budget.new) shown result (looked k shown (values.spend_output bytes (left_of budget.old))) }
+    ensures is { (k : ℕ → Option (Seen Object)) (shown : List Shown)
+        → Shows told (λ u. left_of budget.new) shown result (looked k shown (values.spend_output bytes (left_of budget.old))) }
     ensures renders { budget.new.renders ≡ budget.old.renders }
     ensures tags { budget.new.tags ≡ budget.old.tags }
     ensures within { budget.new.output ≤ budget.old.output }
@@ -42,7 +44,8 @@ pub(crate) fn spend_output(bytes: usize, budget: &mut Budget) -> Result<(), Rend
 
 /// A text is made, behind the text so far. Its bytes count.
 pub fn put(text: &str, budget: &mut Budget, out: &mut Text) -> Result<(), RenderRefusal>
-    ensures is { (k : ℕ → Option (Seen Object)) (shown : List Shown) → Shows told (λ u. left_of budget.new) shown result (looked k shown (values.spend_output (length text.now) (left_of budget.old))) }
+    ensures is { (k : ℕ → Option (Seen Object)) (shown : List Shown)
+        → Shows told (λ u. left_of budget.new) shown result (looked k shown (values.spend_output (length text.now) (left_of budget.old))) }
     ensures text { OnOk result (out.new ≡ out.old ++ text.now) }
     ensures renders { budget.new.renders ≡ budget.old.renders }
     ensures tags { budget.new.tags ≡ budget.old.tags }

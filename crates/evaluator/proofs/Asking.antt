@@ -1,33 +1,18 @@
 -- What is kept of the facts that an evaluation asks for: they are true, each was asked for given those before it,
 -- and none twice.
-use Rattle.std.proofs.Common.{◌≡◌, ◌∙◌, ℕ, zero, suc, ◌<◌, Bool, true, false, cond, List, [], ◌∷◌, ◌++◌, length, get_or, Some, None, refl, sym, ap, subst, arith}
+use Rattle.std.proofs.Common.{◌≡◌, ◌∙◌, List, [], ◌∷◌, ◌++◌, refl, sym, ap}
 use Rattle.std.specs.Prelude.{AllPairs, ◌≢◌}
-use Rattle.std.proofs.lemmas.List.Quantifiers.{all_pairs_push}
 use Rattle.zbase.specs.History.{History}
 use Rattle.evaluator.specs.declared.ask.Ask.{Ask}
 use Rattle.evaluator.specs.declared.fact.Fact.{Fact}
 use Rattle.evaluator.specs.declared.outcome.Outcome.{Outcome}
 use Rattle.evaluator.specs.Exec.{Eval, IsDecided, IsLawful, IsTrail}
-use Rattle.evaluator.specs.Facts.{fact, ask_of, same_ask, look, TrueOf}
-use Rattle.evaluator.specs.FactLaws.{same_self, fact_asked, trail_push}
+use Rattle.evaluator.specs.Facts.{fact, ask_of, look, TrueOf}
+use Rattle.evaluator.specs.FactLaws.{fact_asked, once_push, trail_push}
 
 true_push : (h : History) (facts : List Fact) (f : Fact) → TrueOf facts h → f ≡ fact h (ask_of f) → TrueOf (facts ++ f ∷ []) h
 true_push h [] f all is = (is, tt)
 true_push h (g ∷ gs) f all is = (all.0, true_push h gs f all.1 is)
-
--- no fact answers an ask that isn't known
-other_asks : (facts : List Fact) (ask : Ask) → look facts ask ≡ None → (k : ℕ) (d : Fact) → k < length facts → ask_of (get_or facts k d) ≢ ask
-other_asks [] ask none k d below same = omega arith
-other_asks (g ∷ gs) ask none k d below same = go (same_ask (ask_of g) ask) refl none k below same (λ unknown j lt e. other_asks gs ask unknown j d lt e)
-  where
-    go : (b : Bool) → same_ask (ask_of g) ask ≡ b → cond b (Some g) (look gs ask) ≡ None → (j : ℕ) → j < length (g ∷ gs) → ask_of (get_or (g ∷ gs) j d) ≡ ask → (look gs ask ≡ None → (i : ℕ) → i < length gs → ask_of (get_or gs i d) ≡ ask → ⊥) → ⊥
-    go true is e zero lt same' deeper = cc
-    go true is e (suc j) lt same' deeper = cc
-    go false is e zero lt same' deeper = (let self : same_ask ask ask ≡ true = same_self ask in let other : same_ask ask ask ≡ false = subst (λ a. same_ask a ask ≡ false) same' is in cc)
-    go false is e (suc j) lt same' deeper = deeper e j (omega arith) same'
-
-once_push : (facts : List Fact) (f : Fact) → AllPairs (λ x y. ask_of x ≢ ask_of y) facts → look facts (ask_of f) ≡ None → AllPairs (λ x y. ask_of x ≢ ask_of y) (facts ++ f ∷ [])
-once_push facts f once none = all_pairs_push (λ x y. ask_of x ≢ ask_of y) facts f once (λ k d below. other_asks facts (ask_of f) none k d below)
 
 -- facts of a history that an evaluation asked for
 pub record AreAsked {R : Type 0} (eval : Eval R) (h : History) (q : R) (facts : List Fact) : Type 0 where

@@ -9,6 +9,7 @@ use Rattle.evaluator.specs.declared.draft.Hole.{Hole}
 use Rattle.evaluator.specs.declared.draft.Name.{Name}
 use Rattle.evaluator.specs.declared.fact.Fact.{Fact}
 use Rattle.evaluator.specs.declared.fact.Part.{Part}
+use Rattle.evaluator.specs.declared.permission.TheConstants.{PERMISSIONS}
 use Rattle.evaluator.specs.declared.reply.Reply.{Reply}
 
 -- the object that an entry is about
@@ -71,7 +72,7 @@ abbrev pub statuses : List ℕ
 statuses = 200 ∷ 400 ∷ 401 ∷ 404 ∷ 411 ∷ 413 ∷ 414 ∷ 415 ∷ 431 ∷ 500 ∷ 501 ∷ 503 ∷ []
 
 abbrev pub IsPermission : ℕ → Type 0
-IsPermission n = (0 < n) × (n ≤ 12)
+IsPermission n = (0 < n) × (n ≤ PERMISSIONS)
 
 pub record IsReply (x : Reply) : Type 0 where
   pub status : list_any (λ n. n == x.status) statuses ≡ true

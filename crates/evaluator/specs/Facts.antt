@@ -1,5 +1,5 @@
 -- Facts: what a history answers to an ask, and what a list of facts knows.
-use Rattle.std.specs.Prelude.{ℕ, ◌≡◌, ◌==◌, Bool, true, false, List, [], ◌∷◌, map, find, Option, option_map, if◌then◌else◌}
+use Rattle.std.specs.Prelude.{ℕ, ◌≡◌, ◌≢◌, ◌==◌, AllPairs, Bool, true, false, List, [], ◌∷◌, map, filter, find, Option, None, option_map, nat_lt, if◌then◌else◌}
 use Rattle.std.specs.List.{list_any, AllByRecursion}
 use Rattle.zbase.specs.History.{Value, Transaction, History}
 use Rattle.zbase.specs.Values.{value, serial, before, transaction}
@@ -24,11 +24,19 @@ parts_of h x = map (part_of (before h x.tid)) (last_records x.records)
 abbrev pub log_row : Transaction → LogRow
 log_row x = record { tid = x.tid; user = x.user; description = x.description }
 
+-- What can be undone: the transactions above the floor. Those up to it were packed, so that what they changed is no
+-- longer known.
+abbrev pub unpacked : History → List Transaction
+unpacked h = filter (λ x. nat_lt h.floor x.tid) h.transactions
+
+abbrev pub unpacked_at : History → ℕ → Option Transaction
+unpacked_at h t = if nat_lt h.floor t then transaction h t else None
+
 -- what the history answers
 abbrev pub fact : History → Ask → Fact
 fact h (Ask.Object o) = Fact.Object o (value h o) (serial h o)
-fact h (Ask.Transaction t) = Fact.Transaction t (option_map (parts_of h) (transaction h t))
-fact h Ask.Log = Fact.Log (map log_row h.transactions)
+fact h (Ask.Transaction t) = Fact.Transaction t (option_map (parts_of h) (unpacked_at h t))
+fact h Ask.Log = Fact.Log (map log_row (unpacked h))
 
 -- the ask that a fact answers
 abbrev pub ask_of : Fact → Ask
@@ -49,3 +57,7 @@ look facts ask = find (λ f. same_ask (ask_of f) ask) facts
 -- each fact is the one that the history gives
 abbrev pub TrueOf : List Fact → History → Type 0
 TrueOf facts h = AllByRecursion (λ f. f ≡ fact h (ask_of f)) facts
+
+-- no two of them answer the same ask
+abbrev pub EachOnce : List Fact → Type 0
+EachOnce facts = AllPairs (λ f g. ask_of f ≢ ask_of g) facts

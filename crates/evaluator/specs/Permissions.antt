@@ -7,7 +7,8 @@ abbrev pub permission_names : List (List ℕ)
 permission_names =
     codes "View" ∷ codes "Access contents information" ∷ codes "Add Folders" ∷ codes "Add Documents, Images, and Files"
     ∷ codes "Change DTML Methods" ∷ codes "Change DTML Documents" ∷ codes "Delete objects" ∷ codes "Manage properties"
-    ∷ codes "Change permissions" ∷ codes "Manage users" ∷ codes "Add User Folders" ∷ codes "Undo changes" ∷ []
+    ∷ codes "Change permissions" ∷ codes "Manage users" ∷ codes "Add User Folders" ∷ codes "Undo changes"
+    ∷ codes "Change proxy roles" ∷ []
 
 -- nothing where there is none
 abbrev pub text_or_none : Option (List ℕ) → List ℕ

@@ -14,6 +14,7 @@ use Rattle.evaluator.specs.Cells.{eval_cell, line_reply, takes_cell, written}
 use Rattle.evaluator.specs.Exec.{exec}
 use Rattle.evaluator.specs.Facts.{fact, look}
 use Rattle.evaluator.specs.Permissions.{permission_text}
+use Rattle.zbase.specs.Values.{before, upto}
 
 abbrev wrote : ℕ → List (ℕ × Value) → Transaction
 wrote t records = record { tid = t; user = []; description = []; extension = []; records = records }
@@ -54,6 +55,38 @@ parts = refl
 
 rows : fact worked Ask.Log ≡ Fact.Log (row_of 5 ∷ row_of 7 ∷ row_of 9 ∷ [])
 rows = refl
+
+-- The same transactions behind a pack: what the packed ones changed is no longer known, and no row is left of them; the
+-- values stay, and so does what the later ones changed.
+abbrev packed_to : ℕ → History
+packed_to floor = record { floor = floor; transactions = worked.transactions }
+
+packed_values : map (λ o. fact (packed_to 6) (Ask.Object o)) (1 ∷ 2 ∷ []) ≡ Fact.Object 1 (Some (codes "c")) 7 ∷ Fact.Object 2 (Some (codes "z")) 5 ∷ []
+packed_values = refl
+
+packed_parts : map (λ t. fact (packed_to 6) (Ask.Transaction t)) (5 ∷ 6 ∷ 7 ∷ []) ≡ Fact.Transaction 5 None ∷ Fact.Transaction 6 None ∷ Fact.Transaction 7 (Some parts_of_7) ∷ []
+packed_parts = refl
+
+packed_rows : fact (packed_to 6) Ask.Log ≡ Fact.Log (row_of 7 ∷ row_of 9 ∷ [])
+packed_rows = refl
+
+-- the floor itself was packed too
+at_floor : map (λ t. fact (packed_to 7) (Ask.Transaction t)) (7 ∷ 9 ∷ []) ≡ Fact.Transaction 7 None ∷ Fact.Transaction 9 (Some parts_of_9) ∷ []
+at_floor = refl
+
+-- with the floor at the last transaction, or behind it, nothing can be undone, and every value stays
+at_last : map (fact (packed_to 9)) (Ask.Object 1 ∷ Ask.Transaction 9 ∷ Ask.Log ∷ []) ≡ Fact.Object 1 (Some (codes "c")) 7 ∷ Fact.Transaction 9 None ∷ Fact.Log [] ∷ []
+at_last = refl
+
+behind_last : map (fact (packed_to 12)) (Ask.Object 1 ∷ Ask.Transaction 9 ∷ Ask.Log ∷ []) ≡ Fact.Object 1 (Some (codes "c")) 7 ∷ Fact.Transaction 9 None ∷ Fact.Log [] ∷ []
+behind_last = refl
+
+-- what stood up to an id keeps the floor, so that its facts look at it too
+floors_stay : ((upto (packed_to 6) 7).floor ≡ 6) × ((before (packed_to 6) 7).floor ≡ 6)
+floors_stay = (refl, refl)
+
+packed_front : map (fact (upto (packed_to 6) 7)) (Ask.Transaction 5 ∷ Ask.Transaction 7 ∷ Ask.Transaction 9 ∷ Ask.Log ∷ []) ≡ Fact.Transaction 5 None ∷ Fact.Transaction 7 (Some parts_of_7) ∷ Fact.Transaction 9 None ∷ Fact.Log (row_of 7 ∷ []) ∷ []
+packed_front = refl
 
 -- ---- what is known of each ask
 
@@ -117,6 +150,6 @@ no_requests = refl
 
 -- ---- the names of permissions
 
-names : map permission_text (0 ∷ 1 ∷ 2 ∷ 3 ∷ 4 ∷ 5 ∷ 6 ∷ 7 ∷ 8 ∷ 9 ∷ 10 ∷ 11 ∷ 12 ∷ 13 ∷ []) ≡ [] ∷ codes "View" ∷ codes "Access contents information" ∷ codes "Add Folders" ∷ codes "Add Documents, Images, and Files" ∷ codes "Change DTML Methods" ∷ codes "Change DTML Documents" ∷ codes "Delete objects" ∷ codes "Manage properties" ∷ codes "Change permissions" ∷ codes "Manage users" ∷ codes "Add User Folders" ∷ codes "Undo changes" ∷ [] ∷ []
+names : map permission_text (0 ∷ 1 ∷ 2 ∷ 3 ∷ 4 ∷ 5 ∷ 6 ∷ 7 ∷ 8 ∷ 9 ∷ 10 ∷ 11 ∷ 12 ∷ 13 ∷ 14 ∷ []) ≡ [] ∷ codes "View" ∷ codes "Access contents information" ∷ codes "Add Folders" ∷ codes "Add Documents, Images, and Files" ∷ codes "Change DTML Methods" ∷ codes "Change DTML Documents" ∷ codes "Delete objects" ∷ codes "Manage properties" ∷ codes "Change permissions" ∷ codes "Manage users" ∷ codes "Add User Folders" ∷ codes "Undo changes" ∷ codes "Change proxy roles" ∷ [] ∷ []
 unfolding permission_text
 names = refl

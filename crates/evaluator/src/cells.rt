@@ -227,7 +227,7 @@ impl Evaluator for Cells {
 
     ghost few_asks = { cells_ask_few };
 
-    ghost changes = { cell_changes };
+    ghost changes = { λ facts. cell_changes (look facts) };
 
     ghost replies = { cell_replies };
 }

@@ -50,7 +50,8 @@ pub fn outcome_over<E: Evaluator, S: Snapshot>(
     ensures true_facts { IfOk result (λ it. TrueOf it.facts (S.history snapshot.now)) }
     ensures few { IfOk result (λ it. length it.facts ≤ most_asks) }
     ensures once { IfOk result (λ it. AllPairs (λ f g. ask_of f ≢ ask_of g) it.facts) }
-    ensures lasting { IfOk result (λ it. (reply : Reply) (draft : Draft) → it.outcome ≡ Change reply draft → E.meaning (look (filter is_lasting it.facts)) request.now ≡ Change reply draft) }
+    ensures lasting { IfOk result (λ it. (reply : Reply) (draft : Draft) → it.outcome ≡ Change reply draft
+        → E.meaning (look (filter is_lasting it.facts)) request.now ≡ Change reply draft) }
     ensures change { IfOk result (λ it. (reply : Reply) (draft : Draft) → it.outcome ≡ Change reply draft → IsChange (look it.facts) draft × IsReply reply) }
     ensures reply { IfOk result (λ it. (reply : Reply) → it.outcome ≡ Answer reply → IsReply reply) }
 {

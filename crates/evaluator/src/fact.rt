@@ -41,7 +41,7 @@ pub enum Fact {
     },
     Transaction {
         tid: Tid,
-        /// None exactly where the history has no transaction with this id.
+        /// None exactly where the history has no transaction with this id above its floor.
         parts: Option<Parts>,
     },
     Log(LogRows),

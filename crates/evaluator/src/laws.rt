@@ -20,28 +20,34 @@ pub fn questions_rest_on_what_is_known<P, R, E, A>()
 /// The run of two questions, one after the other, is the run of the second over the value of the first; what stops
 /// the first stops both.
 pub fn questions_follow_one_another<P, R, E, A, B>()
-    ensures then { (known : P → Option R) (q : Query P R E A) (next : A → Query P R E B) → run known (q >>> next) ≡ and_then (run known q) (λ x. run known (next x)) }
-    ensures goes { (known : P → Option R) (q : Query P R E A) (next : A → Query P R E B) (x : A) → run known q ≡ Ok x → run known (q >>> next) ≡ run known (next x) }
-    ensures passes { (known : P → Option R) (q : Query P R E A) (next : A → Query P R E B) (halt : Option (Halt P E)) → Told halt (run known q) → Told halt (run known (q >>> next)) }
+    ensures then { (known : P → Option R) (q : Query P R E A) (next : A → Query P R E B)
+        → run known (q >>> next) ≡ and_then (run known q) (λ x. run known (next x)) }
+    ensures goes { (known : P → Option R) (q : Query P R E A) (next : A → Query P R E B) (x : A) → run known q ≡ Ok x
+        → run known (q >>> next) ≡ run known (next x) }
+    ensures passes { (known : P → Option R) (q : Query P R E A) (next : A → Query P R E B) (halt : Option (Halt P E)) → Told halt (run known q)
+        → Told halt (run known (q >>> next)) }
 {}
 
 /// A question with its causes in other words has the same value; what stops it is said in the other words.
 pub fn causes_are_reworded<P, R, E, F, A>()
     ensures goes { (known : P → Option R) (reword : E → F) (q : Query P R E A) (x : A) → run known q ≡ Ok x → run known (or_else reword q) ≡ Ok x }
-    ensures passes { (known : P → Option R) (reword : E → F) (q : Query P R E A) (halt : Option (Halt P E)) → Told halt (run known q) → Told (worded reword halt) (run known (or_else reword q)) }
+    ensures passes { (known : P → Option R) (reword : E → F) (q : Query P R E A) (halt : Option (Halt P E)) → Told halt (run known q)
+        → Told (worded reword halt) (run known (or_else reword q)) }
 {}
 
 /// An evaluator whose evaluations are questions keeps the laws of an evaluator, as long as a change asks for nothing
 /// that passes; and no trail of its facts is longer than a way through the question.
 pub fn questions_are_lawful<R>()
     ensures lawful { (evaluation : R → Evaluation) → ((q : R) → IsCareful (evaluation q)) → IsLawful (meaning_of evaluation) }
-    ensures few_asks { (evaluation : R → Evaluation) (q : R) (n : ℕ) (facts : List Fact) → IsWithin n (evaluation q) → IsTrail (λ known. meaning_of evaluation (look known) q) facts → length facts ≤ n }
+    ensures few_asks { (evaluation : R → Evaluation) (q : R) (n : ℕ) (facts : List Fact) → IsWithin n (evaluation q)
+        → IsTrail (λ known. meaning_of evaluation (look known) q) facts → length facts ≤ n }
 {}
 
 /// Over objects alone a question asks for nothing that passes, and comes to what it comes to over the objects that
 /// the facts show.
 pub fn objects_last<R, E, A>()
-    ensures careful { (seen : Fact → R) (q : Query ℕ R Reply A) (next : A → Evaluation) → ((x : A) → IsCareful (next x)) → IsCareful (over_facts seen q >>> next) }
+    ensures careful { (seen : Fact → R) (q : Query ℕ R Reply A) (next : A → Evaluation) → ((x : A) → IsCareful (next x))
+        → IsCareful (over_facts seen q >>> next) }
     ensures run { (seen : Fact → R) (known : Ask → Option Fact) (q : Query ℕ R E A) → run known (over_facts seen q) ≡ as_ask (run (objects_of seen known) q) }
 {}
 
@@ -50,7 +56,9 @@ pub fn objects_last<R, E, A>()
 pub fn limits_are_counts()
     ensures within { (runaway : Reply) (q : Evaluation) → IsWithin most_asks (within_limits runaway q) }
     ensures careful { (runaway : Reply) (q : Evaluation) → IsCareful q → IsCareful (within_limits runaway q) }
-    ensures counted { (runaway : Reply) (q : Evaluation) (facts : List Fact) → IsTrail (λ known. outcome (run (look known) (within_limits runaway q))) facts → run (look facts) (within_limits runaway q) ≡ judged runaway facts (run (look facts) q) }
+    ensures counted { (runaway : Reply) (q : Evaluation) (facts : List Fact)
+        → IsTrail (λ known. outcome (run (look known) (within_limits runaway q))) facts
+        → run (look facts) (within_limits runaway q) ≡ judged runaway facts (run (look facts) q) }
 {}
 
 /// Each request of cells is read from its text, and from no other.

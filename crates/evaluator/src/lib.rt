@@ -19,7 +19,7 @@ mod fact;
 mod laws;
 mod meaning;
 mod outcome;
-mod permission;
+pub mod permission;
 mod reply;
 
 pub use ask::Ask;

@@ -58,8 +58,10 @@ pub trait Evaluator: Drop {
     /// No evaluation asks for more than 12,000 facts.
     ghost few_asks: { (facts : List Fact) (request : Self.Request) → IsTrail (λ known. meaning (look known) request) facts → length facts ≤ most_asks };
 
-    /// Every change keeps the rules of a change, and its reply those of a reply.
-    ghost changes: { (known : Ask → Option Fact) (request : Self.Request) (reply : Reply) (draft : Draft) → meaning known request ≡ Change reply draft → IsChange known draft × IsReply reply };
+    /// Every change keeps the rules of a change, and its reply those of a reply. It is promised for lists of facts, each
+    /// of which tells of what it was asked for, and not for what might be told of one object by another's fact.
+    ghost changes: { (facts : List Fact) (request : Self.Request) (reply : Reply) (draft : Draft)
+        → meaning (look facts) request ≡ Change reply draft → IsChange (look facts) draft × IsReply reply };
 
     /// Every answer keeps the rules of a reply.
     ghost replies: { (known : Ask → Option Fact) (request : Self.Request) (reply : Reply) → meaning known request ≡ Answer reply → IsReply reply };

@@ -24,7 +24,8 @@ pub(crate) fn put_name(
     name: &str,
     place: usize,
 ) -> Result<(), Memory>
-    ensures { OnOk result ((names : List (List ℕ)) → AreAt names places.old → position (λ n. bytes_eq n name.now) names ≡ None → place ≡ length names → AreAt (names ++ name.now ∷ []) places.new) }
+    ensures { OnOk result ((names : List (List ℕ)) → AreAt names places.old → position (λ n. bytes_eq n name.now) names ≡ None → place ≡ length names
+        → AreAt (names ++ name.now ∷ []) places.new) }
 {
     let key = String::from_str(alloc, name)?;
     places.insert(key, place)?;

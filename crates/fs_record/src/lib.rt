@@ -1,10 +1,10 @@
 //! Records of a storage file as bytes, and what a file is.
 //!
-//! `specs/Spelling` says how a transaction is spelled, whatever its fields say; `specs/File` which spellings make
-//! a file one behind another, and the history that it says; `specs/Standing` where the records of that history
-//! stand, and `specs/Walks` how an object's previous places lead back through it; `specs/Opening` where a file ends: at its end, before a torn rest, or before damage; `specs/Reading` the
-//! same as a function of the bytes; `specs/Written` which transaction is written, and what makes it right behind a
-//! file; `specs/Worked` has rows worked by hand.
+//! `specs/Spelling` says how a transaction is spelled, whatever its fields say; `specs/File` which spellings make a
+//! file one behind another, and the history that it says; `specs/Standing` where the records of that history stand, and
+//! `specs/Walks` how an object's previous places lead back through it; `specs/Opening` where a file ends: at its end,
+//! before a torn rest, or before damage; `specs/Reading` the same as a function of the bytes; `specs/Written` which
+//! transaction is written, and what makes it right behind a file; `specs/Worked` has rows worked by hand.
 #![tactic(auto)]
 
 mod body;

@@ -71,7 +71,8 @@ fn has_value(bytes: &[u8], place: u64) -> bool
 
 /// How many of these data records mean a value.
 fn count_present(bytes: &[u8], rows: &[Row]) -> u64
-    ensures { (records : List Earlier) → AllStand bytes.now records → ArePlaces records rows.now → result ≡ length (filter (λ row. means_value records row.place) rows.now) }
+    ensures { (records : List Earlier) → AllStand bytes.now records → ArePlaces records rows.now
+        → result ≡ length (filter (λ row. means_value records row.place) rows.now) }
 {
     let mut count = 0;
     'rows: for row in rows {
@@ -104,7 +105,8 @@ pub fn check_bytes(alloc: Global, bytes: &[u8]) -> Result<Checked, ScanRefusal>
 /// The numbers of the file of a disk, or what is wrong with it and where. It reads the file once and changes nothing.
 pub fn check<D: Disk>(alloc: Global, disk: &mut D) -> Result<Checked, ScanRefusal>
     ensures told { IfOk result (λ checked. IfSome (D.told disk.old) (λ told. Checks (content told) checked)) }
-    ensures damaged { (kind : Kind) (place : ℕ) → IsErrOf result (ScanRefusal.Damaged kind place) → IfSome (D.told disk.old) (λ told. Damaged (content told) place kind) }
+    ensures damaged { (kind : Kind) (place : ℕ) → IsErrOf result (ScanRefusal.Damaged kind place)
+        → IfSome (D.told disk.old) (λ told. Damaged (content told) place kind) }
     ensures only_reads { OnlyReads D.Disk disk.old disk.new (IsErrOf result ScanRefusal.Disk) }
 {
     let bytes = read_whole(alloc, disk)?;

@@ -22,7 +22,8 @@ use zdisk::Disk;
 /// None only where no record can stand there.
 pub fn read_head<D: Disk>(disk: &mut D, len: u64, at: u64) -> Result<Option<DataHead>, Failed>
     requires { ForSome (D.told disk.old) (λ told. len ≡ length (content told)) }
-    ensures head { IfOk result (λ head. IfSome (D.told disk.old) (λ told. (d : Data) (more : List ℕ) → FitsData d → drop at (content told) ≡ data_spelling d ++ more → head ≡ Some (head_of d))) }
+    ensures head { IfOk result (λ head. IfSome (D.told disk.old)
+        (λ told. (d : Data) (more : List ℕ) → FitsData d → drop at (content told) ≡ data_spelling d ++ more → head ≡ Some (head_of d))) }
     ensures reads { (D.counter disk.new).calls ≤ (D.counter disk.old).calls + 1 }
     ensures only_reads { OnlyReads D.Disk disk.old disk.new (IsErr result) }
 {
@@ -48,7 +49,8 @@ fn body_behind<D: Disk>(
     head: &DataHead,
 ) -> Result<Option<Body>, ScanRefusal>
     requires { ForSome (D.told disk.old) (λ told. len ≡ length (content told)) }
-    ensures body { IfOk result (λ body. IfSome (D.told disk.old) (λ told. (d : Data) (more : List ℕ) → FitsData d → drop at (content told) ≡ data_spelling d ++ more → head.now ≡ head_of d → body ≡ Some d.body)) }
+    ensures body { IfOk result (λ body. IfSome (D.told disk.old)
+        (λ told. (d : Data) (more : List ℕ) → FitsData d → drop at (content told) ≡ data_spelling d ++ more → head.now ≡ head_of d → body ≡ Some d.body)) }
     ensures undamaged { (kind : Kind) (place : ℕ) → IsErrOf result (ScanRefusal.Damaged kind place) → ⊥ }
     ensures reads { (D.counter disk.new).calls ≤ (D.counter disk.old).calls + 1 }
     ensures only_reads { OnlyReads D.Disk disk.old disk.new (IsErrOf result ScanRefusal.Disk) }
@@ -84,10 +86,13 @@ pub fn follow_from<D: Disk>(
     head: &DataHead,
 ) -> Result<Value, ScanRefusal>
     requires len { ForSome (D.told disk.old) (λ told. len ≡ length (content told)) }
-    requires head { IfSome (D.told disk.old) (λ told. (d : Data) (more : List ℕ) → FitsData d → drop place (content told) ≡ data_spelling d ++ more → head.now ≡ head_of d) }
-    ensures value { IfOk result (λ value. IfSome (D.told disk.old) (λ told. (records : List Earlier) (oid : ℕ) → AllStand (content told) records → IsPlace records oid place → value ≡ value_at place records)) }
+    requires head { IfSome (D.told disk.old) (λ told. (d : Data) (more : List ℕ) → FitsData d → drop place (content told) ≡ data_spelling d ++ more
+        → head.now ≡ head_of d) }
+    ensures value { IfOk result (λ value. IfSome (D.told disk.old)
+        (λ told. (records : List Earlier) (oid : ℕ) → AllStand (content told) records → IsPlace records oid place → value ≡ value_at place records)) }
     ensures undamaged { (kind : Kind) (place : ℕ) → IsErrOf result (ScanRefusal.Damaged kind place) → ⊥ }
-    ensures reads { IfSome (D.told disk.old) (λ told. (records : List Earlier) (oid : ℕ) → AllStand (content told) records → IsPlace records oid place → CostsBacks (content told) place (D.counter disk.old).calls (D.counter disk.new).calls) }
+    ensures reads { IfSome (D.told disk.old) (λ told. (records : List Earlier) (oid : ℕ) → AllStand (content told) records → IsPlace records oid place
+        → CostsBacks (content told) place (D.counter disk.old).calls (D.counter disk.new).calls) }
     ensures only_reads { OnlyReads D.Disk disk.old disk.new (IsErrOf result ScanRefusal.Disk) }
 {
     let mut at = place;
@@ -121,7 +126,9 @@ fn back_behind<D: Disk>(
 ) -> Result<Option<u64>, Failed>
     requires len { ForSome (D.told disk.old) (λ told. len ≡ length (content told)) }
     requires no_data { head.now.length ≡ 0 }
-    ensures back { IfOk result (λ back. IfSome (D.told disk.old) (λ told. (d : Data) (more : List ℕ) → FitsData d → drop at (content told) ≡ data_spelling d ++ more → head.now ≡ head_of d → option_map Back back ≡ Some d.body)) }
+    ensures back { IfOk result (λ back. IfSome (D.told disk.old)
+        (λ told. (d : Data) (more : List ℕ) → FitsData d → drop at (content told) ≡ data_spelling d ++ more → head.now ≡ head_of d
+        → option_map Back back ≡ Some d.body)) }
     ensures reads { (D.counter disk.new).calls ≤ (D.counter disk.old).calls + 1 }
     ensures only_reads { OnlyReads D.Disk disk.old disk.new (IsErr result) }
 {
@@ -144,9 +151,13 @@ pub fn data_place<D: Disk>(
     head: &DataHead,
 ) -> Result<u64, Failed>
     requires len { ForSome (D.told disk.old) (λ told. len ≡ length (content told)) }
-    requires head { IfSome (D.told disk.old) (λ told. (d : Data) (more : List ℕ) → FitsData d → drop place (content told) ≡ data_spelling d ++ more → head.now ≡ head_of d) }
-    ensures data_stands { IfOk result (λ at. IfSome (D.told disk.old) (λ told. (records : List Earlier) (oid : ℕ) → AllStand (content told) records → IsPlace records oid place → 0 < place → HasDataOf (content told) records oid place at)) }
-    ensures reads { IfSome (D.told disk.old) (λ told. (records : List Earlier) (oid : ℕ) → AllStand (content told) records → IsPlace records oid place → CostsBacks (content told) place (D.counter disk.old).calls (D.counter disk.new).calls) }
+    requires head { IfSome (D.told disk.old) (λ told. (d : Data) (more : List ℕ) → FitsData d → drop place (content told) ≡ data_spelling d ++ more
+        → head.now ≡ head_of d) }
+    ensures data_stands { IfOk result (λ at. IfSome (D.told disk.old)
+        (λ told. (records : List Earlier) (oid : ℕ) → AllStand (content told) records → IsPlace records oid place → 0 < place
+        → HasDataOf (content told) records oid place at)) }
+    ensures reads { IfSome (D.told disk.old) (λ told. (records : List Earlier) (oid : ℕ) → AllStand (content told) records → IsPlace records oid place
+        → CostsBacks (content told) place (D.counter disk.old).calls (D.counter disk.new).calls) }
     ensures only_reads { OnlyReads D.Disk disk.old disk.new (IsErr result) }
 {
     let mut at = place;
@@ -177,7 +188,8 @@ pub fn follow<D: Disk>(
     place: u64,
 ) -> Result<Value, ScanRefusal>
     requires { ForSome (D.told disk.old) (λ told. len ≡ length (content told)) }
-    ensures value { IfOk result (λ value. IfSome (D.told disk.old) (λ told. (records : List Earlier) (oid : ℕ) → AllStand (content told) records → IsPlace records oid place → value ≡ value_at place records)) }
+    ensures value { IfOk result (λ value. IfSome (D.told disk.old)
+        (λ told. (records : List Earlier) (oid : ℕ) → AllStand (content told) records → IsPlace records oid place → value ≡ value_at place records)) }
     ensures undamaged { (kind : Kind) (place : ℕ) → IsErrOf result (ScanRefusal.Damaged kind place) → ⊥ }
     ensures only_reads { OnlyReads D.Disk disk.old disk.new (IsErrOf result ScanRefusal.Disk) }
 {

@@ -180,7 +180,8 @@ pub fn read_whole<D: Disk>(alloc: Global, disk: &mut D) -> Result<Vec<u8>, ScanR
 /// FileStorage format notes: a file is read forward from its start, and a write that was broken off ends it.
 pub fn scan<D: Disk>(alloc: Global, disk: &mut D) -> Result<Scanned, ScanRefusal>
     ensures told { IfOk result (λ scanned. IfSome (D.told disk.old) (λ told. Tells (content told) scanned)) }
-    ensures damaged { (kind : Kind) (place : ℕ) → IsErrOf result (ScanRefusal.Damaged kind place) → IfSome (D.told disk.old) (λ told. Damaged (content told) place kind) }
+    ensures damaged { (kind : Kind) (place : ℕ) → IsErrOf result (ScanRefusal.Damaged kind place)
+        → IfSome (D.told disk.old) (λ told. Damaged (content told) place kind) }
     ensures reads { IfSome (D.told disk.old) (λ told. CostsScan (content told) (D.counter disk.old).calls (D.counter disk.new).calls) }
     ensures only_reads { OnlyReads D.Disk disk.old disk.new (IsErrOf result ScanRefusal.Disk) }
 {

@@ -23,7 +23,8 @@ use zdisk::Disk;
 /// only where no transaction can stand there.
 pub fn read_txn<D: Disk>(disk: &mut D, len: u64, at: u64) -> Result<Option<TxnHead>, Failed>
     requires { ForSome (D.told disk.old) (λ told. len ≡ length (content told)) }
-    ensures head { IfOk result (λ head. IfSome (D.told disk.old) (λ told. (b : Block) (more : List ℕ) → Stands b (drop at (content told)) more → head ≡ Some (txn_head_of b))) }
+    ensures head { IfOk result (λ head. IfSome (D.told disk.old)
+        (λ told. (b : Block) (more : List ℕ) → Stands b (drop at (content told)) more → head ≡ Some (txn_head_of b))) }
     ensures reads { (D.counter disk.new).calls ≤ (D.counter disk.old).calls + 1 }
     ensures only_reads { OnlyReads D.Disk disk.old disk.new (IsErr result) }
 {
@@ -48,7 +49,8 @@ fn read_piece<D: Disk>(
     size: u64,
 ) -> Result<Option<Vec<u8>>, ScanRefusal>
     requires { ForSome (D.told disk.old) (λ told. len ≡ length (content told)) }
-    ensures piece { IfOk result (λ piece. IfSome (D.told disk.old) (λ told. MatchOption piece (length (content told) < at + size) (λ bytes. bytes.items ≡ bytes_at told at size))) }
+    ensures piece { IfOk result (λ piece. IfSome (D.told disk.old)
+        (λ told. MatchOption piece (length (content told) < at + size) (λ bytes. bytes.items ≡ bytes_at told at size))) }
     ensures size { IfOk result (λ piece. IfSome piece (λ bytes. length bytes.items ≡ size)) }
     ensures undamaged { (kind : Kind) (place : ℕ) → IsErrOf result (ScanRefusal.Damaged kind place) → ⊥ }
     ensures reads { (D.counter disk.new).calls ≤ (D.counter disk.old).calls + 1 }
@@ -74,7 +76,8 @@ pub fn texts_at<D: Disk>(
     head: &TxnHead,
 ) -> Result<Option<TxnTexts>, ScanRefusal>
     requires { ForSome (D.told disk.old) (λ told. len ≡ length (content told)) }
-    ensures texts { IfOk result (λ texts. IfSome (D.told disk.old) (λ told. (b : Block) (more : List ℕ) → Stands b (drop at (content told)) more → head.now ≡ txn_head_of b → texts ≡ Some b.texts)) }
+    ensures texts { IfOk result (λ texts. IfSome (D.told disk.old)
+        (λ told. (b : Block) (more : List ℕ) → Stands b (drop at (content told)) more → head.now ≡ txn_head_of b → texts ≡ Some b.texts)) }
     ensures undamaged { (kind : Kind) (place : ℕ) → IsErrOf result (ScanRefusal.Damaged kind place) → ⊥ }
     ensures reads { (D.counter disk.new).calls ≤ (D.counter disk.old).calls + 1 }
     ensures only_reads { OnlyReads D.Disk disk.old disk.new (IsErrOf result ScanRefusal.Disk) }
@@ -97,7 +100,10 @@ pub fn values_at<D: Disk>(
     head: &TxnHead,
 ) -> Result<Option<OidValues>, ScanRefusal>
     requires { ForSome (D.told disk.old) (λ told. len ≡ length (content told)) }
-    ensures values { IfOk result (λ found. IfSome (D.told disk.old) (λ told. (b : Block) (ds : List Data) (more : List ℕ) (records : List Earlier) → Stands b (drop at (content told)) more → b.inside ≡ Records ds → head.now ≡ txn_head_of b → AllStand (content told) records → list_all (has_body (rows records)) ds ≡ true → option_map records_in found ≡ Some (values_of records ds))) }
+    ensures values { IfOk result (λ found. IfSome (D.told disk.old)
+        (λ told. (b : Block) (ds : List Data) (more : List ℕ) (records : List Earlier) → Stands b (drop at (content told)) more
+        → b.inside ≡ Records ds → head.now ≡ txn_head_of b → AllStand (content told) records → list_all (has_body (rows records)) ds ≡ true
+        → option_map records_in found ≡ Some (values_of records ds))) }
     ensures undamaged { (kind : Kind) (place : ℕ) → IsErrOf result (ScanRefusal.Damaged kind place) → ⊥ }
     ensures only_reads { OnlyReads D.Disk disk.old disk.new (IsErrOf result ScanRefusal.Disk) }
 {

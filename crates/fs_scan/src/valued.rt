@@ -32,7 +32,9 @@ fn value_at_front<D: Disk>(
     requires within { (DATA_HEAD_LEN < found.now.size) × (found.now.size ≤ length rest.now) }
     requires full { 0 < found.now.head.length → found.now.size ≡ DATA_HEAD_LEN + found.now.head.length }
     requires whole { ForSome (D.told disk.old) (λ told. len ≡ length (content told)) }
-    ensures value { IfOk result (λ value. IfSome (D.told disk.old) (λ told. (records : List Earlier) → AllStand (content told) records → has_body (rows records) (data_in found.now rest.now) ≡ true → value ≡ value_of records (data_in found.now rest.now).body)) }
+    ensures value { IfOk result (λ value. IfSome (D.told disk.old)
+        (λ told. (records : List Earlier) → AllStand (content told) records → has_body (rows records) (data_in found.now rest.now) ≡ true
+        → value ≡ value_of records (data_in found.now rest.now).body)) }
     ensures undamaged { (kind : Kind) (place : ℕ) → IsErrOf result (ScanRefusal.Damaged kind place) → ⊥ }
     ensures only_reads { OnlyReads D.Disk disk.old disk.new (IsErrOf result ScanRefusal.Disk) }
 {

@@ -70,7 +70,8 @@ impl Walk {
         ensures entered { IfOk result (λ at. (at ≡ place_on self.old.place) × (self.new ≡ standing at self.old)) }
         ensures magic { IfOk result (λ at. self.old.place ≡ None → IfSome (D.told disk.old) (λ told. content told ≡ magic ++ drop MAGIC_LEN (content told))) }
         ensures stays { IfErr result (λ _. self.new ≡ self.old) }
-        ensures damaged { (kind : Kind) (place : ℕ) → IsErrOf result (ScanRefusal.Damaged kind place) → IfSome (D.told disk.old) (λ told. Damaged (content told) place kind) }
+        ensures damaged { (kind : Kind) (place : ℕ) → IsErrOf result (ScanRefusal.Damaged kind place)
+            → IfSome (D.told disk.old) (λ told. Damaged (content told) place kind) }
         ensures reads { (D.counter disk.new).calls ≤ (D.counter disk.old).calls + 1 }
         ensures only_reads { OnlyReads D.Disk disk.old disk.new (IsErrOf result ScanRefusal.Disk) }
     {
@@ -158,7 +159,8 @@ impl Walk {
         ensures on { IfSome (D.told disk.old) (λ told. IsOn (content told) self.new) }
         ensures rises { IfOk result (λ found. IfSome found (λ _. (place_on self.old.place < place_on self.new.place) × (place_on self.new.place < 2 ^ 64))) }
         ensures later { IfOk result (λ found. IfSome found (λ whole. (self.old.last < whole.tid) × (self.new.last ≡ whole.tid))) }
-        ensures damaged { (kind : Kind) (place : ℕ) → IsErrOf result (ScanRefusal.Damaged kind place) → IfSome (D.told disk.old) (λ told. Damaged (content told) place kind) }
+        ensures damaged { (kind : Kind) (place : ℕ) → IsErrOf result (ScanRefusal.Damaged kind place)
+            → IfSome (D.told disk.old) (λ told. Damaged (content told) place kind) }
         ensures only_reads { OnlyReads D.Disk disk.old disk.new (IsErrOf result ScanRefusal.Disk) }
     {
         let len = disk.len()?;

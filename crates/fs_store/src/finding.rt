@@ -38,7 +38,8 @@ impl OpenFile {
     ) -> Result<Option<Record>, Failed>
         requires { IsKnown (D.told disk.old) self.now }
         ensures found { IfOk result (λ found. IfSome (D.told disk.old) (λ told. FoundIn told self.now.end oid at found)) }
-        ensures reads { IfSome (D.told disk.old) (λ told. (D.counter disk.new).calls ≤ (D.counter disk.old).calls + 1 + later_than (history_at told self.now.end) at oid) }
+        ensures reads { IfSome (D.told disk.old) (λ told. (D.counter disk.new).calls ≤ (D.counter disk.old).calls + 1
+            + later_than (history_at told self.now.end) at oid) }
         ensures only_reads { OnlyReads D.Disk disk.old disk.new (IsErr result) }
     {
         let mut place = self.place(oid);

@@ -64,13 +64,18 @@ impl OpenFile {
         requires kept { IsKept (D.told disk.old) self.old limit (Some waiting.now) (D.spare_calls disk.old) (D.spare_bytes disk.old) }
         ensures kept { OnOk result (IsKept (D.told disk.new) self.new limit None (D.spare_calls disk.new) (D.spare_bytes disk.new)) }
         ensures end { self.new.end ≡ (if is_ok result then self.old.end + waiting.now.size else self.old.end) }
-        ensures stands { OnOk result (IfSome (D.told disk.old) (λ told. history_where (D.told disk.new) self.new.end ≡ added (history_at told self.old.end) (out_of (D.told disk.old) self.old.end waiting.now).transaction)) }
+        ensures stands { OnOk result (IfSome (D.told disk.old)
+            (λ told. history_where (D.told disk.new) self.new.end
+            ≡ added (history_at told self.old.end) (out_of (D.told disk.old) self.old.end waiting.now).transaction)) }
         ensures untold { D.told disk.old ≡ None → D.told disk.new ≡ None }
         ensures unsettled { OnErr result (IfSome (D.told disk.new) (IsUnsettled self.old.end (Some waiting.now))) }
         ensures records { OnErr result (records_where (D.told disk.new) self.old.end ≡ records_where (D.told disk.old) self.old.end) }
         ensures history { OnErr result (history_where (D.told disk.new) self.old.end ≡ history_where (D.told disk.old) self.old.end) }
         ensures seen { (s : Seen) → SeenOn (D.told disk.old) self.old.end s → SeenOn (D.told disk.new) self.new.end s }
-        ensures any_moment { LeavesFrom (D.told disk.old) (D.told disk.new) (λ file image. OpensTo image (history_where (D.told disk.old) self.old.end) self.old.end ⊎ OpensTo image (added (history_where (D.told disk.old) self.old.end) (out_of (D.told disk.old) self.old.end waiting.now).transaction) (self.old.end + waiting.now.size)) }
+        ensures any_moment { LeavesFrom (D.told disk.old) (D.told disk.new)
+            (λ file image. OpensTo image (history_where (D.told disk.old) self.old.end) self.old.end
+            ⊎ OpensTo image (added (history_where (D.told disk.old) self.old.end) (out_of (D.told disk.old) self.old.end waiting.now).transaction)
+            (self.old.end + waiting.now.size)) }
         ensures calls { OnOk result ((D.counter disk.new).calls ≡ counted (counted (D.counter disk.old).calls)) }
         ensures twice { OnOk result (Twice (D.counter disk.old) (D.counter disk.new)) }
         ensures counts { Counts (D.counter disk.old) (D.counter disk.new) (IsErr result) }
@@ -87,7 +92,8 @@ impl OpenFile {
         ensures next { (self.new.next ≡ next_with self.old.next waiting.now.items) × (self.new.next ≤ 2 ^ 64) }
         ensures len { self.new.len ≡ self.old.len }
         ensures count { self.new.count ≡ min (self.old.count + 1) greatest_number }
-        ensures index { (o : ℕ) → place_in (place_of self.new.index o) ≡ last_place o (place_in (place_of self.old.index o)) (item_rows (first_at self.old.end waiting.now.texts) waiting.now.items) }
+        ensures index { (o : ℕ) → place_in (place_of self.new.index o)
+            ≡ last_place o (place_in (place_of self.old.index o)) (item_rows (first_at self.old.end waiting.now.texts) waiting.now.items) }
     {
         let first = self.end + (TXN_HEAD_LEN + texts_size(&waiting.texts)) as u64;
         put_all(&mut self.index, first, waiting.items.as_slice());
@@ -110,7 +116,8 @@ impl OpenFile {
         ensures end { self.new.end ≡ self.old.end }
         ensures history { history_where (D.told disk.new) self.old.end ≡ history_where (D.told disk.old) self.old.end }
         ensures seen { (s : Seen) → SeenOn (D.told disk.old) self.old.end s → SeenOn (D.told disk.new) self.old.end s }
-        ensures any_moment { LeavesFrom (D.told disk.old) (D.told disk.new) (λ file image. OpensTo image (history_where (D.told disk.old) self.old.end) self.old.end) }
+        ensures any_moment { LeavesFrom (D.told disk.old) (D.told disk.new)
+            (λ file image. OpensTo image (history_where (D.told disk.old) self.old.end) self.old.end) }
         ensures calls { OnOk result ((D.counter disk.new).calls ≡ counted (counted (D.counter disk.old).calls)) }
         ensures twice { OnOk result (Twice (D.counter disk.old) (D.counter disk.new)) }
         ensures counts { Counts (D.counter disk.old) (D.counter disk.new) (IsErr result) }

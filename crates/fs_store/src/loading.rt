@@ -28,8 +28,10 @@ impl OpenFile {
     ) -> Result<Value, LoadRefusal>
         requires known { IsKnown (D.told disk.old) self.now }
         requires head { IfSome (D.told disk.old) (λ told. HasHead (content told) place head.now) }
-        ensures value { IfOk result (λ value. IfSome (D.told disk.old) (λ told. (oid : ℕ) → IsPlace (records_at told self.now.end) oid place → value ≡ value_at place (records_at told self.now.end))) }
-        ensures reads { IfSome (D.told disk.old) (λ told. (oid : ℕ) → IsPlace (records_at told self.now.end) oid place → CostsBacks (content told) place (D.counter disk.old).calls (D.counter disk.new).calls) }
+        ensures value { IfOk result (λ value. IfSome (D.told disk.old)
+            (λ told. (oid : ℕ) → IsPlace (records_at told self.now.end) oid place → value ≡ value_at place (records_at told self.now.end))) }
+        ensures reads { IfSome (D.told disk.old) (λ told. (oid : ℕ) → IsPlace (records_at told self.now.end) oid place
+            → CostsBacks (content told) place (D.counter disk.old).calls (D.counter disk.new).calls) }
         ensures only_reads { OnlyReads D.Disk disk.old disk.new (IsErrOf result LoadRefusal.Disk) }
     {
         match follow_from(alloc, disk, self.len, place, head) {

@@ -108,7 +108,8 @@ fn read_file<D: Disk>(alloc: Global, disk: &mut D) -> Result<FileRead, ScanRefus
     ensures reads { IfOk result (λ read. IfSome (D.told disk.old) (λ told. Reads (content told) read)) }
     ensures bound { IfOk result (λ read. read.file.next ≤ 2 ^ 64) }
     ensures long { IfOk result (λ read. read.file.len ≡ read.file.end) }
-    ensures damaged { (kind : Kind) (place : ℕ) → IsErrOf result (ScanRefusal.Damaged kind place) → IfSome (D.told disk.old) (λ told. Damaged (content told) place kind) }
+    ensures damaged { (kind : Kind) (place : ℕ) → IsErrOf result (ScanRefusal.Damaged kind place)
+        → IfSome (D.told disk.old) (λ told. Damaged (content told) place kind) }
     ensures costs { IfSome (D.told disk.old) (λ told. CostsScan (content told) (D.counter disk.old).calls (D.counter disk.new).calls) }
     ensures only_reads { OnlyReads D.Disk disk.old disk.new (IsErrOf result ScanRefusal.Disk) }
 {
@@ -158,7 +159,8 @@ fn ready<D: Disk>(disk: &mut D, end: u64, torn: u64) -> Result<(), Failed>
     requires rest { ForSome (D.told disk.old) (λ told. (end + torn ≡ length (content told)) × (length (content told) ≤ most_length)) }
     requires room { (4 ≤ D.spare_calls disk.old) × (1 ≤ D.spare_bytes disk.old) }
     ensures ready { OnOk result (Readies (D.told disk.old) (D.told disk.new) end) }
-    ensures failed { OnErr result ((D.told disk.new ≡ D.told disk.old) ⊎ (MayNotStay (D.told disk.old) end × BringsNot (waiting_from end) (D.told disk.old) (D.told disk.new))) }
+    ensures failed { OnErr result ((D.told disk.new ≡ D.told disk.old)
+        ⊎ (MayNotStay (D.told disk.old) end × BringsNot (waiting_from end) (D.told disk.old) (D.told disk.new))) }
     ensures room { 2 ≤ D.spare_calls disk.new }
     ensures costs { (D.counter disk.new).calls ≤ (D.counter disk.old).calls + 3 }
     ensures counts { Counts (D.counter disk.old) (D.counter disk.new) (IsErr result) }

@@ -69,7 +69,8 @@ impl OpenFile {
         tid: u64,
     ) -> Result<Option<OidValues>, LoadRefusal>
         requires { IsKnown (D.told disk.old) self.now }
-        ensures found { IfOk result (λ found. IfSome (D.told disk.old) (λ told. option_map records_in found ≡ option_map records_of (transaction (history_at told self.now.end) tid))) }
+        ensures found { IfOk result (λ found. IfSome (D.told disk.old)
+            (λ told. option_map records_in found ≡ option_map records_of (transaction (history_at told self.now.end) tid))) }
         ensures only_reads { OnlyReads D.Disk disk.old disk.new (IsErrOf result LoadRefusal.Disk) }
     {
         let end = self.end;
@@ -98,7 +99,8 @@ impl OpenFile {
     ) -> Result<Part, LoadRefusal>
         requires known { IsKnown (D.told disk.old) self.now }
         requires positive { 0 < tid }
-        ensures part { IfOk result (λ part. IfSome (D.told disk.old) (λ told. part ≡ part_of (before (history_at told self.now.end) tid) (written.now.oid, written.now.value))) }
+        ensures part { IfOk result (λ part. IfSome (D.told disk.old)
+            (λ told. part ≡ part_of (before (history_at told self.now.end) tid) (written.now.oid, written.now.value))) }
         ensures only_reads { OnlyReads D.Disk disk.old disk.new (IsErrOf result LoadRefusal.Disk) }
     {
         let after = copy_of(&written.value)?;
@@ -126,7 +128,8 @@ impl OpenFile {
     ) -> Result<Parts, LoadRefusal>
         requires known { IsKnown (D.told disk.old) self.now }
         requires positive { 0 < tid }
-        ensures parts { IfOk result (λ parts. IfSome (D.told disk.old) (λ told. parts ≡ map (part_of (before (history_at told self.now.end) tid)) (last_records (records_in values.now)))) }
+        ensures parts { IfOk result (λ parts. IfSome (D.told disk.old)
+            (λ told. parts ≡ map (part_of (before (history_at told self.now.end) tid)) (last_records (records_in values.now)))) }
         ensures only_reads { OnlyReads D.Disk disk.old disk.new (IsErrOf result LoadRefusal.Disk) }
     {
         let mut parts = Vec::new(alloc);
@@ -153,7 +156,8 @@ impl OpenFile {
         at: u64,
     ) -> Result<Option<Parts>, LoadRefusal>
         requires { IsKnown (D.told disk.old) self.now }
-        ensures parts { IfOk result (λ parts. IfSome (D.told disk.old) (λ told. parts ≡ option_map (parts_of (upto (history_at told self.now.end) at)) (transaction (upto (history_at told self.now.end) at) tid))) }
+        ensures parts { IfOk result (λ parts. IfSome (D.told disk.old)
+            (λ told. parts ≡ option_map (parts_of (upto (history_at told self.now.end) at)) (transaction (upto (history_at told self.now.end) at) tid))) }
         ensures only_reads { OnlyReads D.Disk disk.old disk.new (IsErrOf result LoadRefusal.Disk) }
     {
         if at < tid {
@@ -181,7 +185,9 @@ fn add_row<D: Disk>(
     rows: &mut LogRows,
 ) -> Result<(), LoadRefusal>
     requires { ForSome (D.told disk.old) (λ told. len ≡ length (content told)) }
-    ensures added { OnOk result (IfSome (D.told disk.old) (λ told. (b : Block) (more : List ℕ) → Stands b (drop place (content told)) more → head.now ≡ txn_head_of b → rows.new ≡ rows.old ++ (if counts_upto at head.now then row_of b ∷ [] else []))) }
+    ensures added { OnOk result (IfSome (D.told disk.old)
+        (λ told. (b : Block) (more : List ℕ) → Stands b (drop place (content told)) more → head.now ≡ txn_head_of b
+        → rows.new ≡ rows.old ++ (if counts_upto at head.now then row_of b ∷ [] else []))) }
     ensures only_reads { OnlyReads D.Disk disk.old disk.new (IsErrOf result LoadRefusal.Disk) }
 {
     if !counts_upto(head, at) {

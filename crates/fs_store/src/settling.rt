@@ -71,8 +71,10 @@ impl OpenFile {
     // looked for.
     fn place_of<D: Disk>(&self, disk: &mut D, oid: Oid, to: Tid) -> Result<u64, Failed>
         requires { IsKnown (D.told disk.old) self.now }
-        ensures value { IfOk result (λ place. IfSome (D.told disk.old) (λ told. value_of (records_at told self.now.end) (Body.Back place) ≡ value (upto (history_at told self.now.end) to) oid)) }
-        ensures right { IfOk result (λ place. IfSome (D.told disk.old) (λ told. is_right_body (rows (records_at told self.now.end)) oid (Body.Back place) ≡ true)) }
+        ensures value { IfOk result (λ place. IfSome (D.told disk.old)
+            (λ told. value_of (records_at told self.now.end) (Body.Back place) ≡ value (upto (history_at told self.now.end) to) oid)) }
+        ensures right { IfOk result (λ place. IfSome (D.told disk.old)
+            (λ told. is_right_body (rows (records_at told self.now.end)) oid (Body.Back place) ≡ true)) }
         ensures direct { IfOk result (λ place. IfSome (D.told disk.old) (λ told. IsDirect (content told) (Body.Back place))) }
         ensures calls { to ≡ 0 → (D.counter disk.new).calls ≡ (D.counter disk.old).calls }
         ensures only_reads { OnlyReads D.Disk disk.old disk.new (IsErr result) }
@@ -95,7 +97,8 @@ impl OpenFile {
     ) -> Result<Item, LoadRefusal>
         requires known { IsKnown (D.told disk.old) self.now }
         requires fits { FitsEntry self.now.next entry.now }
-        ensures said { IfOk result (λ item. IfSome (D.told disk.old) (λ told. says (records_at told self.now.end) item ≡ record_of (history_at told self.now.end) entry.now)) }
+        ensures said { IfOk result (λ item. IfSome (D.told disk.old)
+            (λ told. says (records_at told self.now.end) item ≡ record_of (history_at told self.now.end) entry.now)) }
         ensures right { IfOk result (λ item. IfSome (D.told disk.old) (λ told. IsRight (records_at told self.now.end) item)) }
         ensures direct { IfOk result (λ item. IfSome (D.told disk.old) (λ told. IsDirect (content told) item.body)) }
         ensures body { IfOk result HasBody }

@@ -56,9 +56,24 @@ impl<D: Disk + Drop> Model for Store<D> {
 
     ghost Value = { StoreView };
 
-    ghost view = { λ store. record { history = history_where (D.told store.disk) store.file.end; end = store.file.end; limit = store.limit; out = option_map (out_of (D.told store.disk) store.file.end) store.out; undecided = option_map (out_of (D.told store.disk) store.file.end) store.undecided; stale = store.stale; disk = record { told = D.told store.disk; counter = D.counter store.disk; spare_calls = D.spare_calls store.disk; spare_bytes = D.spare_bytes store.disk } } };
+    ghost view = { λ store. record {
+      history = history_where
+          (D.told store.disk) store.file.end;
+      end = store.file.end;
+      limit = store.limit;
+      out = option_map
+          (out_of (D.told store.disk) store.file.end) store.out;
+      undecided = option_map
+          (out_of (D.told store.disk) store.file.end) store.undecided;
+      stale = store.stale;
+      disk = record
+          { told = D.told store.disk; counter = D.counter store.disk; spare_calls = D.spare_calls store.disk; spare_bytes = D.spare_bytes store.disk };
+    } };
 
-    ghost invariant = { λ store. (store.limit ≤ most_length) × (store.stale ≡ false → (store.undecided ≡ None) × IsKept (D.told store.disk) store.file store.limit store.out (D.spare_calls store.disk) (D.spare_bytes store.disk)) × (store.stale ≡ true → (store.out ≡ None) × IfSome (D.told store.disk) (IsUnsettled store.file.end store.undecided)) };
+    ghost invariant = { λ store. (store.limit ≤ most_length)
+        × (store.stale ≡ false → (store.undecided ≡ None)
+        × IsKept (D.told store.disk) store.file store.limit store.out (D.spare_calls store.disk) (D.spare_bytes store.disk))
+        × (store.stale ≡ true → (store.out ≡ None) × IfSome (D.told store.disk) (IsUnsettled store.file.end store.undecided)) };
 }
 
 impl<D: Disk + Drop> Store<D> {
@@ -77,7 +92,8 @@ impl<D: Disk + Drop> Store<D> {
         ensures any_moment { IfOk result (λ store. KeepsGiven (D.told disk) store.disk.told) }
         ensures any_moment_refused { IfErr result (λ (_, back). KeepsGiven (D.told disk) (D.told back)) }
         ensures reads { IfOk result (λ store. IfSome (D.told disk) (λ told. CostsOpening (content told) (D.counter disk).calls store.disk.counter.calls)) }
-        ensures reads_refused { IfErr result (λ (_, back). IfSome (D.told disk) (λ told. CostsOpening (content told) (D.counter disk).calls (D.counter back).calls)) }
+        ensures reads_refused { IfErr result (λ (_, back). IfSome (D.told disk)
+            (λ told. CostsOpening (content told) (D.counter disk).calls (D.counter back).calls)) }
         ensures counts { IfErr result (λ (refusal, back). Counts (D.counter disk) (D.counter back) (refusal ≡ OpenRefusal.Disk)) }
     {
         let mut disk = disk;
@@ -169,7 +185,8 @@ impl<D: Disk + Drop> Store<D> {
     /// later one that is passed, and two for each back pointer that is followed. A stale store is opened again first, which
     /// costs what an opening costs.
     pub fn load(&mut self, oid: Oid, at: Tid) -> Result<Loaded, LoadRefusal>
-        ensures value { IfOk result (λ loaded. IsTold self.new → (loaded.value ≡ value (upto self.new.history at) oid) × (loaded.serial ≡ serial (upto self.new.history at) oid)) }
+        ensures value { IfOk result (λ loaded. IsTold self.new
+            → (loaded.value ≡ value (upto self.new.history at) oid) × (loaded.serial ≡ serial (upto self.new.history at) oid)) }
         ensures read { IfOk result (λ loaded. IsSeen self.new (record { oid = oid; serial = loaded.serial; place = loaded.place })) }
         ensures fresh { OnOk result (self.new.stale ≡ false) }
         ensures settled { OnOk result (IsTold self.old → Settles self.old self.new) }
@@ -180,8 +197,11 @@ impl<D: Disk + Drop> Store<D> {
         ensures tells { IsTold self.old → IsTold self.new }
         ensures seen { (seen : Seen) → IsSeen self.old seen → IsSeen self.new seen }
         ensures any_moment { KeepsOpening self.old self.new }
-        ensures reads { self.old.stale ≡ false → IfSome self.old.disk.told (λ told. CostsLoad told self.old.end oid at self.old.disk.counter.calls self.new.disk.counter.calls) }
-        ensures reads_again { IfSome self.old.disk.told (λ told. (calls : ℕ) × CostsOpening (content told) self.old.disk.counter.calls calls × IfSome self.new.disk.told (λ now. CostsLoad now self.new.end oid at calls self.new.disk.counter.calls)) }
+        ensures reads { self.old.stale ≡ false → IfSome self.old.disk.told
+            (λ told. CostsLoad told self.old.end oid at self.old.disk.counter.calls self.new.disk.counter.calls) }
+        ensures reads_again { IfSome self.old.disk.told
+            (λ told. (calls : ℕ) × CostsOpening (content told) self.old.disk.counter.calls calls
+            × IfSome self.new.disk.told (λ now. CostsLoad now self.new.end oid at calls self.new.disk.counter.calls)) }
         ensures counts { Counts self.old.disk.counter self.new.disk.counter (IsErrOf result LoadRefusal.Disk) }
     {
         self.refresh()?;
@@ -191,7 +211,8 @@ impl<D: Disk + Drop> Store<D> {
     /// What the transaction did, where there is one with this id up to the transaction `at`. A stale store is opened again
     /// first.
     pub fn transaction(&mut self, tid: Tid, at: Tid) -> Result<Option<Parts>, LoadRefusal>
-        ensures parts { IfOk result (λ parts. IsTold self.new → parts ≡ option_map (parts_of (upto self.new.history at)) (transaction (upto self.new.history at) tid)) }
+        ensures parts { IfOk result (λ parts. IsTold self.new
+            → parts ≡ option_map (parts_of (upto self.new.history at)) (transaction (upto self.new.history at) tid)) }
         ensures fresh { OnOk result (self.new.stale ≡ false) }
         ensures settled { OnOk result (IsTold self.old → Settles self.old self.new) }
         ensures stands { OnErr result (IsTold self.old → Stands self.old self.new) }
@@ -248,7 +269,9 @@ impl<D: Disk + Drop> Store<D> {
         ensures held { IfOk result (λ voted. IsVoteOf self.new voted × (self.new.stale ≡ false)) }
         ensures direct { IfOk result (λ _. IfSome self.new.disk.told (λ told. PointsToData (content told) self.new.end)) }
         ensures holder { IfOk result (λ _. (o : Out) → self.new.out ≡ Some o → o.holder ≡ holder) }
-        ensures refused { IfErr result (λ (refusal, _). IsTold self.old → (refusal ≡ VoteRefusal.Memory) ⊎ ((refusal ≡ VoteRefusal.Disk) ⊎ (Settles self.old self.new × (verdict self.new reads.now draft ≡ Some refusal)))) }
+        ensures refused { IfErr result (λ (refusal, _). IsTold self.old
+            → (refusal ≡ VoteRefusal.Memory) ⊎ ((refusal ≡ VoteRefusal.Disk)
+            ⊎ (Settles self.old self.new × (verdict self.new reads.now draft ≡ Some refusal)))) }
         // A vote that is refused since another is out takes no memory and no device call.
         ensures busy { IfErr result (λ (refusal, _). (refusal ≡ VoteRefusal.Memory) ⊎ (refusal ≡ VoteRefusal.Disk) → self.old.out ≡ None) }
         ensures busy_with { IfErr result (λ (refusal, _). (o : Out) → self.old.out ≡ Some o → (refusal ≡ VoteRefusal.Busy o.holder) × (self.new ≡ self.old)) }
@@ -256,14 +279,16 @@ impl<D: Disk + Drop> Store<D> {
         ensures still { IfErr result (λ _. self.new.out ≡ self.old.out) }
         ensures back { IfErr result (λ (_, back). back ≡ draft) }
         ensures stands { IfErr result (λ (refusal, _). (refusal ≡ VoteRefusal.Disk → ⊥) → IsTold self.old → Stands self.old self.new) }
-        ensures stays { IfErr result (λ (refusal, _). (refusal ≡ VoteRefusal.Disk → ⊥) → self.old.stale ≡ false → (self.new ≡ on_disk self.old self.new.disk) × (self.new.disk.told ≡ self.old.disk.told)) }
+        ensures stays { IfErr result (λ (refusal, _). (refusal ≡ VoteRefusal.Disk → ⊥) → self.old.stale ≡ false
+            → (self.new ≡ on_disk self.old self.new.disk) × (self.new.disk.told ≡ self.old.disk.told)) }
         ensures stale { IfErr result (λ (refusal, _). refusal ≡ VoteRefusal.Disk → (self.new.stale ≡ true) × (self.new.out ≡ None)) }
         ensures lost { IfErr result (λ (refusal, _). refusal ≡ VoteRefusal.Disk → IsTold self.old → Loses self.old self.new) }
         ensures limit { self.new.limit ≡ self.old.limit }
         ensures tells { IsTold self.old → IsTold self.new }
         ensures seen { (seen : Seen) → IsSeen self.old seen → IsSeen self.new seen }
         ensures any_moment { KeepsOpening self.old self.new }
-        ensures calls { IfOk result (λ _. self.old.stale ≡ false → LooksForNothing draft → self.new.disk.counter.calls ≡ counted (counted self.old.disk.counter.calls)) }
+        ensures calls { IfOk result (λ _. self.old.stale ≡ false → LooksForNothing draft
+            → self.new.disk.counter.calls ≡ counted (counted self.old.disk.counter.calls)) }
         ensures twice { IfOk result (λ _. Twice self.old.disk.counter self.new.disk.counter) }
         ensures counts { IfOk result (λ _. Counts self.old.disk.counter self.new.disk.counter ⊥) }
         ensures fault { IfErr result (λ (refusal, _). Counts self.old.disk.counter self.new.disk.counter (refusal ≡ VoteRefusal.Disk)) }

@@ -168,10 +168,13 @@ impl OpenFile {
         requires bound { self.now.next ≤ 2 ^ 64 }
         requires rules { IsDraft draft.now }
         requires seen { All (SeenOn (D.told disk.old) self.now.end) reads.now }
-        ensures refusal { IfOk result (λ refusal. IfSome (D.told disk.old) (λ told. refusal ≡ validation_at (history_at told self.now.end) self.now.end limit draft.now (clash_among (history_at told self.now.end) reads.now))) }
+        ensures refusal { IfOk result (λ refusal. IfSome (D.told disk.old)
+            (λ told. refusal ≡ validation_at (history_at told self.now.end) self.now.end limit draft.now
+            (clash_among (history_at told self.now.end) reads.now))) }
         ensures free { IfOk result (λ refusal. refusal ≡ None → IsFree self.now.last self.now.next self.now.end limit draft.now) }
         ensures calls { IfOk result (λ refusal. refusal ≡ None → (D.counter disk.new).calls ≡ (D.counter disk.old).calls) }
-        ensures own { IfOk result (λ refusal. (refusal ≡ Some VoteRefusal.Memory → ⊥) × (refusal ≡ Some VoteRefusal.Disk → ⊥) × ((w : ℕ) → refusal ≡ Some (VoteRefusal.Busy w) → ⊥)) }
+        ensures own { IfOk result (λ refusal. (refusal ≡ Some VoteRefusal.Memory → ⊥) × (refusal ≡ Some VoteRefusal.Disk → ⊥)
+            × ((w : ℕ) → refusal ≡ Some (VoteRefusal.Busy w) → ⊥)) }
         ensures only_reads { OnlyReads D.Disk disk.old disk.new (IsErr result) }
     {
         match self.clash_among(disk, reads)? {

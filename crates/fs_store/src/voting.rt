@@ -58,8 +58,10 @@ fn write_behind<D: Disk>(
     requires extension { length texts.now.extension < 2 ^ 16 }
     requires bodies { All HasBody items.now }
     requires fits { end + length (block_spelling (transaction end tid STATUS_WAITING texts.now items.now)) < 2 ^ 63 }
-    ensures any_moment { LeavesFrom (D.told disk.old) (D.told disk.new) (λ file image. IsTorn file (block_spelling (transaction end tid STATUS_WAITING texts.now items.now)) image) }
-    ensures written { OnOk result (Becomes (D.told disk.old) (D.told disk.new) (λ file. file ++ block_spelling (transaction end tid STATUS_WAITING texts.now items.now))) }
+    ensures any_moment { LeavesFrom (D.told disk.old) (D.told disk.new)
+        (λ file image. IsTorn file (block_spelling (transaction end tid STATUS_WAITING texts.now items.now)) image) }
+    ensures written { OnOk result (Becomes (D.told disk.old) (D.told disk.new)
+        (λ file. file ++ block_spelling (transaction end tid STATUS_WAITING texts.now items.now))) }
     ensures writable { OnOk result (IsWritable end tid STATUS_WAITING texts.now items.now) }
     ensures spare { OnOk result ((2 ≤ D.spare_calls disk.new) × (1 ≤ D.spare_bytes disk.new)) }
     ensures calls { OnOk result ((D.counter disk.new).calls ≡ counted (counted (D.counter disk.old).calls)) }
@@ -94,15 +96,21 @@ impl OpenFile {
         ensures kept { IfOk result (λ w. IsKept (D.told disk.new) self.new limit (Some w) (D.spare_calls disk.new) (D.spare_bytes disk.new)) }
         ensures holder { IfOk result (λ w. w.holder ≡ holder) }
         ensures direct { OnOk result (IfSome (D.told disk.new) (λ told. PointsToData (content told) self.new.end)) }
-        ensures voted { IfOk result (λ w. IfSome (D.told disk.old) (λ told. IsVoted (D.told disk.new) (history_at told self.old.end) self.new limit holder draft.now reads.now now w)) }
-        ensures refused { IfErr result (λ refusal. IfSome (D.told disk.old) (λ told. (refusal ≡ VoteRefusal.Memory) ⊎ ((refusal ≡ VoteRefusal.Disk) ⊎ (validation_at (history_at told self.old.end) self.old.end limit draft.now (clash_among (history_at told self.old.end) reads.now) ≡ Some refusal)))) }
+        ensures voted { IfOk result (λ w. IfSome (D.told disk.old)
+            (λ told. IsVoted (D.told disk.new) (history_at told self.old.end) self.new limit holder draft.now reads.now now w)) }
+        ensures refused { IfErr result (λ refusal. IfSome (D.told disk.old)
+            (λ told. (refusal ≡ VoteRefusal.Memory)
+            ⊎ ((refusal ≡ VoteRefusal.Disk) ⊎ (validation_at (history_at told self.old.end) self.old.end limit draft.now
+            (clash_among (history_at told self.old.end) reads.now) ≡ Some refusal)))) }
         ensures own { IfErr result (λ refusal. (w : ℕ) → refusal ≡ VoteRefusal.Busy w → ⊥) }
-        ensures stays { IfErr result (λ refusal. (refusal ≡ VoteRefusal.Disk → ⊥) → IsKept (D.told disk.new) self.new limit None (D.spare_calls disk.new) (D.spare_bytes disk.new) × (D.told disk.new ≡ D.told disk.old)) }
+        ensures stays { IfErr result (λ refusal. (refusal ≡ VoteRefusal.Disk → ⊥)
+            → IsKept (D.told disk.new) self.new limit None (D.spare_calls disk.new) (D.spare_bytes disk.new) × (D.told disk.new ≡ D.told disk.old)) }
         ensures unsettled { OnErr result (IfSome (D.told disk.new) (IsUnsettled self.new.end None)) }
         ensures end { self.new.end ≡ self.old.end }
         ensures history { history_where (D.told disk.new) self.old.end ≡ history_where (D.told disk.old) self.old.end }
         ensures seen { (s : Seen) → SeenOn (D.told disk.old) self.old.end s → SeenOn (D.told disk.new) self.old.end s }
-        ensures any_moment { LeavesFrom (D.told disk.old) (D.told disk.new) (λ file image. OpensTo image (history_where (D.told disk.old) self.old.end) self.old.end) }
+        ensures any_moment { LeavesFrom (D.told disk.old) (D.told disk.new)
+            (λ file image. OpensTo image (history_where (D.told disk.old) self.old.end) self.old.end) }
         ensures calls { OnOk result (LooksForNothing draft.now → (D.counter disk.new).calls ≡ counted (counted (D.counter disk.old).calls)) }
         ensures twice { OnOk result (Twice (D.counter disk.old) (D.counter disk.new)) }
         ensures counts { Counts (D.counter disk.old) (D.counter disk.new) (IsErrOf result VoteRefusal.Disk) }
@@ -138,13 +146,17 @@ impl OpenFile {
         ensures kept { IfOk result (λ w. IsKept (D.told disk.new) self.new limit (Some w) (D.spare_calls disk.new) (D.spare_bytes disk.new)) }
         ensures holder { IfOk result (λ w. w.holder ≡ holder) }
         ensures direct { OnOk result (IfSome (D.told disk.new) (λ told. PointsToData (content told) self.new.end)) }
-        ensures waits { IfOk result (λ w. IfSome (D.told disk.old) (λ told. out_of (D.told disk.new) self.new.end w ≡ record { holder = holder; transaction = settle (history_at told self.old.end) draft.now tid; size = size draft.now })) }
-        ensures stays { IsErrOf result LoadRefusal.Memory → IsKept (D.told disk.new) self.new limit None (D.spare_calls disk.new) (D.spare_bytes disk.new) × (D.told disk.new ≡ D.told disk.old) }
+        ensures waits { IfOk result (λ w. IfSome (D.told disk.old)
+            (λ told. out_of (D.told disk.new) self.new.end w
+            ≡ record { holder = holder; transaction = settle (history_at told self.old.end) draft.now tid; size = size draft.now })) }
+        ensures stays { IsErrOf result LoadRefusal.Memory
+            → IsKept (D.told disk.new) self.new limit None (D.spare_calls disk.new) (D.spare_bytes disk.new) × (D.told disk.new ≡ D.told disk.old) }
         ensures unsettled { OnErr result (IfSome (D.told disk.new) (IsUnsettled self.new.end None)) }
         ensures end { self.new.end ≡ self.old.end }
         ensures history { history_where (D.told disk.new) self.old.end ≡ history_where (D.told disk.old) self.old.end }
         ensures seen { (s : Seen) → SeenOn (D.told disk.old) self.old.end s → SeenOn (D.told disk.new) self.old.end s }
-        ensures any_moment { LeavesFrom (D.told disk.old) (D.told disk.new) (λ file image. OpensTo image (history_where (D.told disk.old) self.old.end) self.old.end) }
+        ensures any_moment { LeavesFrom (D.told disk.old) (D.told disk.new)
+            (λ file image. OpensTo image (history_where (D.told disk.old) self.old.end) self.old.end) }
         ensures calls { OnOk result (LooksForNothing draft.now → (D.counter disk.new).calls ≡ counted (counted (D.counter disk.old).calls)) }
         ensures twice { OnOk result (Twice (D.counter disk.old) (D.counter disk.new)) }
         ensures counts { Counts (D.counter disk.old) (D.counter disk.new) (IsErrOf result LoadRefusal.Disk) }

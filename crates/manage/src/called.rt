@@ -75,7 +75,8 @@ fn lawful(
     oid: Oid,
     part: &Part2,
 ) -> Result<u8, ManageRefusal>
-    ensures { Answers calling.told (λ n. n) result (as_ask (run (shapes known.now) (calling.if_lawful call oid (permission_for call verb oid (calling.kind_of (form_of part.now)))))) }
+    ensures { Answers calling.told (λ n. n) result
+        (as_ask (run (shapes known.now) (calling.if_lawful call oid (permission_for call verb oid (calling.kind_of (form_of part.now)))))) }
 {
     let permission = permission_for(call, verb, oid, kind_of(part));
     if_lawful(known, call, oid, permission)

@@ -13,7 +13,8 @@ use zobject::{names_may_change, sources_may_change};
 pub fn calls_are_those_of_traversal()
     ensures same { map name_of all_calls ≡ publishing.calls }
     ensures own { (call : Call) → call_named (name_of call) ≡ Some call }
-    ensures named { (name : List ℕ) → list_any (λ call. bytes_eq call name) publishing.calls ≡ Bool.true → (call : Call) × (call_named name ≡ Some call) × (name ≡ name_of call) }
+    ensures named { (name : List ℕ) → list_any (λ call. bytes_eq call name) publishing.calls ≡ Bool.true
+        → (call : Call) × (call_named name ≡ Some call) × (name ≡ name_of call) }
 {}
 
 /// A call needs one of the thirteen permissions.

@@ -81,7 +81,8 @@ pub(crate) fn reach(known: &Known, whole: &Wrapped, oid: Oid) -> Result<Wrapped,
 
 // What a verdict lets be entered.
 fn entered(oid: Oid, verdict: Verdict) -> Result<(), NameRefusal>
-    ensures { (known : ℕ → Option (Seen ObjectValue)) (shown : List ShownObject) → Shows told (λ u. tt {0}) shown result (run known (looks.entered oid (looks.through looks.taken shown (looks.Done tt)) verdict)) }
+    ensures { (known : ℕ → Option (Seen ObjectValue)) (shown : List ShownObject)
+        → Shows told (λ u. tt {0}) shown result (run known (looks.entered oid (looks.through looks.taken shown (looks.Done tt)) verdict)) }
 {
     match verdict {
         Verdict::Denied(_) => Err(NameRefusal::Unauthorized(oid, ACCESS)),
@@ -144,7 +145,9 @@ fn offered(
     oid: Oid,
     verdict: Verdict,
 ) -> Result<bool, NameRefusal>
-    ensures is { (known : ℕ → Option (Seen ObjectValue)) → Shows told (λ b. b) shown.new result (run known (looks.offered looks.taken who.now shown.old oid (λ s granted. looks.through looks.taken s (looks.Done granted)) verdict)) }
+    ensures is { (known : ℕ → Option (Seen ObjectValue))
+        → Shows told (λ b. b) shown.new result (run known
+        (looks.offered looks.taken who.now shown.old oid (λ s granted. looks.through looks.taken s (looks.Done granted)) verdict)) }
     ensures shown { OnlyAnswers shown.old shown.new result }
 {
     match verdict {

@@ -151,7 +151,8 @@ fn object_values(
     oid: Oid,
     part: &Part2,
 ) -> Result<Option<Val>, NameRefusal>
-    ensures { (shown : List ShownObject) → Shows told (λ v. v) shown result (looked (objects known.now) shown (spec.values_in who.now whole.now oid (form_of part.now))) }
+    ensures { (shown : List ShownObject) → Shows told (λ v. v) shown result
+        (looked (objects known.now) shown (spec.values_in who.now whole.now oid (form_of part.now))) }
 {
     match part {
         Part2::Folder(children) => {
@@ -239,7 +240,8 @@ fn property_or_child(
     object: &Object,
 ) -> Result<Option<Val>, NameRefusal>
     requires { run (objects known.now) (here oid) ≡ Ok object.now }
-    ensures is { Shows told (λ v. v) shown.new result (looked (objects known.now) shown.old (spec.property_or_child who.now name.now whole.now oid (shape_of object.now))) }
+    ensures is { Shows told (λ v. v) shown.new result
+        (looked (objects known.now) shown.old (spec.property_or_child who.now name.now whole.now oid (shape_of object.now))) }
     ensures shown { OnlyHits shown.old shown.new result }
 {
     match property_of(name, object.properties.as_slice()) {
@@ -260,7 +262,8 @@ fn by_word(
     object: &Object,
 ) -> Result<Option<Val>, NameRefusal>
     requires { run (objects known.now) (here oid) ≡ Ok object.now }
-    ensures is { Shows told (λ v. v) shown.new result (looked (objects known.now) shown.old (spec.by_word who.now (spec.word_of name.now) name.now whole.now oid (shape_of object.now))) }
+    ensures is { Shows told (λ v. v) shown.new result
+        (looked (objects known.now) shown.old (spec.by_word who.now (spec.word_of name.now) name.now whole.now oid (shape_of object.now))) }
     ensures shown { OnlyHits shown.old shown.new result }
 {
     match word_of(name) {

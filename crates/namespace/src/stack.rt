@@ -157,7 +157,8 @@ fn find_in(
     client: &Wrapped,
     request: &[Named],
 ) -> Result<Option<Val>, NameRefusal>
-    ensures is { Shows told (λ v. v) shown.new result (looked (objects known.now) shown.old (spec.named_for who.now name.now layers.now client.now request.now)) }
+    ensures is { Shows told (λ v. v) shown.new result
+        (looked (objects known.now) shown.old (spec.named_for who.now name.now layers.now client.now request.now)) }
     ensures shown { OnlyHits shown.old shown.new result }
 {
     let hit = in_layers(alloc, known, who, shown, name, layers)?;
@@ -176,7 +177,11 @@ impl<'k> Stack<'k> {
         client: Wrapped,
         request: Names,
     ) -> Stack<'k>
-        ensures { result ≡ record { known = known.now; scope = record { user = user; acting = None; layers = []; client = client; request = request }; shown = [] } }
+        ensures { result ≡ record {
+          known = known.now;
+          scope = record { user = user; acting = None; layers = []; client = client; request = request };
+          shown = [];
+        } }
     {
         Stack {
             alloc,
@@ -255,7 +260,8 @@ impl<'k> Stack<'k> {
 
     /// The value of a name in an object. None exactly where the object hasn't it.
     pub fn look(&mut self, object: &Wrapped, name: &str) -> Result<Option<Val>, NameRefusal>
-        ensures is { Shows told (λ v. v) self.new.shown result (looked (objects self.old.known) self.old.shown (spec.in_object (spec.whose self.old.scope) object.now name.now)) }
+        ensures is { Shows told (λ v. v) self.new.shown result
+            (looked (objects self.old.known) self.old.shown (spec.in_object (spec.whose self.old.scope) object.now name.now)) }
         ensures known { self.new.known ≡ self.old.known }
         ensures scope { self.new.scope ≡ self.old.scope }
         ensures shown { OnlyHits self.old.shown self.new.shown result }
@@ -266,7 +272,8 @@ impl<'k> Stack<'k> {
 
     /// The object with its contents, which the user must be granted to view; it is then shown.
     pub fn open(&mut self, oid: Oid) -> Result<&'k Object, NameRefusal>
-        ensures is { Shows told (λ o. o.now) self.new.shown result (looked (objects self.old.known) self.old.shown (spec.viewing (spec.whose self.old.scope) oid)) }
+        ensures is { Shows told (λ o. o.now) self.new.shown result
+            (looked (objects self.old.known) self.old.shown (spec.viewing (spec.whose self.old.scope) oid)) }
         ensures known { self.new.known ≡ self.old.known }
         ensures scope { self.new.scope ≡ self.old.scope }
         ensures shown { OnlyAnswers self.old.shown self.new.shown result }
@@ -280,7 +287,8 @@ impl<'k> Stack<'k> {
     /// That the user is granted to view an object, which is then shown.
     #[tactic(auto, using(crate::proofs::Steps::goes, crate::proofs::Steps::stops))]
     pub fn view(&mut self, oid: Oid) -> Result<(), NameRefusal>
-        ensures is { Shows told (λ u. tt {0}) self.new.shown result (looked (objects self.old.known) self.old.shown (spec.allowing (spec.whose self.old.scope) oid)) }
+        ensures is { Shows told (λ u. tt {0}) self.new.shown result
+            (looked (objects self.old.known) self.old.shown (spec.allowing (spec.whose self.old.scope) oid)) }
         ensures known { self.new.known ≡ self.old.known }
         ensures scope { self.new.scope ≡ self.old.scope }
         ensures shown { OnlyAnswers self.old.shown self.new.shown result }
@@ -291,7 +299,8 @@ impl<'k> Stack<'k> {
 
     /// Whether the user is granted to view an object, which is then shown.
     pub fn offer(&mut self, oid: Oid) -> Result<bool, NameRefusal>
-        ensures is { Shows told (λ b. b) self.new.shown result (looked (objects self.old.known) self.old.shown (spec.offering (spec.whose self.old.scope) oid)) }
+        ensures is { Shows told (λ b. b) self.new.shown result
+            (looked (objects self.old.known) self.old.shown (spec.offering (spec.whose self.old.scope) oid)) }
         ensures known { self.new.known ≡ self.old.known }
         ensures scope { self.new.scope ≡ self.old.scope }
         ensures shown { OnlyAnswers self.old.shown self.new.shown result }
@@ -310,7 +319,8 @@ impl<'k> Stack<'k> {
     /// The text that the object that was viewed last lends under a name, where that object is the newest layer. Takes no
     /// memory.
     pub fn lent(&self, name: &str) -> Option<&'k Text>
-        ensures { IfSome result (λ text. looked (objects self.now.known) self.now.shown (spec.named self.now.scope name.now) ≡ Ok (Some (spec.text text.now), self.now.shown)) }
+        ensures { IfSome result (λ text. looked (objects self.now.known) self.now.shown (spec.named self.now.scope name.now)
+            ≡ Ok (Some (spec.text text.now), self.now.shown)) }
     {
         let Some(viewed) = &self.viewed else {
             return None;

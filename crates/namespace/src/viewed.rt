@@ -50,7 +50,8 @@ fn lent<'k>(object: &'k Object, name: &str) -> Option<&'k Text>
 
 /// The text that the object lends under a name, where it is the one that the wrapper is about. Takes no memory.
 pub(crate) fn lent_by<'k>(viewed: &Viewed<'k>, whole: &Wrapped, name: &str) -> Option<&'k Text>
-    ensures { IfSome result (λ text. (others : List ℕ) × (whole.now ≡ viewed.now.oid ∷ others) × (begins_with (codes "_") name.now ≡ false) × (spec.lent viewed.now.object.now name.now ≡ Some text.now)) }
+    ensures { IfSome result (λ text. (others : List ℕ) × (whole.now ≡ viewed.now.oid ∷ others) × (begins_with (codes "_") name.now ≡ false)
+        × (spec.lent viewed.now.object.now name.now ≡ Some text.now)) }
 {
     if name.as_bytes().starts_with(b"_") {
         return None;

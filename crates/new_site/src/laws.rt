@@ -12,5 +12,6 @@ pub fn new_sites_open()
     ensures users { (name password : List ℕ) → Keeps UserName name → IsObject (user_folder name password) }
     ensures page { IsObject start_page }
     ensures opens { (stamp : ℕ) (name password : List ℕ) → 0 < stamp → stamp < 2 ^ 64 → Keeps UserName name →
-        (front : Front) × Cut (site_file stamp name password) front (length (site_file stamp name password)) × (front.history ≡ site_history stamp name password) }
+        (front : Front) × Cut (site_file stamp name password) front (length (site_file stamp name password))
+        × (front.history ≡ site_history stamp name password) }
 {}

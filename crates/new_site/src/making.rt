@@ -72,7 +72,8 @@ fn put_file<D: Disk>(disk: &mut D, waiting: &[u8]) -> Result<(), Failed>
     requires space { length waiting.now + 1 ≤ D.spare_bytes disk.old }
     requires long { MAGIC_LEN + STATUS_AT < length waiting.now }
     ensures put { OnOk result (Becomes (D.told disk.old) (D.told disk.new) (λ _. slice_set waiting.now (MAGIC_LEN + STATUS_AT) STATUS_COUNTED)) }
-    ensures any_moment { LeavesFrom (D.told disk.old) (D.told disk.new) (λ _ image. IsTorn [] waiting.now image ⊎ (image ≡ slice_set waiting.now (MAGIC_LEN + STATUS_AT) STATUS_COUNTED)) }
+    ensures any_moment { LeavesFrom (D.told disk.old) (D.told disk.new)
+        (λ _ image. IsTorn [] waiting.now image ⊎ (image ≡ slice_set waiting.now (MAGIC_LEN + STATUS_AT) STATUS_COUNTED)) }
     ensures counts { Counts (D.counter disk.old) (D.counter disk.new) (IsErr result) }
 {
     append_and_sync(disk, 0, waiting)?;

@@ -38,7 +38,8 @@ fn told_by(object: &Object, at: Oid, permission: u8) -> Option<bool>
 fn is_unsaid(known: &Known, oid: Oid, object: &Object, permission: u8) -> Result<bool, AqRefusal>
     requires here { run (shapes known.now) (acquiring.here oid) ≡ Ok (shape_of object.now) }
     requires by_default { default_roles permission ≡ everyones ∷ codes "Manager" ∷ [] }
-    ensures said { IfOk result (λ unsaid. unsaid ≡ true → (who : User) → run (shapes known.now) (spec.verdict_on who oid permission) ≡ Ok (verdicts.Granted everyones)) }
+    ensures said { IfOk result (λ unsaid. unsaid ≡ true → (who : User)
+        → run (shapes known.now) (spec.verdict_on who oid permission) ≡ Ok (verdicts.Granted everyones)) }
     ensures stops { IfErr result (λ e. (who : User) → Told (acquiring.told e) (run (shapes known.now) (spec.verdict_on who oid permission))) }
 {
     if let Some(unsaid) = told_by(object, oid, permission) {
@@ -64,7 +65,8 @@ pub(crate) fn is_everyones(
     permission: u8,
 ) -> Result<bool, AqRefusal>
     requires { run (shapes known.now) (acquiring.here oid) ≡ Ok (shape_of object.now) }
-    ensures granted { IfOk result (λ is. is ≡ true → (who : User) → run (shapes known.now) (spec.verdict_on who oid permission) ≡ Ok (verdicts.Granted everyones)) }
+    ensures granted { IfOk result (λ is. is ≡ true → (who : User)
+        → run (shapes known.now) (spec.verdict_on who oid permission) ≡ Ok (verdicts.Granted everyones)) }
     ensures stops { IfErr result (λ e. (who : User) → Told (acquiring.told e) (run (shapes known.now) (spec.verdict_on who oid permission))) }
 {
     if permission == 1 || permission == 2 {

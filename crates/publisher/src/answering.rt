@@ -49,7 +49,8 @@ fn called(
     call: Option<Call>,
 ) -> Result<Answer, SiteRefusal>
     requires lawful { KeepRules (objects known.now) }
-    ensures { Answers told (λ a. a) result (comes_to known.now (spec.called request.now fields.now (option_map (λ pair. pair.now) credentials.entry) name (first on.now) call)) }
+    ensures { Answers told (λ a. a) result (comes_to known.now
+        (spec.called request.now fields.now (option_map (λ pair. pair.now) credentials.entry) name (first on.now) call)) }
 {
     match call {
         Some(call) => call_on(alloc, request, fields, credentials, call, on, known),
@@ -66,7 +67,8 @@ fn answered(
     known: &Known,
 ) -> Result<Answer, SiteRefusal>
     requires lawful { KeepRules (objects known.now) }
-    ensures { Answers told (λ a. a) result (comes_to known.now (spec.answered request.now fields.now (option_map (λ pair. pair.now) credentials.entry) target)) }
+    ensures { Answers told (λ a. a) result (comes_to known.now
+        (spec.answered request.now fields.now (option_map (λ pair. pair.now) credentials.entry) target)) }
 {
     match target {
         Target::Page { object, client } => {
@@ -96,7 +98,8 @@ fn with_credentials(
     known: &Known,
 ) -> Result<Answer, SiteRefusal>
     requires lawful { KeepRules (objects known.now) }
-    ensures { Answers told (λ a. a) result (comes_to known.now (spec.with_credentials request.now fields.now (option_map (λ pair. pair.now) credentials.entry))) }
+    ensures { Answers told (λ a. a) result (comes_to known.now
+        (spec.with_credentials request.now fields.now (option_map (λ pair. pair.now) credentials.entry))) }
 {
     let target = target(alloc, known, request)?;
     answered(alloc, request, fields, credentials, target, known)

@@ -42,7 +42,8 @@ pub(crate) fn credentials_in(
     alloc: Global,
     request: &Request,
 ) -> Result<Option<(Text, Text)>, SiteRefusal>
-    ensures { (rows : List (ℕ × Kept)) → Answers told (λ c. c) result (comes_to rows (or_stops spec.bad_credentials (credentials_of (spec.authorization request.now)))) }
+    ensures { (rows : List (ℕ × Kept)) → Answers told (λ c. c) result
+        (comes_to rows (or_stops spec.bad_credentials (credentials_of (spec.authorization request.now)))) }
 {
     let header = authorization(request);
     match credentials(alloc, header) {
@@ -85,7 +86,8 @@ pub(crate) fn user(
     oid: Oid,
     permission: u8,
 ) -> Result<Who, SiteRefusal>
-    ensures { Answers told (λ w. w) result (comes_to known.now (by_shapes faults.User (users.who (option_map (λ pair. pair.now) credentials.entry) oid permission))) }
+    ensures { Answers told (λ w. w) result (comes_to known.now
+        (by_shapes faults.User (users.who (option_map (λ pair. pair.now) credentials.entry) oid permission))) }
 {
     Ok(find_user(alloc, known, credentials, oid, permission)?)
 }
@@ -98,7 +100,8 @@ pub(crate) fn user_on(
     on: &Wrapped,
     permission: u8,
 ) -> Result<Who, SiteRefusal>
-    ensures { Answers told (λ w. w) result (comes_to known.now (by_shapes faults.User (users.who (option_map (λ pair. pair.now) credentials.entry) (first on.now) permission))) }
+    ensures { Answers told (λ w. w) result (comes_to known.now
+        (by_shapes faults.User (users.who (option_map (λ pair. pair.now) credentials.entry) (first on.now) permission))) }
 {
     user(alloc, known, credentials, on.oid(), permission)
 }

@@ -92,7 +92,8 @@ fn where_granted(
     verdict: Verdict,
 ) -> Result<Answer, SiteRefusal>
     requires lawful { KeepRules (objects known.now) }
-    ensures { Answers told (λ a. a) result (comes_to known.now (spec.where_granted (first on.now) permission (spec.change_by request.now fields.now call (first on.now) user.now) verdict)) }
+    ensures { Answers told (λ a. a) result (comes_to known.now
+        (spec.where_granted (first on.now) permission (spec.change_by request.now fields.now call (first on.now) user.now) verdict)) }
 {
     match verdict {
         Verdict::Granted(_) => change_by(alloc, request, fields, call, on, known, user),
@@ -134,7 +135,8 @@ fn call_with(
     known: &Known,
 ) -> Result<Answer, SiteRefusal>
     requires lawful { KeepRules (objects known.now) }
-    ensures { Answers told (λ a. a) result (comes_to known.now (spec.call_with request.now fields.now (option_map (λ pair. pair.now) credentials.entry) call (first on.now) permission)) }
+    ensures { Answers told (λ a. a) result (comes_to known.now
+        (spec.call_with request.now fields.now (option_map (λ pair. pair.now) credentials.entry) call (first on.now) permission)) }
 {
     let user = user_on(alloc, known, credentials, on, permission)?;
     change_for(alloc, request, fields, call, on, permission, known, &user)
@@ -152,7 +154,8 @@ pub(crate) fn call_on(
     known: &Known,
 ) -> Result<Answer, SiteRefusal>
     requires lawful { KeepRules (objects known.now) }
-    ensures { Answers told (λ a. a) result (comes_to known.now (spec.call_on request.now fields.now (option_map (λ pair. pair.now) credentials.entry) call (first on.now))) }
+    ensures { Answers told (λ a. a) result (comes_to known.now
+        (spec.call_on request.now fields.now (option_map (λ pair. pair.now) credentials.entry) call (first on.now))) }
 {
     let permission = permission(known, call, request.method, on)?;
     call_with(

@@ -19,7 +19,8 @@ use dtml_render::{pages_are_for_their_users, pages_are_their_users_own};
 pub fn messages_are_lawful()
     ensures lawful { IsLawful site }
     ensures few_asks { (facts : List Fact) (message : Message) → IsTrail (λ known. site (look known) message) facts → length facts ≤ most_asks }
-    ensures changes { (known : Ask → Option Fact) (message : Message) (reply : Reply) (draft : Draft) → site known message ≡ Outcome.Change reply draft → IsChange known draft × IsReply reply }
+    ensures changes { (known : Ask → Option Fact) (message : Message) (reply : Reply) (draft : Draft)
+        → site known message ≡ Outcome.Change reply draft → IsChange known draft × IsReply reply }
     ensures replies { (known : Ask → Option Fact) (message : Message) (reply : Reply) → site known message ≡ Outcome.Answer reply → IsReply reply }
 {}
 

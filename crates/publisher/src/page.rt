@@ -65,7 +65,8 @@ fn source_page(
 ) -> Result<Text, RenderRefusal>
     requires renders { budget.old.renders ≡ 31 }
     requires left { left_of budget.old ≡ pages.whole_budget }
-    ensures { Shows values.told (λ t. (t, left_of budget.new)) stack.new.shown result (looked (objects stack.old.known) stack.old.shown (pages.source_page stack.old.scope oid object.now)) }
+    ensures { Shows values.told (λ t. (t, left_of budget.new)) stack.new.shown result
+        (looked (objects stack.old.known) stack.old.shown (pages.source_page stack.old.scope oid object.now)) }
 {
     let acting = acting(alloc, object)?;
     let _former = stack.act(acting);
@@ -76,7 +77,8 @@ fn source_page(
 // The object, which its user must be granted to view.
 #[tactic(auto, using(dtml_values::specs::StepLaws::named_told))]
 fn open<'k>(oid: Oid, stack: &mut Stack<'k>) -> Result<&'k Object, RenderRefusal>
-    ensures is { Shows values.told (λ o. o.now) stack.new.shown result (looked (objects stack.old.known) stack.old.shown (names.viewing (names.whose stack.old.scope) oid)) }
+    ensures is { Shows values.told (λ o. o.now) stack.new.shown result
+        (looked (objects stack.old.known) stack.old.shown (names.viewing (names.whose stack.old.scope) oid)) }
     ensures known { stack.new.known ≡ stack.old.known }
     ensures scope { stack.new.scope ≡ stack.old.scope }
 {
@@ -90,7 +92,8 @@ fn scope_page(
     oid: Oid,
     stack: &mut Stack<'_>,
 ) -> Result<(Text, Budget), RenderRefusal>
-    ensures { Shows values.told (λ x. (x.0, left_of x.1)) stack.new.shown result (looked (objects stack.old.known) stack.old.shown (pages.scope_page stack.old.scope oid)) }
+    ensures { Shows values.told (λ x. (x.0, left_of x.1)) stack.new.shown result
+        (looked (objects stack.old.known) stack.old.shown (pages.scope_page stack.old.scope oid)) }
 {
     let object = open(oid, stack)?;
     let mut budget = whole_budget();
@@ -163,7 +166,8 @@ pub(crate) fn page(
     client: Wrapped,
     known: &Known,
 ) -> Result<Answer, SiteRefusal>
-    ensures { Answers told (λ a. a) result (comes_to known.now (spec.page request.now fields.now (option_map (λ pair. pair.now) credentials.entry) oid client)) }
+    ensures { Answers told (λ a. a) result (comes_to known.now
+        (spec.page request.now fields.now (option_map (λ pair. pair.now) credentials.entry) oid client)) }
 {
     let user = user(alloc, known, credentials, oid, VIEW)?;
     page_for(alloc, request, fields, oid, client, known, user)

@@ -106,7 +106,9 @@ fn limited(
     request: &Request,
 ) -> Result<Outcome, Memory>
     requires lawful { KeepRules (objects state.now.known) }
-    ensures { IfOk result (λ it. (facts : List Fact) → keeping.Holds state.now facts → length facts ≡ asks → it ≡ outcome (judged (replies.by_verb request.now.method replies.runaway_facts) facts (made_of request.now.method (comes_to state.now.known (spec.request request.now))))) }
+    ensures { IfOk result (λ it. (facts : List Fact) → keeping.Holds state.now facts → length facts ≡ asks
+        → it ≡ outcome (judged (replies.by_verb request.now.method replies.runaway_facts) facts
+        (made_of request.now.method (comes_to state.now.known (spec.request request.now))))) }
 {
     if has_too_many_bytes(state) {
         let runaway = runaway(alloc, request.method)?;
@@ -129,7 +131,8 @@ fn evaluated(
     message: &Message,
 ) -> Result<Outcome, Memory>
     requires lawful { KeepRules (objects state.now.known) }
-    ensures { IfOk result (λ it. (facts : List Fact) → keeping.Holds state.now facts → length facts ≡ asks → IsTrail (λ known. spec.site (look known) message.now) facts → it ≡ spec.site (look facts) message.now) }
+    ensures { IfOk result (λ it. (facts : List Fact) → keeping.Holds state.now facts → length facts ≡ asks
+        → IsTrail (λ known. spec.site (look known) message.now) facts → it ≡ spec.site (look facts) message.now) }
 {
     match message {
         Message::Refused(cause) => {

@@ -92,7 +92,8 @@ fn is_known(known: &Known, oid: Oid) -> bool
 // Reads the value of an object that isn't known yet.
 #[tactic(auto, using(crate::proofs::Learning::learn_new, crate::proofs::Learning::learn_known, crate::proofs::Learning::knows_same))]
 fn learn_object(alloc: Global, known: &mut Known, oid: Oid, value: &Value) -> Result<(), Memory>
-    ensures added { OnOk result ((facts : List FactValue) (serial : ℕ) → keeping.Knows known.old facts → keeping.Knows known.new (facts ++ FactValue.Object oid value.now serial ∷ [])) }
+    ensures added { OnOk result ((facts : List FactValue) (serial : ℕ) → keeping.Knows known.old facts
+        → keeping.Knows known.new (facts ++ FactValue.Object oid value.now serial ∷ [])) }
     ensures rules { KeepRules (objects known.old) → KeepRules (objects known.new) }
     ensures stays { OnErr result ((facts : List FactValue) → keeping.Knows known.old facts → keeping.Knows known.new facts) }
 {

@@ -61,7 +61,8 @@ pub fn dump<D: Disk, K: Sink>(
     out: &mut K,
 ) -> Result<(), DumpRefusal>
     ensures ok { OnOk result (IfSome (D.told disk.old) (λ told. Dumps (content told) (due (K.written out.old) held.old) (due (K.written out.new) held.new))) }
-    ensures damaged { (kind : Kind) (place : ℕ) → IsErrOf result (DumpRefusal.Damaged kind place) → IfSome (D.told disk.old) (λ told. Damaged (content told) place kind × ((K.written out.new ≡ K.written out.old) × (held.new ≡ held.old))) }
+    ensures damaged { (kind : Kind) (place : ℕ) → IsErrOf result (DumpRefusal.Damaged kind place)
+        → IfSome (D.told disk.old) (λ told. Damaged (content told) place kind × ((K.written out.new ≡ K.written out.old) × (held.new ≡ held.old))) }
     ensures same { D.told disk.new ≡ D.told disk.old }
     ensures disk { Counts (D.counter disk.old) (D.counter disk.new) (IsErrOf result DumpRefusal.Disk) }
     ensures sink { Counts (K.counter out.old) (K.counter out.new) (IsErrOf result DumpRefusal.Output) }

@@ -34,7 +34,8 @@ fn put_closing<D: Disk + Drop, K: Sink>(
 ) -> Result<D, OutsideRefusal>
     requires idle { store.out ≡ None }
     requires steady { IsSteady store }
-    ensures ok { OnOk result (Prints (due (K.written out.old) held.old) (due (K.written out.new) held.new) (lost_marks taken.now ++ history_lines store.history ++ Line.End ∷ [])) }
+    ensures ok { OnOk result (Prints (due (K.written out.old) held.old) (due (K.written out.new) held.new)
+        (lost_marks taken.now ++ history_lines store.history ++ Line.End ∷ [])) }
     ensures held { IfOk result (λ disk. HoldsFile (D.told disk) store.history) }
     ensures told { IfOk result (λ disk. D.told disk ≡ store.disk.told) }
     ensures hits { IfOk result (λ disk. (D.counter disk).arms.hits ≡ store.disk.counter.arms.hits) }
@@ -63,7 +64,9 @@ pub(crate) fn end_run<E: Evaluator, K: Sink>(
 ) -> Result<MemoryDisk, RunRefusal>
     requires told { IsTold core.store }
     requires running { core.store.disk.counter.arms.stopped ≡ false }
-    ensures closed { IfOk result (λ disk. (may : StoreView) × Possible core.store may × IsHistory may.history × HoldsFile (⟦<MemoryDisk as Disk>⟧.told disk) may.history × Prints (due (K.written out.old) held.old) (due (K.written out.new) held.new) (closing (moment_of E.meaning may core.slots))) }
+    ensures closed { IfOk result (λ disk. (may : StoreView) × Possible core.store may × IsHistory may.history
+        × HoldsFile (⟦<MemoryDisk as Disk>⟧.told disk) may.history
+        × Prints (due (K.written out.old) held.old) (due (K.written out.new) held.new) (closing (moment_of E.meaning may core.slots))) }
     ensures tells { IfOk result (λ disk. TellsOn core.store.disk.told (⟦<MemoryDisk as Disk>⟧.told disk)) }
     ensures hits { IfOk result (λ disk. (⟦<MemoryDisk as Disk>⟧.counter disk).arms.hits ≡ core.store.disk.counter.arms.hits) }
     ensures refused { IfErr result IsOfPrinting }

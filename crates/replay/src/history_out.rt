@@ -18,7 +18,8 @@ fn put_record<K: Sink>(
     held: &mut Pending,
     out: &mut K,
 ) -> Result<(), OutsideRefusal>
-    ensures ok { OnOk result (Prints (due (K.written out.old) held.old) (due (K.written out.new) held.new) (record_line (written.now.oid, written.now.value) ∷ [])) }
+    ensures ok { OnOk result (Prints (due (K.written out.old) held.old) (due (K.written out.new) held.new)
+        (record_line (written.now.oid, written.now.value) ∷ [])) }
     ensures counts { Counts (K.counter out.old) (K.counter out.new) (IsErrOf result OutsideRefusal.Failed) }
 {
     match record_bytes(alloc, written.oid, &written.value) {
@@ -49,7 +50,9 @@ fn put_head<K: Sink>(
     held: &mut Pending,
     out: &mut K,
 ) -> Result<(), OutsideRefusal>
-    ensures ok { OnOk result (Prints (due (K.written out.old) held.old) (due (K.written out.new) held.new) (Line.Transaction transaction.now.tid transaction.now.texts.user transaction.now.texts.description transaction.now.texts.extension (length transaction.now.values) ∷ [])) }
+    ensures ok { OnOk result (Prints (due (K.written out.old) held.old) (due (K.written out.new) held.new)
+        (Line.Transaction transaction.now.tid transaction.now.texts.user transaction.now.texts.description transaction.now.texts.extension
+        (length transaction.now.values) ∷ [])) }
     ensures counts { Counts (K.counter out.old) (K.counter out.new) (IsErrOf result OutsideRefusal.Failed) }
 {
     let texts = &transaction.texts;
@@ -73,7 +76,8 @@ pub(crate) fn put_transaction<K: Sink>(
     held: &mut Pending,
     out: &mut K,
 ) -> Result<(), OutsideRefusal>
-    ensures ok { OnOk result (Prints (due (K.written out.old) held.old) (due (K.written out.new) held.new) (transaction_lines (transaction_in transaction.now))) }
+    ensures ok { OnOk result (Prints (due (K.written out.old) held.old) (due (K.written out.new) held.new)
+        (transaction_lines (transaction_in transaction.now))) }
     ensures counts { Counts (K.counter out.old) (K.counter out.new) (IsErrOf result OutsideRefusal.Failed) }
 {
     put_head(alloc, transaction, held, out)?;

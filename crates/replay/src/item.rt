@@ -43,7 +43,8 @@ fn give<E: Evaluator>(
     ensures store { core.new.store ≡ core.old.store }
     ensures refused { IfOk result (λ given. given ≡ false → (E.takes bytes.now ≡ None) ⊎ (IsIdle core.old worker → ⊥)) }
     ensures same { IfOk result (λ given. given ≡ false → core.new ≡ core.old) }
-    ensures given { IfOk result (λ given. given ≡ true → (now limit end : ℕ) → Follows (terms_of E.takes E.meaning limit end) (MayBe E.meaning core.old) now (MayBe E.meaning core.new) now (Item2.Request worker bytes.now) []) }
+    ensures given { IfOk result (λ given. given ≡ true → (now limit end : ℕ)
+        → Follows (terms_of E.takes E.meaning limit end) (MayBe E.meaning core.old) now (MayBe E.meaning core.new) now (Item2.Request worker bytes.now) []) }
 {
     core.is_sound();
     if worker >= WORKERS as u32 {
@@ -73,7 +74,8 @@ fn run_step<E: Evaluator, K: Sink>(
     requires told { IsTold core.store }
     requires limit { (limit ≡ core.store.limit) × (limit ≤ most_length) }
     ensures limit { IfOk result (λ new. new.store.limit ≡ core.store.limit) }
-    ensures ok { IfOk result (λ new. GoesOn E.takes E.meaning limit core clock (Item2.Step worker ∷ []) new clock (due (K.written out.old) held.old) (due (K.written out.new) held.new)) }
+    ensures ok { IfOk result (λ new. GoesOn E.takes E.meaning limit core clock (Item2.Step worker ∷ []) new clock (due (K.written out.old) held.old)
+        (due (K.written out.new) held.new)) }
     ensures refused { IfErr result IsOfPrinting }
     ensures counts { Counts (K.counter out.old) (K.counter out.new) (IsErrOf result RunRefusal.Output) }
 {
@@ -107,8 +109,11 @@ pub(crate) fn run_item<E: Evaluator, K: Sink>(
     requires told { IsTold core.store }
     requires limit { (limit ≡ core.store.limit) × (limit ≤ most_length) }
     ensures limit { IfOk result (λ new. new.store.limit ≡ core.store.limit) }
-    ensures ok { IfOk result (λ new. GoesOn E.takes E.meaning limit core clock.old (item.now ∷ []) new clock.new (due (K.written out.old) held.old) (due (K.written out.new) held.new)) }
-    ensures bad_line { (n end : ℕ) → IsErrOf result (RunRefusal.BadLine n) → (n ≡ number) × CannotRun (terms_of E.takes E.meaning limit end) (clocked (moment_of E.meaning core.store core.slots) clock.old) item.now × (due (K.written out.new) held.new ≡ due (K.written out.old) held.old) }
+    ensures ok { IfOk result (λ new. GoesOn E.takes E.meaning limit core clock.old (item.now ∷ []) new clock.new (due (K.written out.old) held.old)
+        (due (K.written out.new) held.new)) }
+    ensures bad_line { (n end : ℕ) → IsErrOf result (RunRefusal.BadLine n)
+        → (n ≡ number) × CannotRun (terms_of E.takes E.meaning limit end) (clocked (moment_of E.meaning core.store core.slots) clock.old) item.now
+        × (due (K.written out.new) held.new ≡ due (K.written out.old) held.old) }
     ensures refused { IfErr result IsOfItems }
     ensures counts { Counts (K.counter out.old) (K.counter out.new) (IsErrOf result RunRefusal.Output) }
 {

@@ -13,7 +13,8 @@ use schedule::requests_keep_pace;
 /// Of what `replay` prints, the steps of a request that meets nothing are those of its evaluation at its snapshot, as
 /// `requests_keep_pace` says of every explained report.
 pub fn replayed_requests_keep_pace<E: Evaluator>()
-    ensures { (limit : ℕ) (bytes : List ℕ) (items : List Item2) (disk : Option Told) (arms : Arms) (old new : Option (List ℕ)) (ran : Replays E.takes E.meaning limit bytes items disk arms old new)
+    ensures { (limit : ℕ) (bytes : List ℕ) (items : List Item2) (disk : Option Told) (arms : Arms) (old new : Option (List ℕ))
+        (ran : Replays E.takes E.meaning limit bytes items disk arms old new)
         (w : ℕ) (q : E.Request) (during : List (Place E.Request)) → GoesUnhindered (terms_of E.takes E.meaning limit ran.end) ran.explained.trace w q during →
         (at tid : ℕ) × GoTogether (whole_steps (terms_of E.takes E.meaning limit ran.end) ran.explained.end.standing w at tid q) (steps_of w during) }
 {

@@ -117,7 +117,8 @@ fn put_read<K: Sink>(
     out: &mut K,
 ) -> Result<(), OutsideRefusal>
     requires { IsReply reply.now }
-    ensures ok { OnOk result (Prints (due (K.written out.old) held.old) (due (K.written out.new) held.new) (step_lines answer worker (StepLine.Read reply.now tid))) }
+    ensures ok { OnOk result (Prints (due (K.written out.old) held.old) (due (K.written out.new) held.new)
+        (step_lines answer worker (StepLine.Read reply.now tid))) }
     ensures counts { Counts (K.counter out.old) (K.counter out.new) (IsErrOf result OutsideRefusal.Failed) }
 {
     let Ok(bytes) = reply_bytes(alloc, reply, Mark::Read(tid)) else {
@@ -138,7 +139,8 @@ fn put_commit<K: Sink>(
     out: &mut K,
 ) -> Result<(), OutsideRefusal>
     requires { IsReply reply.now }
-    ensures ok { OnOk result (Prints (due (K.written out.old) held.old) (due (K.written out.new) held.new) (step_lines answer worker (StepLine.Commit reply.now tid))) }
+    ensures ok { OnOk result (Prints (due (K.written out.old) held.old) (due (K.written out.new) held.new)
+        (step_lines answer worker (StepLine.Commit reply.now tid))) }
     ensures counts { Counts (K.counter out.old) (K.counter out.new) (IsErrOf result OutsideRefusal.Failed) }
 {
     let Ok(bytes) = reply_bytes(alloc, reply, Mark::Commit(tid)) else {
@@ -182,7 +184,8 @@ fn put_given_up<K: Sink>(
     held: &mut Pending,
     out: &mut K,
 ) -> Result<(), OutsideRefusal>
-    ensures ok { OnOk result (Prints (due (K.written out.old) held.old) (due (K.written out.new) held.new) (step_lines answer worker (StepLine.GivenUp clashes.now))) }
+    ensures ok { OnOk result (Prints (due (K.written out.old) held.old) (due (K.written out.new) held.new)
+        (step_lines answer worker (StepLine.GivenUp clashes.now))) }
     ensures counts { Counts (K.counter out.old) (K.counter out.new) (IsErrOf result OutsideRefusal.Failed) }
 {
     let last = latest(clashes);

@@ -31,8 +31,11 @@ fn go_on<K: Sink>(
     held: &mut Pending,
     out: &mut K,
 ) -> Result<MemoryDisk, OutsideRefusal>
-    ensures went { IfOk result (λ next. (opening : Opening) × GoesOnBy opening (⟦<MemoryDisk as Disk>⟧.counter disk).arms (⟦<MemoryDisk as Disk>⟧.counter next).arms × Prints (due (K.written out.old) held.old) (due (K.written out.new) held.new) (opening_line opening ∷ [])) }
-    ensures anew { (h : History) (end : ℕ) → OpensAnew h end (⟦<MemoryDisk as Disk>⟧.told disk) → IfOk result (λ next. OpensAnew h end (⟦<MemoryDisk as Disk>⟧.told next)) }
+    ensures went { IfOk result (λ next. (opening : Opening)
+        × GoesOnBy opening (⟦<MemoryDisk as Disk>⟧.counter disk).arms (⟦<MemoryDisk as Disk>⟧.counter next).arms
+        × Prints (due (K.written out.old) held.old) (due (K.written out.new) held.new) (opening_line opening ∷ [])) }
+    ensures anew { (h : History) (end : ℕ) → OpensAnew h end (⟦<MemoryDisk as Disk>⟧.told disk)
+        → IfOk result (λ next. OpensAnew h end (⟦<MemoryDisk as Disk>⟧.told next)) }
     ensures counts { Counts (K.counter out.old) (K.counter out.new) (IsErrOf result OutsideRefusal.Failed) }
 {
     if disk.stopped() {
@@ -55,10 +58,13 @@ fn reopen<K: Sink>(
     requires limit { limit ≤ most_length }
     requires running { (⟦<MemoryDisk as Disk>⟧.counter disk).arms.stopped ≡ false }
     requires anew { (h : History) × (end : ℕ) × OpensAnew h end (⟦<MemoryDisk as Disk>⟧.told disk) }
-    ensures opened { IfOk result (λ store. (openings : List Opening) × OpeningsOf (⟦<MemoryDisk as Disk>⟧.counter disk).arms openings store.disk.counter.arms × Prints (due (K.written out.old) held.old) (due (K.written out.new) held.new) (map opening_line openings)) }
+    ensures opened { IfOk result (λ store. (openings : List Opening)
+        × OpeningsOf (⟦<MemoryDisk as Disk>⟧.counter disk).arms openings store.disk.counter.arms
+        × Prints (due (K.written out.old) held.old) (due (K.written out.new) held.new) (map opening_line openings)) }
     ensures running { IfOk result (λ store. store.disk.counter.arms.stopped ≡ false) }
     ensures fresh { IfOk result (λ store. (store.out ≡ None) × (store.stale ≡ false) × (store.limit ≡ limit) × IsTold store) }
-    ensures anew { (h : History) (end : ℕ) → OpensAnew h end (⟦<MemoryDisk as Disk>⟧.told disk) → IfOk result (λ store. (store.history ≡ h) × (store.end ≡ end) × OpensAnew h end store.disk.told) }
+    ensures anew { (h : History) (end : ℕ) → OpensAnew h end (⟦<MemoryDisk as Disk>⟧.told disk)
+        → IfOk result (λ store. (store.history ≡ h) × (store.end ≡ end) × OpensAnew h end store.disk.told) }
     ensures refused { IfErr result IsOfPrinting }
     ensures counts { Counts (K.counter out.old) (K.counter out.new) (IsErrOf result RunRefusal.Output) }
 {
@@ -86,7 +92,8 @@ fn put_restart<K: Sink>(
 ) -> Result<(), OutsideRefusal>
     requires fresh { store.now.stale ≡ false }
     requires told { IsTold store.now }
-    ensures ok { OnOk result (Prints (due (K.written out.old) held.old) (due (K.written out.new) held.new) (Line.Restart (last store.now.history) (length store.now.history.transactions) ∷ [])) }
+    ensures ok { OnOk result (Prints (due (K.written out.old) held.old) (due (K.written out.new) held.new)
+        (Line.Restart (last store.now.history) (length store.now.history.transactions) ∷ [])) }
     ensures counts { Counts (K.counter out.old) (K.counter out.new) (IsErrOf result OutsideRefusal.Failed) }
 {
     put_line(alloc, &Line::Restart(store.last(), store.len()), held, out)
@@ -106,7 +113,9 @@ pub(crate) fn restart<E: Evaluator, K: Sink>(
     requires told { IsTold core.store }
     requires limit { (limit ≡ core.store.limit) × (limit ≤ most_length) }
     requires worker { worker < WORKERS }
-    ensures restarted { IfOk result (λ new. (openings : List Opening) × Restarts E.meaning core new openings × Prints (due (K.written out.old) held.old) (due (K.written out.new) held.new) (restart_lines (lost_marks (slice_set (map is_taken core.slots) worker true)) openings new.store.history)) }
+    ensures restarted { IfOk result (λ new. (openings : List Opening) × Restarts E.meaning core new openings
+        × Prints (due (K.written out.old) held.old) (due (K.written out.new) held.new)
+        (restart_lines (lost_marks (slice_set (map is_taken core.slots) worker true)) openings new.store.history)) }
     ensures refused { IfErr result IsOfPrinting }
     ensures counts { Counts (K.counter out.old) (K.counter out.new) (IsErrOf result RunRefusal.Output) }
 {

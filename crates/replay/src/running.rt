@@ -71,8 +71,13 @@ fn run_items<E: Evaluator, K: Sink>(
     requires limit { (limit ≡ core.store.limit) × (limit ≤ most_length) }
     requires fresh { core.store.stale ≡ false }
     requires opened { (given : List ℕ) × IsOpened E.meaning given core }
-    ensures ran { IfOk result (λ new. (given : List ℕ) → IsOpened E.meaning given core → (now : ℕ) × (lines : List Line) × Kept E.meaning (terms_of E.takes E.meaning limit core.store.end) given core.store.history items.now lines new now × Prints (due (K.written out.old) held.old) (due (K.written out.new) held.new) (opening core.store.history ++ lines)) }
-    ensures bad_line { (n : ℕ) → IsErrOf result (RunRefusal.BadLine n) → BrokenOff (terms_of E.takes E.meaning limit core.store.end) core.store.history items.now n (due (K.written out.old) held.old) (due (K.written out.new) held.new) }
+    ensures ran { IfOk result (λ new. (given : List ℕ) → IsOpened E.meaning given core
+        → (now : ℕ) × (lines : List Line) × Kept E.meaning
+        (terms_of E.takes E.meaning limit core.store.end) given core.store.history items.now lines new now
+        × Prints (due (K.written out.old) held.old) (due (K.written out.new) held.new) (opening core.store.history ++ lines)) }
+    ensures bad_line { (n : ℕ) → IsErrOf result (RunRefusal.BadLine n)
+        → BrokenOff (terms_of E.takes E.meaning limit core.store.end) core.store.history items.now n (due (K.written out.old) held.old)
+        (due (K.written out.new) held.new) }
     ensures refused { IfErr result IsOfItems }
     ensures counts { Counts (K.counter out.old) (K.counter out.new) (IsErrOf result RunRefusal.Output) }
 {
@@ -105,8 +110,11 @@ fn run_over<E: Evaluator, K: Sink>(
 ) -> Result<MemoryDisk, RunRefusal>
     requires limit { limit ≤ most_length }
     requires opened { (bytes : List ℕ) × Runs bytes limit store }
-    ensures replays { IfOk result (λ disk. (bytes : List ℕ) → Runs bytes limit store → Replays E.takes E.meaning limit bytes items.now (⟦<MemoryDisk as Disk>⟧.told disk) (⟦<MemoryDisk as Disk>⟧.counter disk).arms (due (K.written out.old) held.old) (due (K.written out.new) held.new)) }
-    ensures bad_line { (n : ℕ) → IsErrOf result (RunRefusal.BadLine n) → (bytes : List ℕ) → Runs bytes limit store → Breaks E.takes E.meaning limit bytes items.now n (due (K.written out.old) held.old) (due (K.written out.new) held.new) }
+    ensures replays { IfOk result (λ disk. (bytes : List ℕ) → Runs bytes limit store
+        → Replays E.takes E.meaning limit bytes items.now (⟦<MemoryDisk as Disk>⟧.told disk) (⟦<MemoryDisk as Disk>⟧.counter disk).arms
+        (due (K.written out.old) held.old) (due (K.written out.new) held.new)) }
+    ensures bad_line { (n : ℕ) → IsErrOf result (RunRefusal.BadLine n) → (bytes : List ℕ) → Runs bytes limit store
+        → Breaks E.takes E.meaning limit bytes items.now n (due (K.written out.old) held.old) (due (K.written out.new) held.new) }
     ensures refused { IfErr result IsOfItems }
     ensures counts { Counts (K.counter out.old) (K.counter out.new) (IsErrOf result RunRefusal.Output) }
 {
@@ -136,9 +144,12 @@ pub fn replay<E: Evaluator, K: Sink>(
 ) -> Result<MemoryDisk, RunRefusal>
     requires limit { limit ≤ most_length }
     requires size { length bytes ≤ most_length }
-    ensures replays { IfOk result (λ disk. Replays E.takes E.meaning limit bytes schedule.now (⟦<MemoryDisk as Disk>⟧.told disk) (⟦<MemoryDisk as Disk>⟧.counter disk).arms (K.written out.old) (K.written out.new)) }
-    ensures damaged { (kind : Kind) (place : ℕ) → IsErrOf result (RunRefusal.Damaged kind place) → Damaged bytes place kind × (K.written out.new ≡ K.written out.old) }
-    ensures bad_line { (n : ℕ) → IsErrOf result (RunRefusal.BadLine n) → Breaks E.takes E.meaning limit bytes schedule.now n (K.written out.old) (K.written out.new) }
+    ensures replays { IfOk result (λ disk. Replays E.takes E.meaning limit bytes schedule.now (⟦<MemoryDisk as Disk>⟧.told disk)
+        (⟦<MemoryDisk as Disk>⟧.counter disk).arms (K.written out.old) (K.written out.new)) }
+    ensures damaged { (kind : Kind) (place : ℕ) → IsErrOf result (RunRefusal.Damaged kind place)
+        → Damaged bytes place kind × (K.written out.new ≡ K.written out.old) }
+    ensures bad_line { (n : ℕ) → IsErrOf result (RunRefusal.BadLine n)
+        → Breaks E.takes E.meaning limit bytes schedule.now n (K.written out.old) (K.written out.new) }
     ensures output { IsErrOf result RunRefusal.Output → AreOpened bytes }
     ensures counts { Counts (K.counter out.old) (K.counter out.new) (IsErrOf result RunRefusal.Output) }
 {

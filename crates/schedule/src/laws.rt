@@ -39,11 +39,13 @@ pub fn runs_are_serial<E: Evaluator>()
 /// memory, wait for another's vote, conflict or number that is spent, the worker's steps print `begin`, a `fetch` for each of
 /// these asks, and the reply, or before it `computed` and `vote`. What other workers do meanwhile changes nothing of this.
 pub fn requests_keep_pace<E: Evaluator>()
-    ensures steps { (terms : Terms E.Request) (h0 : History) (s : List Item2) (r : List Line) (e : Explained terms h0 s r) → terms.eval ≡ E.meaning → IsHistory h0 →
-        (w : ℕ) (q : E.Request) (during : List (Place E.Request)) → GoesUnhindered terms e.trace w q during → (at tid : ℕ) × GoTogether (whole_steps terms e.end.standing w at tid q) (steps_of w during) }
+    ensures steps { (terms : Terms E.Request) (h0 : History) (s : List Item2) (r : List Line) (e : Explained terms h0 s r) → terms.eval ≡ E.meaning
+        → IsHistory h0 → (w : ℕ) (q : E.Request) (during : List (Place E.Request)) → GoesUnhindered terms e.trace w q during
+        → (at tid : ℕ) × GoTogether (whole_steps terms e.end.standing w at tid q) (steps_of w during) }
     ensures reads { (terms : Terms E.Request) (h : History) (w at tid : ℕ) (q : E.Request) (x : Reply) → exec terms.eval (upto h at) q ≡ Outcome.Answer x →
         length (whole_steps terms h w at tid q) ≡ length (asks_at terms.eval (upto h at) q) + 2 }
-    ensures writes { (terms : Terms E.Request) (h : History) (w at tid : ℕ) (q : E.Request) (x : Reply) (d : Draft) → exec terms.eval (upto h at) q ≡ Outcome.Change x d →
+    ensures writes { (terms : Terms E.Request) (h : History) (w at tid : ℕ) (q : E.Request) (x : Reply) (d : Draft)
+        → exec terms.eval (upto h at) q ≡ Outcome.Change x d →
         length (whole_steps terms h w at tid q) ≡ length (asks_at terms.eval (upto h at) q) + 4 }
     ensures one_or_other { (h : History) (q : E.Request) → IsDecided (exec E.meaning h q) }
     ensures once { (h : History) (q : E.Request) → NoneTwice (asks_at E.meaning h q) }

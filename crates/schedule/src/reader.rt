@@ -144,7 +144,8 @@ fn clock_at(fields: &[u8]) -> Result<(Item2, &[u8]), Unread>
 fn calls_at(alloc: Global, fields: &[u8]) -> Result<(u64, u64, &[u8]), Unread>
     ensures numbers { IfOk result (λ read. fields.now ≡ decimal read.0 ++ 32 ∷ (decimal read.1 ++ 10 ∷ read.2.now)) }
     ensures some { IfOk result (λ read. 0 < read.0) }
-    ensures bad { result ≡ Err Bad → (n seed : ℕ) (rest : List ℕ) → 0 < n → n < 2 ^ 64 → seed < 2 ^ 64 → fields.now ≢ decimal n ++ 32 ∷ (decimal seed ++ 10 ∷ rest) }
+    ensures bad { result ≡ Err Bad → (n seed : ℕ) (rest : List ℕ) → 0 < n → n < 2 ^ 64 → seed < 2 ^ 64
+        → fields.now ≢ decimal n ++ 32 ∷ (decimal seed ++ 10 ∷ rest) }
 {
     let (calls, rest) = number_at(alloc, fields, b' ')?;
     if calls == 0 {

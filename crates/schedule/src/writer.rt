@@ -89,7 +89,8 @@ fn put_reply(
     bytes: &Bytes,
     out: &mut Bytes,
 ) -> Result<(), Memory>
-    ensures { OnOk result (out.new ≡ out.old ++ block (row (codes "reply") (decimal worker ∷ mark_fields word.now tid ++ decimal (length bytes.now) ∷ [])) bytes.now) }
+    ensures { OnOk result (out.new ≡ out.old ++ block
+        (row (codes "reply") (decimal worker ∷ mark_fields word.now tid ++ decimal (length bytes.now) ∷ [])) bytes.now) }
 {
     let bytes = bytes.as_slice();
     let length = Field::Number(bytes.len() as u64);
@@ -112,7 +113,8 @@ fn put_transaction<'a>(
     n: u64,
     out: &mut Bytes,
 ) -> Result<(), Memory>
-    ensures { OnOk result (out.new ≡ out.old ++ row (codes "transaction") (hex16_text tid ∷ text_field user.now ∷ text_field description.now ∷ text_field extension.now ∷ decimal n ∷ [])) }
+    ensures { OnOk result (out.new ≡ out.old ++ row (codes "transaction")
+        (hex16_text tid ∷ text_field user.now ∷ text_field description.now ∷ text_field extension.now ∷ decimal n ∷ [])) }
 {
     put_row(
         out,

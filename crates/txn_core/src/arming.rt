@@ -14,9 +14,11 @@ impl<E: Evaluator> Core<MemoryDisk, E> {
     /// memory nothing is armed.
     pub fn arm_stop(&mut self, calls: u64, seed: u64) -> Result<(), Memory>
         requires { 1 ≤ calls }
-        ensures armed { OnOk result (self.new ≡ record { store = on_disk self.old.store (arming self.old.store.disk (record { stops = true; calls = calls; seed = seed })); slots = self.old.slots }) }
+        ensures armed { OnOk result (self.new ≡ record
+            { store = on_disk self.old.store (arming self.old.store.disk (record { stops = true; calls = calls; seed = seed })); slots = self.old.slots }) }
         ensures kept { OnErr result (self.new ≡ self.old) }
-        ensures same { (self.new.store ≡ on_disk self.old.store self.new.store.disk) × (self.new.store.disk.told ≡ self.old.store.disk.told) × (self.new.slots ≡ self.old.slots) }
+        ensures same { (self.new.store ≡ on_disk self.old.store self.new.store.disk) × (self.new.store.disk.told ≡ self.old.store.disk.told)
+            × (self.new.slots ≡ self.old.slots) }
     {
         self.store.arm_stop(calls, seed)
     }
@@ -24,9 +26,11 @@ impl<E: Evaluator> Core<MemoryDisk, E> {
     /// Arms a failure of the disk: the last of so many device calls fails. For want of memory nothing is armed.
     pub fn arm_fail(&mut self, calls: u64, seed: u64) -> Result<(), Memory>
         requires { 1 ≤ calls }
-        ensures armed { OnOk result (self.new ≡ record { store = on_disk self.old.store (arming self.old.store.disk (record { stops = false; calls = calls; seed = seed })); slots = self.old.slots }) }
+        ensures armed { OnOk result (self.new ≡ record
+            { store = on_disk self.old.store (arming self.old.store.disk (record { stops = false; calls = calls; seed = seed })); slots = self.old.slots }) }
         ensures kept { OnErr result (self.new ≡ self.old) }
-        ensures same { (self.new.store ≡ on_disk self.old.store self.new.store.disk) × (self.new.store.disk.told ≡ self.old.store.disk.told) × (self.new.slots ≡ self.old.slots) }
+        ensures same { (self.new.store ≡ on_disk self.old.store self.new.store.disk) × (self.new.store.disk.told ≡ self.old.store.disk.told)
+            × (self.new.slots ≡ self.old.slots) }
     {
         self.store.arm_fail(calls, seed)
     }
@@ -43,7 +47,8 @@ impl<E: Evaluator> Core<MemoryDisk, E> {
     pub fn stopped(&self) -> bool
         ensures value { result ≡ self.now.store.disk.counter.arms.stopped }
         ensures waits { IsWaiting self.now.store.disk.counter.arms }
-        ensures calm { self.now.store.disk.counter.arms.queue ≡ [] → self.now.store.disk.counter.arms.stopped ≡ false → IsFaultless self.now.store.disk.counter }
+        ensures calm { self.now.store.disk.counter.arms.queue ≡ [] → self.now.store.disk.counter.arms.stopped ≡ false
+            → IsFaultless self.now.store.disk.counter }
     {
         self.store.stopped()
     }

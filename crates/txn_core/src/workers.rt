@@ -159,10 +159,13 @@ impl<D: Disk + Drop, E: Evaluator> Core<D, E> {
         ensures answered { IsAnswered result }
         ensures counts { Counts self.old.store.disk.counter self.new.store.disk.counter (IsFaultLine result) }
         ensures twice { IsVoteLine result → Twice self.old.store.disk.counter self.new.store.disk.counter }
-        ensures passes { (old new : Slot E E.Request E.State) → slice_get self.old.slots worker ≡ Some old → slice_get self.new.slots worker ≡ Some new → Passes E.meaning result old new }
+        ensures passes { (old new : Slot E E.Request E.State) → slice_get self.old.slots worker ≡ Some old
+            → slice_get self.new.slots worker ≡ Some new → Passes E.meaning result old new }
         ensures left { Lowers result (left self.old.slots worker) (left self.new.slots worker) }
-        ensures paces { (old new : Slot E E.Request E.State) → slice_get self.old.slots worker ≡ Some old → slice_get self.new.slots worker ≡ Some new → Paces result old new }
-        ensures asked { IsTold self.old.store → (old : Slot E E.Request E.State) → slice_get self.old.slots worker ≡ Some old → RestsOn E.meaning self.old.store result old }
+        ensures paces { (old new : Slot E E.Request E.State) → slice_get self.old.slots worker ≡ Some old → slice_get self.new.slots worker ≡ Some new
+            → Paces result old new }
+        ensures asked { IsTold self.old.store → (old : Slot E E.Request E.State) → slice_get self.old.slots worker ≡ Some old
+            → RestsOn E.meaning self.old.store result old }
         ensures waits { (v : ℕ) → result ≡ StepLine.Busy v → (p : PendingView E.Request) × (slice_get self.old.slots v ≡ Some (Slot.Pending p)) }
         ensures ends { (p : PendingView E.Request) → slice_get self.old.slots worker ≡ Some (Slot.Pending p) → IsIdle self.new worker × IsOutcome p result }
         ensures finishes { IsFinishLine result → (p : PendingView E.Request) × (slice_get self.old.slots worker ≡ Some (Slot.Pending p)) }

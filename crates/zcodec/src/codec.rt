@@ -65,7 +65,14 @@ fn names_of(alloc: Global, kind: Kind, bytes: &[u8]) -> Result<(Names, &[u8]), U
 
 #[tactic(auto, unfolding(crate::specs::Reading::head_at))]
 fn head_of(alloc: Global, bytes: &[u8]) -> Result<(Start, Names, &[u8]), Unread>
-    ensures { Gives (λ x. (record { start = record { version = x.0.version; kind = x.0.kind }; names = record { id = x.1.id; parent = x.1.parent; title = x.1.title } }, x.2.now)) result (head_at bytes.now) }
+    ensures { Gives (λ x. (
+      record {
+        start = record { version = x.0.version; kind = x.0.kind };
+        names = record
+            { id = x.1.id; parent = x.1.parent; title = x.1.title };
+      },
+      x.2.now,
+    )) result (head_at bytes.now) }
 {
     let (start, rest) = start_of(bytes)?;
     let (names, rest) = names_of(alloc, start.kind, rest)?;

@@ -52,10 +52,12 @@ impl MemoryDisk {
     /// memory nothing is armed.
     pub fn arm_stop(&mut self, calls: u64, seed: u64) -> Result<(), Memory>
         requires { 1 ≤ calls }
-        ensures armed { OnOk result (⟦<MemoryDisk as Disk>⟧.counter self.new ≡ armed (⟦<MemoryDisk as Disk>⟧.counter self.old) (record { stops = true; calls = calls; seed = seed })) }
+        ensures armed { OnOk result (⟦<MemoryDisk as Disk>⟧.counter self.new
+            ≡ armed (⟦<MemoryDisk as Disk>⟧.counter self.old) (record { stops = true; calls = calls; seed = seed })) }
         ensures kept { OnErr result (⟦<MemoryDisk as Disk>⟧.counter self.new ≡ ⟦<MemoryDisk as Disk>⟧.counter self.old) }
         ensures same { ⟦<MemoryDisk as Disk>⟧.told self.new ≡ ⟦<MemoryDisk as Disk>⟧.told self.old }
-        ensures spare { (⟦<MemoryDisk as Disk>⟧.spare_calls self.new ≡ ⟦<MemoryDisk as Disk>⟧.spare_calls self.old) × (⟦<MemoryDisk as Disk>⟧.spare_bytes self.new ≡ ⟦<MemoryDisk as Disk>⟧.spare_bytes self.old) }
+        ensures spare { (⟦<MemoryDisk as Disk>⟧.spare_calls self.new ≡ ⟦<MemoryDisk as Disk>⟧.spare_calls self.old)
+            × (⟦<MemoryDisk as Disk>⟧.spare_bytes self.new ≡ ⟦<MemoryDisk as Disk>⟧.spare_bytes self.old) }
     {
         self.arm(Arm {
             stops: true,
@@ -67,10 +69,12 @@ impl MemoryDisk {
     /// Arms a failure: the last of so many calls fails. For want of memory nothing is armed.
     pub fn arm_fail(&mut self, calls: u64, seed: u64) -> Result<(), Memory>
         requires { 1 ≤ calls }
-        ensures armed { OnOk result (⟦<MemoryDisk as Disk>⟧.counter self.new ≡ armed (⟦<MemoryDisk as Disk>⟧.counter self.old) (record { stops = false; calls = calls; seed = seed })) }
+        ensures armed { OnOk result (⟦<MemoryDisk as Disk>⟧.counter self.new
+            ≡ armed (⟦<MemoryDisk as Disk>⟧.counter self.old) (record { stops = false; calls = calls; seed = seed })) }
         ensures kept { OnErr result (⟦<MemoryDisk as Disk>⟧.counter self.new ≡ ⟦<MemoryDisk as Disk>⟧.counter self.old) }
         ensures same { ⟦<MemoryDisk as Disk>⟧.told self.new ≡ ⟦<MemoryDisk as Disk>⟧.told self.old }
-        ensures spare { (⟦<MemoryDisk as Disk>⟧.spare_calls self.new ≡ ⟦<MemoryDisk as Disk>⟧.spare_calls self.old) × (⟦<MemoryDisk as Disk>⟧.spare_bytes self.new ≡ ⟦<MemoryDisk as Disk>⟧.spare_bytes self.old) }
+        ensures spare { (⟦<MemoryDisk as Disk>⟧.spare_calls self.new ≡ ⟦<MemoryDisk as Disk>⟧.spare_calls self.old)
+            × (⟦<MemoryDisk as Disk>⟧.spare_bytes self.new ≡ ⟦<MemoryDisk as Disk>⟧.spare_bytes self.old) }
     {
         self.arm(Arm {
             stops: false,
@@ -85,7 +89,8 @@ impl MemoryDisk {
         ensures armed { OnOk result (⟦<MemoryDisk as Disk>⟧.counter self.new ≡ armed (⟦<MemoryDisk as Disk>⟧.counter self.old) arm) }
         ensures kept { OnErr result (⟦<MemoryDisk as Disk>⟧.counter self.new ≡ ⟦<MemoryDisk as Disk>⟧.counter self.old) }
         ensures same { ⟦<MemoryDisk as Disk>⟧.told self.new ≡ ⟦<MemoryDisk as Disk>⟧.told self.old }
-        ensures spare { (⟦<MemoryDisk as Disk>⟧.spare_calls self.new ≡ ⟦<MemoryDisk as Disk>⟧.spare_calls self.old) × (⟦<MemoryDisk as Disk>⟧.spare_bytes self.new ≡ ⟦<MemoryDisk as Disk>⟧.spare_bytes self.old) }
+        ensures spare { (⟦<MemoryDisk as Disk>⟧.spare_calls self.new ≡ ⟦<MemoryDisk as Disk>⟧.spare_calls self.old)
+            × (⟦<MemoryDisk as Disk>⟧.spare_bytes self.new ≡ ⟦<MemoryDisk as Disk>⟧.spare_bytes self.old) }
     {
         let faults = self.queue.waiting().checked_add(1).ok_or(Memory)?;
         self.file.reserve_faults(faults)?;
@@ -96,7 +101,8 @@ impl MemoryDisk {
     pub fn disarm(&mut self)
         ensures disarmed { ⟦<MemoryDisk as Disk>⟧.counter self.new ≡ disarmed (⟦<MemoryDisk as Disk>⟧.counter self.old) }
         ensures same { ⟦<MemoryDisk as Disk>⟧.told self.new ≡ ⟦<MemoryDisk as Disk>⟧.told self.old }
-        ensures spare { (⟦<MemoryDisk as Disk>⟧.spare_calls self.new ≡ ⟦<MemoryDisk as Disk>⟧.spare_calls self.old) × (⟦<MemoryDisk as Disk>⟧.spare_bytes self.new ≡ ⟦<MemoryDisk as Disk>⟧.spare_bytes self.old) }
+        ensures spare { (⟦<MemoryDisk as Disk>⟧.spare_calls self.new ≡ ⟦<MemoryDisk as Disk>⟧.spare_calls self.old)
+            × (⟦<MemoryDisk as Disk>⟧.spare_bytes self.new ≡ ⟦<MemoryDisk as Disk>⟧.spare_bytes self.old) }
     {
         self.queue.disarm();
     }
@@ -106,7 +112,8 @@ impl MemoryDisk {
     pub fn stopped(&self) -> bool
         ensures value { result ≡ (⟦<MemoryDisk as Disk>⟧.counter self.now).arms.stopped }
         ensures waits { IsWaiting (⟦<MemoryDisk as Disk>⟧.counter self.now).arms }
-        ensures calm { (⟦<MemoryDisk as Disk>⟧.counter self.now).arms.queue ≡ [] → (⟦<MemoryDisk as Disk>⟧.counter self.now).arms.stopped ≡ false → IsFaultless (⟦<MemoryDisk as Disk>⟧.counter self.now) }
+        ensures calm { (⟦<MemoryDisk as Disk>⟧.counter self.now).arms.queue ≡ [] → (⟦<MemoryDisk as Disk>⟧.counter self.now).arms.stopped ≡ false
+            → IsFaultless (⟦<MemoryDisk as Disk>⟧.counter self.now) }
     {
         self.queue.stopped()
     }
@@ -130,10 +137,13 @@ impl MemoryDisk {
     /// took is spare again. Takes no memory.
     pub fn after_stop(self) -> MemoryDisk
         requires stopped { (⟦<MemoryDisk as Disk>⟧.counter self).arms.stopped ≡ true }
-        ensures told { ⟦<MemoryDisk as Disk>⟧.told result ≡ option_map (λ told. synced (image_left (last_seed (⟦<MemoryDisk as Disk>⟧.counter self).arms.hits) told)) (⟦<MemoryDisk as Disk>⟧.told self) }
+        ensures told { ⟦<MemoryDisk as Disk>⟧.told result
+            ≡ option_map (λ told. synced (image_left (last_seed (⟦<MemoryDisk as Disk>⟧.counter self).arms.hits) told)) (⟦<MemoryDisk as Disk>⟧.told self) }
         ensures counter { ⟦<MemoryDisk as Disk>⟧.counter result ≡ resumed (⟦<MemoryDisk as Disk>⟧.counter self) }
-        ensures spare { (⟦<MemoryDisk as Disk>⟧.spare_calls self ≤ ⟦<MemoryDisk as Disk>⟧.spare_calls result) × (⟦<MemoryDisk as Disk>⟧.spare_bytes result ≡ ⟦<MemoryDisk as Disk>⟧.spare_bytes self) }
-        ensures gives_back { IfSome (⟦<MemoryDisk as Disk>⟧.told self) (λ told. ⟦<MemoryDisk as Disk>⟧.spare_calls result ≡ ⟦<MemoryDisk as Disk>⟧.spare_calls self + length told.earlier) }
+        ensures spare { (⟦<MemoryDisk as Disk>⟧.spare_calls self ≤ ⟦<MemoryDisk as Disk>⟧.spare_calls result)
+            × (⟦<MemoryDisk as Disk>⟧.spare_bytes result ≡ ⟦<MemoryDisk as Disk>⟧.spare_bytes self) }
+        ensures gives_back { IfSome (⟦<MemoryDisk as Disk>⟧.told self)
+            (λ told. ⟦<MemoryDisk as Disk>⟧.spare_calls result ≡ ⟦<MemoryDisk as Disk>⟧.spare_calls self + length told.earlier) }
     {
         let seed = self.last_seed();
         let mut disk = self;
@@ -154,11 +164,14 @@ impl Disk for MemoryDisk {
 
     fn reserve(&mut self, calls: u64, bytes: u64) -> Result<(), Memory>
         ensures room { OnOk result ((calls ≤ ⟦<MemoryDisk as Disk>⟧.spare_calls self.new) × (bytes ≤ ⟦<MemoryDisk as Disk>⟧.spare_bytes self.new)) }
-        ensures kept { (⟦<MemoryDisk as Disk>⟧.spare_calls self.old ≤ ⟦<MemoryDisk as Disk>⟧.spare_calls self.new) × (⟦<MemoryDisk as Disk>⟧.spare_bytes self.old ≤ ⟦<MemoryDisk as Disk>⟧.spare_bytes self.new) }
+        ensures kept { (⟦<MemoryDisk as Disk>⟧.spare_calls self.old ≤ ⟦<MemoryDisk as Disk>⟧.spare_calls self.new)
+            × (⟦<MemoryDisk as Disk>⟧.spare_bytes self.old ≤ ⟦<MemoryDisk as Disk>⟧.spare_bytes self.new) }
         ensures same { ⟦<MemoryDisk as Disk>⟧.told self.new ≡ ⟦<MemoryDisk as Disk>⟧.told self.old }
         ensures uncalled { ⟦<MemoryDisk as Disk>⟧.counter self.new ≡ ⟦<MemoryDisk as Disk>⟧.counter self.old }
-        ensures grows { OnOk result ((⟦<MemoryDisk as Disk>⟧.spare_calls self.new ≡ max (⟦<MemoryDisk as Disk>⟧.spare_calls self.old) calls) × (⟦<MemoryDisk as Disk>⟧.spare_bytes self.new ≡ max (⟦<MemoryDisk as Disk>⟧.spare_bytes self.old) bytes)) }
-        ensures stays { OnErr result ((⟦<MemoryDisk as Disk>⟧.spare_calls self.new ≡ ⟦<MemoryDisk as Disk>⟧.spare_calls self.old) × (⟦<MemoryDisk as Disk>⟧.spare_bytes self.new ≡ ⟦<MemoryDisk as Disk>⟧.spare_bytes self.old)) }
+        ensures grows { OnOk result ((⟦<MemoryDisk as Disk>⟧.spare_calls self.new ≡ max (⟦<MemoryDisk as Disk>⟧.spare_calls self.old) calls)
+            × (⟦<MemoryDisk as Disk>⟧.spare_bytes self.new ≡ max (⟦<MemoryDisk as Disk>⟧.spare_bytes self.old) bytes)) }
+        ensures stays { OnErr result ((⟦<MemoryDisk as Disk>⟧.spare_calls self.new ≡ ⟦<MemoryDisk as Disk>⟧.spare_calls self.old)
+            × (⟦<MemoryDisk as Disk>⟧.spare_bytes self.new ≡ ⟦<MemoryDisk as Disk>⟧.spare_bytes self.old)) }
     {
         self.file.reserve(calls as usize, bytes as usize)
     }
@@ -166,7 +179,8 @@ impl Disk for MemoryDisk {
     fn len(&mut self) -> Result<u64, Failed>
         ensures value { GivesLength (⟦<MemoryDisk as Disk>⟧.told self.old) result }
         ensures same { ⟦<MemoryDisk as Disk>⟧.told self.new ≡ ⟦<MemoryDisk as Disk>⟧.told self.old }
-        ensures spare { (⟦<MemoryDisk as Disk>⟧.spare_calls self.new ≡ ⟦<MemoryDisk as Disk>⟧.spare_calls self.old) × (⟦<MemoryDisk as Disk>⟧.spare_bytes self.new ≡ ⟦<MemoryDisk as Disk>⟧.spare_bytes self.old) }
+        ensures spare { (⟦<MemoryDisk as Disk>⟧.spare_calls self.new ≡ ⟦<MemoryDisk as Disk>⟧.spare_calls self.old)
+            × (⟦<MemoryDisk as Disk>⟧.spare_bytes self.new ≡ ⟦<MemoryDisk as Disk>⟧.spare_bytes self.old) }
         ensures call { (⟦<MemoryDisk as Disk>⟧.counter self.new).calls ≡ counted (⟦<MemoryDisk as Disk>⟧.counter self.old).calls }
         ensures once { OnOk result (Once (⟦<MemoryDisk as Disk>⟧.counter self.old) (⟦<MemoryDisk as Disk>⟧.counter self.new)) }
         ensures counts { Counts (⟦<MemoryDisk as Disk>⟧.counter self.old) (⟦<MemoryDisk as Disk>⟧.counter self.new) (IsErr result) }
@@ -181,7 +195,8 @@ impl Disk for MemoryDisk {
         requires within { HasRange (⟦<MemoryDisk as Disk>⟧.told self.old) at (length buf.old) }
         ensures value { GivesRange (⟦<MemoryDisk as Disk>⟧.told self.old) at result buf.new }
         ensures same { ⟦<MemoryDisk as Disk>⟧.told self.new ≡ ⟦<MemoryDisk as Disk>⟧.told self.old }
-        ensures spare { (⟦<MemoryDisk as Disk>⟧.spare_calls self.new ≡ ⟦<MemoryDisk as Disk>⟧.spare_calls self.old) × (⟦<MemoryDisk as Disk>⟧.spare_bytes self.new ≡ ⟦<MemoryDisk as Disk>⟧.spare_bytes self.old) }
+        ensures spare { (⟦<MemoryDisk as Disk>⟧.spare_calls self.new ≡ ⟦<MemoryDisk as Disk>⟧.spare_calls self.old)
+            × (⟦<MemoryDisk as Disk>⟧.spare_bytes self.new ≡ ⟦<MemoryDisk as Disk>⟧.spare_bytes self.old) }
         ensures call { (⟦<MemoryDisk as Disk>⟧.counter self.new).calls ≡ counted (⟦<MemoryDisk as Disk>⟧.counter self.old).calls }
         ensures once { OnOk result (Once (⟦<MemoryDisk as Disk>⟧.counter self.old) (⟦<MemoryDisk as Disk>⟧.counter self.new)) }
         ensures counts { Counts (⟦<MemoryDisk as Disk>⟧.counter self.old) (⟦<MemoryDisk as Disk>⟧.counter self.new) (IsErr result) }
@@ -198,14 +213,18 @@ impl Disk for MemoryDisk {
         requires room { 1 ≤ ⟦<MemoryDisk as Disk>⟧.spare_calls self.old }
         requires space { length bytes.now ≤ ⟦<MemoryDisk as Disk>⟧.spare_bytes self.old }
         ensures held { Follows (⟦<MemoryDisk as Disk>⟧.told self.old) (⟦<MemoryDisk as Disk>⟧.told self.new) (Writes at bytes.now result) }
-        ensures spare { (⟦<MemoryDisk as Disk>⟧.spare_calls self.old ≤ ⟦<MemoryDisk as Disk>⟧.spare_calls self.new + 1) × (⟦<MemoryDisk as Disk>⟧.spare_bytes self.old ≤ ⟦<MemoryDisk as Disk>⟧.spare_bytes self.new + length bytes.now) }
+        ensures spare { (⟦<MemoryDisk as Disk>⟧.spare_calls self.old ≤ ⟦<MemoryDisk as Disk>⟧.spare_calls self.new + 1)
+            × (⟦<MemoryDisk as Disk>⟧.spare_bytes self.old ≤ ⟦<MemoryDisk as Disk>⟧.spare_bytes self.new + length bytes.now) }
         ensures call { (⟦<MemoryDisk as Disk>⟧.counter self.new).calls ≡ counted (⟦<MemoryDisk as Disk>⟧.counter self.old).calls }
         ensures once { OnOk result (Once (⟦<MemoryDisk as Disk>⟧.counter self.old) (⟦<MemoryDisk as Disk>⟧.counter self.new)) }
         ensures counts { Counts (⟦<MemoryDisk as Disk>⟧.counter self.old) (⟦<MemoryDisk as Disk>⟧.counter self.new) (IsErr result) }
         ensures answers { Answers (met (⟦<MemoryDisk as Disk>⟧.counter self.old).arms) result }
         ensures called { ⟦<MemoryDisk as Disk>⟧.counter self.new ≡ called (⟦<MemoryDisk as Disk>⟧.counter self.old) }
-        ensures spends { (⟦<MemoryDisk as Disk>⟧.spare_calls self.new + 1 ≡ ⟦<MemoryDisk as Disk>⟧.spare_calls self.old) × (⟦<MemoryDisk as Disk>⟧.spare_bytes self.new + brings (met (⟦<MemoryDisk as Disk>⟧.counter self.old).arms) (length bytes.now) ≡ ⟦<MemoryDisk as Disk>⟧.spare_bytes self.old) }
-        ensures becomes { ⟦<MemoryDisk as Disk>⟧.told self.new ≡ option_map (after_change (put at bytes.now) (met (⟦<MemoryDisk as Disk>⟧.counter self.old).arms)) (⟦<MemoryDisk as Disk>⟧.told self.old) }
+        ensures spends { (⟦<MemoryDisk as Disk>⟧.spare_calls self.new + 1 ≡ ⟦<MemoryDisk as Disk>⟧.spare_calls self.old)
+            × (⟦<MemoryDisk as Disk>⟧.spare_bytes self.new + brings (met (⟦<MemoryDisk as Disk>⟧.counter self.old).arms) (length bytes.now)
+            ≡ ⟦<MemoryDisk as Disk>⟧.spare_bytes self.old) }
+        ensures becomes { ⟦<MemoryDisk as Disk>⟧.told self.new
+            ≡ option_map (after_change (put at bytes.now) (met (⟦<MemoryDisk as Disk>⟧.counter self.old).arms)) (⟦<MemoryDisk as Disk>⟧.told self.old) }
     {
         let meets = self.queue.call();
         self.file.write(at as usize, bytes, meets);
@@ -216,14 +235,17 @@ impl Disk for MemoryDisk {
         requires within { HasPlace (⟦<MemoryDisk as Disk>⟧.told self.old) to }
         requires room { 1 ≤ ⟦<MemoryDisk as Disk>⟧.spare_calls self.old }
         ensures held { Follows (⟦<MemoryDisk as Disk>⟧.told self.old) (⟦<MemoryDisk as Disk>⟧.told self.new) (Cuts to result) }
-        ensures spare { (⟦<MemoryDisk as Disk>⟧.spare_calls self.old ≤ ⟦<MemoryDisk as Disk>⟧.spare_calls self.new + 1) × (⟦<MemoryDisk as Disk>⟧.spare_bytes self.old ≤ ⟦<MemoryDisk as Disk>⟧.spare_bytes self.new) }
+        ensures spare { (⟦<MemoryDisk as Disk>⟧.spare_calls self.old ≤ ⟦<MemoryDisk as Disk>⟧.spare_calls self.new + 1)
+            × (⟦<MemoryDisk as Disk>⟧.spare_bytes self.old ≤ ⟦<MemoryDisk as Disk>⟧.spare_bytes self.new) }
         ensures call { (⟦<MemoryDisk as Disk>⟧.counter self.new).calls ≡ counted (⟦<MemoryDisk as Disk>⟧.counter self.old).calls }
         ensures once { OnOk result (Once (⟦<MemoryDisk as Disk>⟧.counter self.old) (⟦<MemoryDisk as Disk>⟧.counter self.new)) }
         ensures counts { Counts (⟦<MemoryDisk as Disk>⟧.counter self.old) (⟦<MemoryDisk as Disk>⟧.counter self.new) (IsErr result) }
         ensures answers { Answers (met (⟦<MemoryDisk as Disk>⟧.counter self.old).arms) result }
         ensures called { ⟦<MemoryDisk as Disk>⟧.counter self.new ≡ called (⟦<MemoryDisk as Disk>⟧.counter self.old) }
-        ensures spends { (⟦<MemoryDisk as Disk>⟧.spare_calls self.new + 1 ≡ ⟦<MemoryDisk as Disk>⟧.spare_calls self.old) × (⟦<MemoryDisk as Disk>⟧.spare_bytes self.new ≡ ⟦<MemoryDisk as Disk>⟧.spare_bytes self.old) }
-        ensures becomes { ⟦<MemoryDisk as Disk>⟧.told self.new ≡ option_map (after_change (take to) (met (⟦<MemoryDisk as Disk>⟧.counter self.old).arms)) (⟦<MemoryDisk as Disk>⟧.told self.old) }
+        ensures spends { (⟦<MemoryDisk as Disk>⟧.spare_calls self.new + 1 ≡ ⟦<MemoryDisk as Disk>⟧.spare_calls self.old)
+            × (⟦<MemoryDisk as Disk>⟧.spare_bytes self.new ≡ ⟦<MemoryDisk as Disk>⟧.spare_bytes self.old) }
+        ensures becomes { ⟦<MemoryDisk as Disk>⟧.told self.new
+            ≡ option_map (after_change (take to) (met (⟦<MemoryDisk as Disk>⟧.counter self.old).arms)) (⟦<MemoryDisk as Disk>⟧.told self.old) }
     {
         let meets = self.queue.call();
         self.file.cut(to as usize, meets);
@@ -233,14 +255,17 @@ impl Disk for MemoryDisk {
     fn sync(&mut self) -> Result<(), Failed>
         requires room { 1 ≤ ⟦<MemoryDisk as Disk>⟧.spare_calls self.old }
         ensures held { Follows (⟦<MemoryDisk as Disk>⟧.told self.old) (⟦<MemoryDisk as Disk>⟧.told self.new) (Syncs result) }
-        ensures spare { (⟦<MemoryDisk as Disk>⟧.spare_calls self.old ≤ ⟦<MemoryDisk as Disk>⟧.spare_calls self.new + 1) × (⟦<MemoryDisk as Disk>⟧.spare_bytes self.old ≤ ⟦<MemoryDisk as Disk>⟧.spare_bytes self.new) }
+        ensures spare { (⟦<MemoryDisk as Disk>⟧.spare_calls self.old ≤ ⟦<MemoryDisk as Disk>⟧.spare_calls self.new + 1)
+            × (⟦<MemoryDisk as Disk>⟧.spare_bytes self.old ≤ ⟦<MemoryDisk as Disk>⟧.spare_bytes self.new) }
         ensures call { (⟦<MemoryDisk as Disk>⟧.counter self.new).calls ≡ counted (⟦<MemoryDisk as Disk>⟧.counter self.old).calls }
         ensures once { OnOk result (Once (⟦<MemoryDisk as Disk>⟧.counter self.old) (⟦<MemoryDisk as Disk>⟧.counter self.new)) }
         ensures counts { Counts (⟦<MemoryDisk as Disk>⟧.counter self.old) (⟦<MemoryDisk as Disk>⟧.counter self.new) (IsErr result) }
         ensures answers { Answers (met (⟦<MemoryDisk as Disk>⟧.counter self.old).arms) result }
         ensures called { ⟦<MemoryDisk as Disk>⟧.counter self.new ≡ called (⟦<MemoryDisk as Disk>⟧.counter self.old) }
-        ensures spends { (⟦<MemoryDisk as Disk>⟧.spare_calls self.new + 1 ≡ ⟦<MemoryDisk as Disk>⟧.spare_calls self.old) × (⟦<MemoryDisk as Disk>⟧.spare_bytes self.new ≡ ⟦<MemoryDisk as Disk>⟧.spare_bytes self.old) }
-        ensures becomes { ⟦<MemoryDisk as Disk>⟧.told self.new ≡ option_map (after_sync (met (⟦<MemoryDisk as Disk>⟧.counter self.old).arms)) (⟦<MemoryDisk as Disk>⟧.told self.old) }
+        ensures spends { (⟦<MemoryDisk as Disk>⟧.spare_calls self.new + 1 ≡ ⟦<MemoryDisk as Disk>⟧.spare_calls self.old)
+            × (⟦<MemoryDisk as Disk>⟧.spare_bytes self.new ≡ ⟦<MemoryDisk as Disk>⟧.spare_bytes self.old) }
+        ensures becomes { ⟦<MemoryDisk as Disk>⟧.told self.new
+            ≡ option_map (after_sync (met (⟦<MemoryDisk as Disk>⟧.counter self.old).arms)) (⟦<MemoryDisk as Disk>⟧.told self.old) }
     {
         let meets = self.queue.call();
         self.file.sync(meets);

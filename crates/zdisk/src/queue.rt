@@ -70,7 +70,8 @@ impl Model for Queue {
 
     ghost Value = { Counter };
 
-    ghost view = { λ q. counter_of q.count q.calls (record { queue = drop q.hits q.arms.items; left = q.left; hits = take q.hits q.arms.items; stopped = q.stopped }) };
+    ghost view = { λ q. counter_of q.count q.calls
+        (record { queue = drop q.hits q.arms.items; left = q.left; hits = take q.hits q.arms.items; stopped = q.stopped }) };
 }
 
 impl Queue {

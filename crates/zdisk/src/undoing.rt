@@ -55,7 +55,8 @@ pub fn blend(bytes: &mut [u8], kept: &[u8], len: usize, entries: &[Entry], seed:
 /// the image is; behind it the buffer is as long as it was. Takes no memory.
 pub fn mix(bytes: &mut [u8], kept: &[u8], len: usize, entries: &[Entry], seed: u64) -> usize
     requires { FitsBack (record { bytes = bytes.old; len = len; covered = kept.now }) (reverse entries.now) }
-    ensures image { take result bytes.new ≡ image_of seed (file_of (back (record { bytes = bytes.old; len = len; covered = kept.now }) (reverse entries.now))) (take len bytes.old) }
+    ensures image { take result bytes.new ≡ image_of seed
+        (file_of (back (record { bytes = bytes.old; len = len; covered = kept.now }) (reverse entries.now))) (take len bytes.old) }
     ensures long { length bytes.new ≡ length bytes.old }
     ensures within { result ≤ length bytes.new }
 {

@@ -34,7 +34,13 @@ impl Model for MemoryHub {
 
     ghost Value = { Seen };
 
-    ghost view = { λ hub. record { peers = peers_of hub.accepted.items (drop hub.next hub.coming.items); counter = hub.plan; listening = hub.listening; streaming = hub.streaming } };
+    ghost view = { λ hub. record {
+      peers = peers_of hub.accepted.items
+          (drop hub.next hub.coming.items);
+      counter = hub.plan;
+      listening = hub.listening;
+      streaming = hub.streaming;
+    } };
 
     ghost invariant = { λ hub. IsBacked hub.listening hub.plan × IsBacked hub.streaming hub.plan };
 }

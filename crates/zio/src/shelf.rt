@@ -32,7 +32,8 @@ pub trait Shelf {
         ensures found { IfOk result (λ disk. IfSome (files self.old) (λ all. Self.D.told disk ≡ option_map synced (file_at all name.now))) }
         ensures there { IfOk result (λ disk. IfSome (files self.old) (λ all. file_at all name.now ≡ None → ⊥)) }
         ensures missing { IsErrOf result ShelfRefusal.Missing → IfSome (files self.old) (λ all. file_at all name.now ≡ None) }
-        ensures absent { IfSome (files self.old) (λ all. file_at all name.now ≡ None → IsErrOf result ShelfRefusal.Missing ⊎ IsErrOf result ShelfRefusal.Memory) }
+        ensures absent { IfSome (files self.old) (λ all. file_at all name.now ≡ None
+            → IsErrOf result ShelfRefusal.Missing ⊎ IsErrOf result ShelfRefusal.Memory) }
         ensures sound { sound_disks self.old → IfOk result (λ disk. IsFaultless (Self.D.counter disk)) }
         ensures stays_sound { sound_disks self.old → sound_disks self.new }
         ensures opens { IsErrOf result ShelfRefusal.Exists → ⊥ }
@@ -49,7 +50,8 @@ pub trait Shelf {
         ensures new { OnOk result (IfSome (files self.old) (λ all. file_at all name.now ≡ None)) }
         ensures made { OnOk result (files self.new ≡ option_map (λ all. all ++ (name.now, []) ∷ []) (files self.old)) }
         ensures exists { IsErrOf result ShelfRefusal.Exists → IfSome (files self.old) (λ all. file_at all name.now ≡ None → ⊥) }
-        ensures present { IfSome (files self.old) (λ all. (file_at all name.now ≡ None → ⊥) → IsErrOf result ShelfRefusal.Exists ⊎ IsErrOf result ShelfRefusal.Memory) }
+        ensures present { IfSome (files self.old) (λ all. (file_at all name.now ≡ None → ⊥)
+            → IsErrOf result ShelfRefusal.Exists ⊎ IsErrOf result ShelfRefusal.Memory) }
         ensures creates { IsErrOf result ShelfRefusal.Missing → ⊥ }
         ensures kept { OnErr result (files self.new ≡ files self.old) }
         ensures sound { sound_disks self.old → IfOk result (λ disk. IsFaultless (Self.D.counter disk)) }
@@ -72,7 +74,8 @@ pub trait Shelf {
     fn replace(&mut self, new: &str, main: &str) -> Result<(), ShelfRefusal>
         ensures replaced { OnOk result (Replaces (files self.old) new.now main.now (files self.new)) }
         ensures missing { IsErrOf result ShelfRefusal.Missing → IfSome (files self.old) (λ all. file_at all new.now ≡ None) }
-        ensures absent { IfSome (files self.old) (λ all. file_at all new.now ≡ None → IsErrOf result ShelfRefusal.Missing ⊎ IsErrOf result ShelfRefusal.Memory) }
+        ensures absent { IfSome (files self.old) (λ all. file_at all new.now ≡ None
+            → IsErrOf result ShelfRefusal.Missing ⊎ IsErrOf result ShelfRefusal.Memory) }
         ensures replaces { IsErrOf result ShelfRefusal.Exists → ⊥ }
         ensures kept { OnErr result (files self.new ≡ files self.old) }
         ensures stays_sound { sound_disks self.old → sound_disks self.new }

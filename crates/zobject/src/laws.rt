@@ -23,7 +23,8 @@ pub fn roles_may_be_shown()
 
 /// What was just made keeps the rules of objects where its id, its title and what only its kind has keep theirs.
 pub fn new_objects_keep_the_rules()
-    ensures { (id : List ℕ) (parent : ℕ) (title : List ℕ) (part : Part2) → Keeps (StoredId (kind_of part)) id → parent < 2 ^ 64 → Keeps Title title → IsPart Second part → IsObject (new_object id parent title part) }
+    ensures { (id : List ℕ) (parent : ℕ) (title : List ℕ) (part : Part2) → Keeps (StoredId (kind_of part)) id → parent < 2 ^ 64 → Keeps Title title
+        → IsPart Second part → IsObject (new_object id parent title part) }
 {}
 
 /// An object with another id or another title keeps the rules where that text keeps its own.
@@ -35,9 +36,13 @@ pub fn names_may_change()
 /// A folder keeps the rules with one child more, where none has that name and there are fewer than 10,000; with any of
 /// its children left out; and with one that it has under another name, as the last one, where none has that name.
 pub fn children_may_change()
-    ensures more { (o : Object) (cs : List Child) (c : Child) → IsObject o → o.part ≡ parts.Folder cs → IsChild c → child_of c.name cs ≡ None → length cs < 10000 → IsObject (with_part (parts.Folder (cs ++ c ∷ [])) o) }
-    ensures fewer { (o : Object) (cs : List Child) (keep : Child → Bool) → IsObject o → o.part ≡ parts.Folder cs → IsObject (with_part (parts.Folder (filter keep cs)) o) }
-    ensures renamed { (o : Object) (cs : List Child) (old : List ℕ) (oid : ℕ) (c : Child) → IsObject o → o.part ≡ parts.Folder cs → child_of old cs ≡ Some oid → IsChild c → child_of c.name cs ≡ None → IsObject (with_part (parts.Folder (without_children (old ∷ []) cs ++ c ∷ [])) o) }
+    ensures more { (o : Object) (cs : List Child) (c : Child) → IsObject o → o.part ≡ parts.Folder cs → IsChild c → child_of c.name cs ≡ None
+        → length cs < 10000 → IsObject (with_part (parts.Folder (cs ++ c ∷ [])) o) }
+    ensures fewer { (o : Object) (cs : List Child) (keep : Child → Bool) → IsObject o → o.part ≡ parts.Folder cs
+        → IsObject (with_part (parts.Folder (filter keep cs)) o) }
+    ensures renamed { (o : Object) (cs : List Child) (old : List ℕ) (oid : ℕ) (c : Child) → IsObject o → o.part ≡ parts.Folder cs
+        → child_of old cs ≡ Some oid → IsChild c → child_of c.name cs ≡ None
+        → IsObject (with_part (parts.Folder (without_children (old ∷ []) cs ++ c ∷ [])) o) }
 {}
 
 /// An object keeps the rules with a setting put among its settings, in place of that of the same permission, and with
@@ -57,29 +62,36 @@ pub fn local_roles_may_change()
 /// An object keeps the rules with a property put among its properties, in place of that of the same name, where there are
 /// then at most 100, and with any of them left out.
 pub fn properties_may_change()
-    ensures put { (o : Object) (p : Property) → IsObject o → IsProperty Second p → length (put_property p o.properties) ≤ 100 → IsObject (with_properties (put_property p o.properties) o) }
+    ensures put { (o : Object) (p : Property) → IsObject o → IsProperty Second p → length (put_property p o.properties) ≤ 100
+        → IsObject (with_properties (put_property p o.properties) o) }
     ensures fewer { (o : Object) (keep : Property → Bool) → IsObject o → IsObject (with_properties (filter keep o.properties) o) }
 {}
 
 /// A user folder keeps the rules with a user put among its users, in place of that of the same name, where there are then
 /// at most 1,000.
 pub fn users_may_be_added()
-    ensures { (o : Object) (users : List User) (u : User) → IsObject o → o.part ≡ parts.UserFolder users → IsUser u → length (put_user u users) ≤ 1000 → IsObject (with_part (parts.UserFolder (put_user u users)) o) }
+    ensures { (o : Object) (users : List User) (u : User) → IsObject o → o.part ≡ parts.UserFolder users → IsUser u → length (put_user u users) ≤ 1000
+        → IsObject (with_part (parts.UserFolder (put_user u users)) o) }
 {}
 
 /// Roles with one more put among them are roles, and at least one, where there are then at most 65,535.
 pub fn roles_may_be_added()
-    ensures { (least : ℕ) (roles : List (List ℕ)) (role : List ℕ) → AreRoles least roles → Keeps Role role → length (put comes_before role roles) ≤ most_counted → AreRoles 1 (put comes_before role roles) }
+    ensures { (least : ℕ) (roles : List (List ℕ)) (role : List ℕ) → AreRoles least roles → Keeps Role role
+        → length (put comes_before role roles) ≤ most_counted → AreRoles 1 (put comes_before role roles) }
 {}
 
 /// A method or document keeps the rules with another source that keeps its own.
 pub fn sources_may_change()
-    ensures method { (o : Object) (source new : List ℕ) (proxy : List (List ℕ)) → IsObject o → o.part ≡ parts.Method source proxy → Keeps Source new → IsObject (with_part (parts.Method new proxy) o) }
-    ensures document { (o : Object) (source new : List ℕ) (proxy : List (List ℕ)) → IsObject o → o.part ≡ parts.Document source proxy → Keeps Source new → IsObject (with_part (parts.Document new proxy) o) }
+    ensures method { (o : Object) (source new : List ℕ) (proxy : List (List ℕ)) → IsObject o → o.part ≡ parts.Method source proxy → Keeps Source new
+        → IsObject (with_part (parts.Method new proxy) o) }
+    ensures document { (o : Object) (source new : List ℕ) (proxy : List (List ℕ)) → IsObject o → o.part ≡ parts.Document source proxy
+        → Keeps Source new → IsObject (with_part (parts.Document new proxy) o) }
 {}
 
 /// A method or document keeps the rules with any other proxy roles, or none.
 pub fn proxy_roles_may_change()
-    ensures method { (o : Object) (source : List ℕ) (proxy new : List (List ℕ)) → IsObject o → o.part ≡ parts.Method source proxy → AreRoles 0 new → IsObject (with_part (parts.Method source new) o) }
-    ensures document { (o : Object) (source : List ℕ) (proxy new : List (List ℕ)) → IsObject o → o.part ≡ parts.Document source proxy → AreRoles 0 new → IsObject (with_part (parts.Document source new) o) }
+    ensures method { (o : Object) (source : List ℕ) (proxy new : List (List ℕ)) → IsObject o → o.part ≡ parts.Method source proxy → AreRoles 0 new
+        → IsObject (with_part (parts.Method source new) o) }
+    ensures document { (o : Object) (source : List ℕ) (proxy new : List (List ℕ)) → IsObject o → o.part ≡ parts.Document source proxy → AreRoles 0 new
+        → IsObject (with_part (parts.Document source new) o) }
 {}

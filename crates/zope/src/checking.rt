@@ -23,7 +23,8 @@ use zio::{OutsideRefusal, Shelf, ShelfRefusal, Sink};
 // The numbers of the file on a disk. Its length is looked at first.
 fn check_disk<D: Disk>(alloc: Global, disk: &mut D) -> Result<Checked, Refusal>
     ensures told { IfOk result (λ numbers. IfSome (D.told disk.old) (λ told. (length (content told) ≤ most_length) × Checks (content told) numbers)) }
-    ensures damaged { (kind : Kind) (place : ℕ) → IsErrOf result (Refusal.Damaged kind place) → IfSome (D.told disk.old) (λ told. (length (content told) ≤ most_length) × Damaged (content told) place kind) }
+    ensures damaged { (kind : Kind) (place : ℕ) → IsErrOf result (Refusal.Damaged kind place)
+        → IfSome (D.told disk.old) (λ told. (length (content told) ≤ most_length) × Damaged (content told) place kind) }
     ensures too_long { (n : ℕ) → IsErrOf result (Refusal.TooLong n) → (most_length < n) × IfSome (D.told disk.old) (λ told. n ≡ length (content told)) }
     ensures present { IsErrOf result Refusal.Missing → ⊥ }
     ensures others { IfErr result IsOfScan }
@@ -41,7 +42,8 @@ fn check_disk<D: Disk>(alloc: Global, disk: &mut D) -> Result<Checked, Refusal>
 fn numbers_of<F: Shelf>(alloc: Global, files: &mut F, name: &str) -> Result<Checked, Refusal>
     ensures checks { IfOk result (λ numbers. IfKept (F.files files.old) name.now (λ bytes. Checks bytes numbers)) }
     ensures missing { IsErrOf result Refusal.Missing → IsMissing (F.files files.old) name.now }
-    ensures damaged { (kind : Kind) (place : ℕ) → IsErrOf result (Refusal.Damaged kind place) → IfKept (F.files files.old) name.now (λ bytes. Damaged bytes place kind) }
+    ensures damaged { (kind : Kind) (place : ℕ) → IsErrOf result (Refusal.Damaged kind place)
+        → IfKept (F.files files.old) name.now (λ bytes. Damaged bytes place kind) }
     ensures too_long { (n : ℕ) → IsErrOf result (Refusal.TooLong n) → (most_length < n) × IsLength (F.files files.old) name.now n }
     ensures present { IsErrOf result Refusal.Disk → IsPresent (F.files files.old) name.now }
     ensures disk { IsErrOf result Refusal.Disk → Rose (F.counter files.old) (F.counter files.new) ⊎ (F.sound_disks files.old → ⊥) }
@@ -104,7 +106,8 @@ pub fn check_file<F: Shelf, K: Sink>(
 ) -> Result<(), Refusal>
     ensures same { F.files files.new ≡ F.files files.old }
     ensures ok { OnOk result (NumbersPrinted name.now (F.files files.old) (K.written out.old) (K.written out.new)) }
-    ensures cause { IfErr result (CheckCause name.now (F.files files.old) (Rose (K.counter out.old) (K.counter out.new)) (Rose (F.counter files.old) (F.counter files.new) ⊎ (F.sound_disks files.old → ⊥)) (K.written out.old) (K.written out.new)) }
+    ensures cause { IfErr result (CheckCause name.now (F.files files.old) (Rose (K.counter out.old) (K.counter out.new))
+        (Rose (F.counter files.old) (F.counter files.new) ⊎ (F.sound_disks files.old → ⊥)) (K.written out.old) (K.written out.new)) }
     ensures counts { Counts (K.counter out.old) (K.counter out.new) (IsErrOf result Refusal.Output) }
 {
     let numbers = numbers_of(alloc, files, name)?;

@@ -22,9 +22,14 @@ fn dump_disk<D: Disk, K: Sink>(
     held: &mut Pending,
     out: &mut K,
 ) -> Result<(), Refusal>
-    ensures dumped { OnOk result (IfSome (D.told disk.old) (λ told. (length (content told) ≤ most_length) × Dumps (content told) (due (K.written out.old) held.old) (due (K.written out.new) held.new))) }
-    ensures damaged { (kind : Kind) (place : ℕ) → IsErrOf result (Refusal.Damaged kind place) → IfSome (D.told disk.old) (λ told. (length (content told) ≤ most_length) × (Damaged (content told) place kind × (due (K.written out.new) held.new ≡ due (K.written out.old) held.old))) }
-    ensures too_long { (n : ℕ) → IsErrOf result (Refusal.TooLong n) → (most_length < n) × IfSome (D.told disk.old) (λ told. n ≡ length (content told)) × (due (K.written out.new) held.new ≡ due (K.written out.old) held.old) }
+    ensures dumped { OnOk result (IfSome (D.told disk.old)
+        (λ told. (length (content told) ≤ most_length) × Dumps (content told) (due (K.written out.old) held.old) (due (K.written out.new) held.new))) }
+    ensures damaged { (kind : Kind) (place : ℕ) → IsErrOf result (Refusal.Damaged kind place)
+        → IfSome (D.told disk.old) (λ told. (length (content told) ≤ most_length)
+        × (Damaged (content told) place kind × (due (K.written out.new) held.new ≡ due (K.written out.old) held.old))) }
+    ensures too_long { (n : ℕ) → IsErrOf result (Refusal.TooLong n)
+        → (most_length < n) × IfSome (D.told disk.old) (λ told. n ≡ length (content told))
+        × (due (K.written out.new) held.new ≡ due (K.written out.old) held.old) }
     ensures present { IsErrOf result Refusal.Missing → ⊥ }
     ensures others { IfErr result IsOfDump }
     ensures same { D.told disk.new ≡ D.told disk.old }
@@ -48,7 +53,9 @@ fn dump_named<F: Shelf, K: Sink>(
 ) -> Result<(), Refusal>
     ensures same { F.files files.new ≡ F.files files.old }
     ensures ok { OnOk result (Dumped name.now (F.files files.old) (due (K.written out.old) held.old) (due (K.written out.new) held.new)) }
-    ensures cause { IfErr result (DumpCause name.now (F.files files.old) (Rose (K.counter out.old) (K.counter out.new)) (Rose (F.counter files.old) (F.counter files.new) ⊎ (F.sound_disks files.old → ⊥)) (due (K.written out.old) held.old) (due (K.written out.new) held.new)) }
+    ensures cause { IfErr result (DumpCause name.now (F.files files.old) (Rose (K.counter out.old) (K.counter out.new))
+        (Rose (F.counter files.old) (F.counter files.new) ⊎ (F.sound_disks files.old → ⊥)) (due (K.written out.old) held.old)
+        (due (K.written out.new) held.new)) }
     ensures counts { Counts (K.counter out.old) (K.counter out.new) (IsErrOf result Refusal.Output) }
 {
     match files.open(name) {
@@ -89,7 +96,8 @@ pub fn dump_file<F: Shelf, K: Sink>(
 ) -> Result<(), Refusal>
     ensures same { F.files files.new ≡ F.files files.old }
     ensures ok { OnOk result (Dumped name.now (F.files files.old) (K.written out.old) (K.written out.new)) }
-    ensures cause { IfErr result (DumpCause name.now (F.files files.old) (Rose (K.counter out.old) (K.counter out.new)) (Rose (F.counter files.old) (F.counter files.new) ⊎ (F.sound_disks files.old → ⊥)) (K.written out.old) (K.written out.new)) }
+    ensures cause { IfErr result (DumpCause name.now (F.files files.old) (Rose (K.counter out.old) (K.counter out.new))
+        (Rose (F.counter files.old) (F.counter files.new) ⊎ (F.sound_disks files.old → ⊥)) (K.written out.old) (K.written out.new)) }
     ensures counts { Counts (K.counter out.old) (K.counter out.new) (IsErrOf result Refusal.Output) }
 {
     let Ok(mut held) = Pending::new(alloc) else {

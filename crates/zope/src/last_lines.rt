@@ -47,7 +47,8 @@ pub fn put_text<E: Drop, K: Sink>(
     out: &mut K,
 ) -> Result<(), OutsideRefusal>
     ensures ok { OnOk result (MatchResult text (λ line. K.written out.new ≡ append_known (K.written out.old) (string_bytes line)) (λ _. ⊥)) }
-    ensures failed { IsErrOf result OutsideRefusal.Failed → MatchResult text (λ line. AppendsFront (K.written out.old) (K.written out.new) (string_bytes line)) (λ _. ⊥) }
+    ensures failed { IsErrOf result OutsideRefusal.Failed
+        → MatchResult text (λ line. AppendsFront (K.written out.old) (K.written out.new) (string_bytes line)) (λ _. ⊥) }
     ensures memory { IsErrOf result OutsideRefusal.Memory → K.written out.new ≡ K.written out.old }
     ensures counts { Counts (K.counter out.old) (K.counter out.new) (IsErrOf result OutsideRefusal.Failed) }
 {

@@ -31,8 +31,10 @@ pub fn giving_up_is_refuted()
 /// each transaction by which its history grew, acknowledged or not, is the change of a call whose permission its user was
 /// granted before it.
 pub fn replays_keep_access()
-    ensures shown { (limit end : ℕ) (h : History) (items : List Item2) (report : List Line) (it : Explained (terms_of one_message site limit end) h items report) → AllShowRightly it.end.standing it.trace }
-    ensures changed { (limit end : ℕ) (h : History) (items : List Item2) (report : List Line) (it : Explained (terms_of one_message site limit end) h items report) → AllGrowRightly it.end.standing it.trace }
+    ensures shown { (limit end : ℕ) (h : History) (items : List Item2) (report : List Line)
+        (it : Explained (terms_of one_message site limit end) h items report) → AllShowRightly it.end.standing it.trace }
+    ensures changed { (limit end : ℕ) (h : History) (items : List Item2) (report : List Line)
+        (it : Explained (terms_of one_message site limit end) h items report) → AllGrowRightly it.end.standing it.trace }
 {
     pages_show_rightly();
     changes_are_granted();

@@ -110,9 +110,11 @@ pub fn make_new<F: Shelf, K: Sink, C: Clock>(
     out: &mut K,
     clock: &mut C,
 ) -> Result<(), Refusal>
-    ensures ok { OnOk result (Made file.now name.now password.now (F.files files.old) (F.files files.new) (C.ticks clock.old) (C.counter clock.old) (C.counter clock.new) (K.written out.old) (K.written out.new)) }
+    ensures ok { OnOk result (Made file.now name.now password.now (F.files files.old) (F.files files.new) (C.ticks clock.old) (C.counter clock.old)
+        (C.counter clock.new) (K.written out.old) (K.written out.new)) }
     ensures left { LeavesNew file.now name.now password.now (F.files files.old) (F.files files.new) }
-    ensures cause { IfErr result (MakeCause file.now name.now password.now (F.files files.old) (Rose (K.counter out.old) (K.counter out.new)) (Rose (F.counter files.old) (F.counter files.new) ⊎ (F.sound_disks files.old → ⊥)) (K.written out.old) (K.written out.new)) }
+    ensures cause { IfErr result (MakeCause file.now name.now password.now (F.files files.old) (Rose (K.counter out.old) (K.counter out.new))
+        (Rose (F.counter files.old) (F.counter files.new) ⊎ (F.sound_disks files.old → ⊥)) (K.written out.old) (K.written out.new)) }
     ensures counts { Counts (K.counter out.old) (K.counter out.new) (IsErrOf result Refusal.Output) }
 {
     if !is_legible(name, password) {

@@ -66,7 +66,9 @@ pub fn replay_file<F: Shelf, S: Source, K: Sink>(
     requires limit { limit ≤ most_length }
     ensures same { F.files files.new ≡ F.files files.old }
     ensures ok { OnOk result (Replayed name.now limit (F.files files.old) (S.left input.old) (K.written out.old) (K.written out.new)) }
-    ensures cause { IfErr result (ReplayCause name.now limit (F.files files.old) (S.left input.old) (Rose (S.counter input.old) (S.counter input.new)) (Rose (K.counter out.old) (K.counter out.new)) (Rose (F.counter files.old) (F.counter files.new) ⊎ (F.sound_disks files.old → ⊥)) (K.written out.old) (K.written out.new)) }
+    ensures cause { IfErr result (ReplayCause name.now limit (F.files files.old) (S.left input.old) (Rose (S.counter input.old) (S.counter input.new))
+        (Rose (K.counter out.old) (K.counter out.new)) (Rose (F.counter files.old) (F.counter files.new) ⊎ (F.sound_disks files.old → ⊥))
+        (K.written out.old) (K.written out.new)) }
     ensures counts { Counts (K.counter out.old) (K.counter out.new) (IsErrOf result Refusal.Output) }
 {
     let schedule = schedule_of(alloc, input)?;

@@ -42,7 +42,9 @@ fn status_of(refusal: Refusal) -> Status
 // is the status; where memory is wanting, that.
 fn refuse<K: Sink>(alloc: Global, refusal: Refusal, words: &[String], out: &mut K) -> Status
     ensures sink { refusal ≡ Refusal.Output → result.0 ≡ 6 }
-    ensures named { (refusal ≡ Refusal.Output → ⊥) → ((result.0 ≡ status_of refusal) × Names (map string_bytes words.now) refusal (K.written out.old) (K.written out.new)) ⊎ ((result.0 ≡ 6) × Rose (K.counter out.old) (K.counter out.new)) ⊎ (result.0 ≡ 7) }
+    ensures named { (refusal ≡ Refusal.Output → ⊥)
+        → ((result.0 ≡ status_of refusal) × Names (map string_bytes words.now) refusal (K.written out.old) (K.written out.new))
+        ⊎ ((result.0 ≡ 6) × Rose (K.counter out.old) (K.counter out.new)) ⊎ (result.0 ≡ 7) }
     ensures sink_failed { (K.counter out.old).count < (K.counter out.new).count → result.0 ≡ 6 }
     ensures count { (K.counter out.old).count ≤ (K.counter out.new).count }
 {
@@ -89,7 +91,8 @@ pub fn run<F: Shelf, S: Source, K: Sink, H: Hub, C: Clock>(
     // is of it where its making broke off.
     ensures files { LeavesFiles (map string_bytes words.now) (F.files files.old) (F.files files.new) }
     // No command of today asks a hub, only a replay reads its input, and only a new site asks the clock.
-    ensures alone { (_hub.new ≡ _hub.old) × (((file : List ℕ) → IsInit (map string_bytes words.now) file → ⊥) → clock.new ≡ clock.old) × ((IsReplay (map string_bytes words.now) → ⊥) → input.new ≡ input.old) }
+    ensures alone { (_hub.new ≡ _hub.old) × (((file : List ℕ) → IsInit (map string_bytes words.now) file → ⊥) → clock.new ≡ clock.old)
+        × ((IsReplay (map string_bytes words.now) → ⊥) → input.new ≡ input.old) }
 {
     one_schedule();
     one_bad_line();
