@@ -11,6 +11,7 @@ use Rattle.std.specs.Str.{bytes_eq}
 use Rattle.std.specs.Int.{w64}
 use Rattle.std.specs.Ordering.{nat_cmp, is_lt}
 use Rattle.std.specs.Cmp.Lexicographic.{slice_cmp}
+use Rattle.zobject.specs.declared.limits.TheConstants.{MOST_CHILDREN, MOST_COUNTED, MOST_LINES, MOST_LOCALS, MOST_PROPERTIES, MOST_USERS}
 use Rattle.zobject.specs.declared.object.Setting.{Setting}
 use Rattle.zobject.specs.declared.object.Local.{Local}
 use Rattle.zobject.specs.declared.object.Property.{Property}
@@ -55,13 +56,9 @@ pub record AreMany {X : Type 0} (least most : ℕ) (IsRight : X → Type 0) (xs 
   pub few : length xs ≤ most
   pub each : AllByRecursion IsRight xs
 
--- as many as a count of two bytes may say
-abbrev pub most_counted : ℕ
-most_counted = 65535
-
 -- at least so many roles, by bytes and each once
 pub record AreRoles (least : ℕ) (roles : List (List ℕ)) : Type 0 where
-  pub many : AreMany least most_counted (Keeps Role) roles
+  pub many : AreMany least MOST_COUNTED (Keeps Role) roles
   pub rise : Rise comes_before roles
 
 -- ---- fields
@@ -88,7 +85,7 @@ IsValue version (Line text) = Keeps Value text
 IsValue First (Int n) = ⊥
 IsValue Second (Int n) = FitsSigned w64 n
 IsValue First (Lines texts) = ⊥
-IsValue Second (Lines texts) = AreMany 0 1000 (Keeps Value) texts
+IsValue Second (Lines texts) = AreMany 0 MOST_LINES (Keeps Value) texts
 
 pub record IsProperty (version : Version) (p : Property) : Type 0 where
   pub name : Keeps PropertyName p.name
@@ -120,10 +117,10 @@ kind_of (part.Document source proxy) = kind.Document
 kind_of (part.UserFolder users) = kind.UserFolder
 
 abbrev pub IsPart : Version → Part2 → Type 0
-IsPart version (part.Folder children) = AreMany 0 10000 IsChild children × AreDistinct (map (λ (c : Child). c.name) children)
+IsPart version (part.Folder children) = AreMany 0 MOST_CHILDREN IsChild children × AreDistinct (map (λ (c : Child). c.name) children)
 IsPart version (part.Method source proxy) = Keeps Source source × IsProxy version proxy
 IsPart version (part.Document source proxy) = Keeps Source source × IsProxy version proxy
-IsPart version (part.UserFolder users) = AreMany 0 1000 IsUser users × Rise (λ (u v : User). comes_before u.name v.name) users
+IsPart version (part.UserFolder users) = AreMany 0 MOST_USERS IsUser users × Rise (λ (u v : User). comes_before u.name v.name) users
 
 -- ---- the object
 
@@ -131,11 +128,11 @@ pub record IsOf (version : Version) (o : Object) : Type 0 where
   pub id : Keeps (StoredId (kind_of o.part)) o.id
   pub parent : o.parent < 2 ^ 64
   pub title : Keeps Title o.title
-  pub settings : AreMany 0 most_counted (IsSetting version) o.settings
+  pub settings : AreMany 0 MOST_COUNTED (IsSetting version) o.settings
   pub settings_rise : Rise (λ (s t : Setting). nat_lt s.permission t.permission) o.settings
-  pub locals : AreMany 0 1000 IsLocal o.locals
+  pub locals : AreMany 0 MOST_LOCALS IsLocal o.locals
   pub locals_rise : Rise (λ (l k : Local). comes_before l.user k.user) o.locals
-  pub properties : AreMany 0 100 (IsProperty version) o.properties
+  pub properties : AreMany 0 MOST_PROPERTIES (IsProperty version) o.properties
   pub properties_rise : Rise (λ (p q : Property). comes_before p.name q.name) o.properties
   pub part : IsPart version o.part
 

@@ -1,6 +1,7 @@
 ghost use Rattle.std.specs.Prelude.{◌≡◌, ◌≤◌, ◌<◌, ◌^◌, ℕ, Bool, List, [], ◌∷◌, ◌++◌, length, Some, None};
 ghost use Rattle.std.specs.List.{filter};
 ghost use Rattle.zbase.specs.Roles.{IsRole};
+ghost use Rattle.zobject.specs.declared.limits.TheConstants.{MOST_CHILDREN, MOST_COUNTED, MOST_LOCALS, MOST_PROPERTIES, MOST_USERS};
 ghost use Rattle.zobject.specs.declared.object.Child.{Child};
 ghost use Rattle.zobject.specs.declared.object.Local.{Local};
 ghost use Rattle.zobject.specs.declared.object.Object.{Object};
@@ -13,7 +14,7 @@ ghost use Rattle.zobject.specs.declared.version.Rule.TheVariants.{Role, Source, 
 ghost use Rattle.zobject.specs.declared.version.Version.TheVariants.{Second};
 ghost use Rattle.zobject.specs.Changes.{new_object, put, put_local, put_property, put_setting, put_user, with_id, with_locals, with_part, with_properties, with_settings, with_title, without_children};
 ghost use Rattle.zobject.specs.Folders.{child_of};
-ghost use Rattle.zobject.specs.Rules.{AreRoles, IsChild, IsLocal, IsObject, IsPart, IsProperty, IsSetting, IsUser, Keeps, comes_before, kind_of, most_counted};
+ghost use Rattle.zobject.specs.Rules.{AreRoles, IsChild, IsLocal, IsObject, IsPart, IsProperty, IsSetting, IsUser, Keeps, comes_before, kind_of};
 ghost use Rattle.zobject.specs.Texts.{keeps};
 
 /// Each role of an object is one that a reply may show.
@@ -33,11 +34,12 @@ pub fn names_may_change()
     ensures title { (o : Object) (title : List ℕ) → IsObject o → Keeps Title title → IsObject (with_title title o) }
 {}
 
-/// A folder keeps the rules with one child more, where none has that name and there are fewer than 10,000; with any of
-/// its children left out; and with one that it has under another name, as the last one, where none has that name.
+/// A folder keeps the rules with one child more, where none has that name and there are fewer than `MOST_CHILDREN`;
+/// with any of its children left out; and with one that it has under another name, as the last one, where none has that
+/// name.
 pub fn children_may_change()
     ensures more { (o : Object) (cs : List Child) (c : Child) → IsObject o → o.part ≡ parts.Folder cs → IsChild c → child_of c.name cs ≡ None
-        → length cs < 10000 → IsObject (with_part (parts.Folder (cs ++ c ∷ [])) o) }
+        → length cs < MOST_CHILDREN → IsObject (with_part (parts.Folder (cs ++ c ∷ [])) o) }
     ensures fewer { (o : Object) (cs : List Child) (keep : Child → Bool) → IsObject o → o.part ≡ parts.Folder cs
         → IsObject (with_part (parts.Folder (filter keep cs)) o) }
     ensures renamed { (o : Object) (cs : List Child) (old : List ℕ) (oid : ℕ) (c : Child) → IsObject o → o.part ≡ parts.Folder cs
@@ -53,31 +55,31 @@ pub fn settings_may_change()
 {}
 
 /// An object keeps the rules with a user's local roles put among them, in place of those that the user had, where there
-/// are then at most 1,000 such users, and with those of any users left out.
+/// are then at most `MOST_LOCALS` such users, and with those of any users left out.
 pub fn local_roles_may_change()
-    ensures put { (o : Object) (l : Local) → IsObject o → IsLocal l → length (put_local l o.locals) ≤ 1000 → IsObject (with_locals (put_local l o.locals) o) }
+    ensures put { (o : Object) (l : Local) → IsObject o → IsLocal l → length (put_local l o.locals) ≤ MOST_LOCALS → IsObject (with_locals (put_local l o.locals) o) }
     ensures fewer { (o : Object) (keep : Local → Bool) → IsObject o → IsObject (with_locals (filter keep o.locals) o) }
 {}
 
 /// An object keeps the rules with a property put among its properties, in place of that of the same name, where there are
-/// then at most 100, and with any of them left out.
+/// then at most `MOST_PROPERTIES`, and with any of them left out.
 pub fn properties_may_change()
-    ensures put { (o : Object) (p : Property) → IsObject o → IsProperty Second p → length (put_property p o.properties) ≤ 100
+    ensures put { (o : Object) (p : Property) → IsObject o → IsProperty Second p → length (put_property p o.properties) ≤ MOST_PROPERTIES
         → IsObject (with_properties (put_property p o.properties) o) }
     ensures fewer { (o : Object) (keep : Property → Bool) → IsObject o → IsObject (with_properties (filter keep o.properties) o) }
 {}
 
 /// A user folder keeps the rules with a user put among its users, in place of that of the same name, where there are then
-/// at most 1,000.
+/// at most `MOST_USERS`.
 pub fn users_may_be_added()
-    ensures { (o : Object) (users : List User) (u : User) → IsObject o → o.part ≡ parts.UserFolder users → IsUser u → length (put_user u users) ≤ 1000
+    ensures { (o : Object) (users : List User) (u : User) → IsObject o → o.part ≡ parts.UserFolder users → IsUser u → length (put_user u users) ≤ MOST_USERS
         → IsObject (with_part (parts.UserFolder (put_user u users)) o) }
 {}
 
-/// Roles with one more put among them are roles, and at least one, where there are then at most 65,535.
+/// Roles with one more put among them are roles, and at least one, where there are then at most `MOST_COUNTED`.
 pub fn roles_may_be_added()
     ensures { (least : ℕ) (roles : List (List ℕ)) (role : List ℕ) → AreRoles least roles → Keeps Role role
-        → length (put comes_before role roles) ≤ most_counted → AreRoles 1 (put comes_before role roles) }
+        → length (put comes_before role roles) ≤ MOST_COUNTED → AreRoles 1 (put comes_before role roles) }
 {}
 
 /// A method or document keeps the rules with another source that keeps its own.

@@ -1,12 +1,14 @@
 //! The objects of a site: their types, the rules of their texts and lists, and what may be seen of them.
 //!
-//! `specs/Texts` has the rules of texts, `specs/Rules` says which objects keep the rules of a version of the record,
-//! `specs/Folders` what a folder lists, `specs/Shapes` which parts of an object decide where it is found and who may see
-//! it, and `specs/Changes` what an object is of which one part is another. How an object is spelled is said by `zcodec`.
+//! `limits` has the greatest lengths of texts and lists, `specs/Texts` the rules of texts, `specs/Rules` says which objects
+//! keep the rules of a version of the record, `specs/Folders` what a folder lists, `specs/Shapes` which parts of an object
+//! decide where it is found and who may see it, and `specs/Changes` what an object is of which one part is another. How an
+//! object is spelled is said by `zcodec`.
 #![tactic(auto)]
 
 mod folder;
 mod laws;
+pub mod limits;
 mod object;
 mod refusal;
 mod texts;

@@ -3,7 +3,9 @@ ghost use Rattle.std.specs.List.{list_all, list_any};
 ghost use Rattle.std.specs.Str.{is_utf8, bytes_eq};
 ghost use Rattle.zobject.specs.Texts as rules;
 
+use crate::limits::{MOST_NAME, MOST_PASSWORD, MOST_ROLE, MOST_TITLE, MOST_VALUE};
 use crate::{Kind, Rule};
+use zbase::MOST_SOURCE;
 
 /// Names that mean something else in every object.
 const RESERVED: [&str; 10] = [
@@ -51,7 +53,7 @@ fn is_role_byte(byte: u8) -> bool
     matches!(byte, b' '..=b'~') && byte != b','
 }
 
-// It goes on behind a byte that fails, so that many bytes are tested at once: a folder has up to 10,000 names.
+// It goes on behind a byte that fails, so that many bytes are tested at once: a folder may have thousands of names.
 fn has_id_bytes(text: &[u8]) -> bool
     ensures { result ≡ list_all rules.is_id_byte text.now }
 {
@@ -102,7 +104,7 @@ fn is_of_length(most: usize, text: &[u8]) -> bool
 fn is_spelled(text: &[u8]) -> bool
     ensures { result ≡ rules.is_spelled text.now }
 {
-    is_of_length(100, text) && has_id_bytes(text)
+    is_of_length(MOST_NAME, text) && has_id_bytes(text)
 }
 
 fn is_hidden(text: &[u8]) -> bool
@@ -137,7 +139,7 @@ fn begins_with_letter(text: &[u8]) -> bool
 fn is_property_name(text: &[u8]) -> bool
     ensures { result ≡ rules.is_property_name text.now }
 {
-    is_of_length(100, text)
+    is_of_length(MOST_NAME, text)
         && has_name_bytes(text)
         && begins_with_letter(text)
         && !is_reserved(text)
@@ -146,13 +148,13 @@ fn is_property_name(text: &[u8]) -> bool
 fn is_user_name(text: &[u8]) -> bool
     ensures { result ≡ rules.is_user_name text.now }
 {
-    is_of_length(100, text) && has_user_bytes(text)
+    is_of_length(MOST_NAME, text) && has_user_bytes(text)
 }
 
 fn is_role(text: &[u8]) -> bool
     ensures { result ≡ rules.is_role text.now }
 {
-    is_of_length(64, text) && has_role_bytes(text)
+    is_of_length(MOST_ROLE, text) && has_role_bytes(text)
 }
 
 fn is_stored_id(kind: Kind, text: &[u8]) -> bool
@@ -172,12 +174,12 @@ fn fits(rule: Rule, text: &[u8]) -> bool
         Rule::StoredId(kind) => is_stored_id(kind, text),
         Rule::ChildName => is_id(text) || is_acl_users(text),
         Rule::PropertyName => is_property_name(text),
-        Rule::Value => text.len() <= 10_000,
+        Rule::Value => text.len() <= MOST_VALUE,
         Rule::Role => is_role(text),
         Rule::UserName => is_user_name(text),
-        Rule::Password => text.len() <= 100,
-        Rule::Title => text.len() <= 1000,
-        Rule::Source => text.len() <= 262_144,
+        Rule::Password => text.len() <= MOST_PASSWORD,
+        Rule::Title => text.len() <= MOST_TITLE,
+        Rule::Source => text.len() <= MOST_SOURCE,
     }
 }
 
