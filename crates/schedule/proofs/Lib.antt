@@ -17,3 +17,4 @@ pub mod Stamps
 pub mod ReadOrBad
 pub mod WorkedQueues
 pub mod Unhindered
+mod Counting

@@ -8,6 +8,7 @@ use Rattle.evaluator.specs.declared.fact.Part.{Part}
 use Rattle.evaluator.specs.declared.outcome.Outcome.{Outcome}
 use Rattle.evaluator.specs.declared.reply.Reply.{Reply}
 use Rattle.evaluator.specs.declared.draft.Draft.{Draft}
+use Rattle.std.specs.Option.{option_map}
 use Rattle.zbase.specs.History.{Value, Transaction, History, IsHistory, IsPrefixOf}
 use Rattle.zbase.specs.Values.{revisions, newest, value_of, serial_of, serial, last, transaction}
 use Rattle.evaluator.specs.Facts.{last_records, part_of, parts_of, fact, ask_of, look, TrueOf}
@@ -27,20 +28,27 @@ object_same p h o s v is good e le =
     e ∙ ap (λ r. Fact.Object o (value_of r) (serial_of r)) (sym same)
 
 parts_same : (p h : History) (t : ℕ) (ps : List Part) → IsPrefixOf p h → IsHistory h → Fact.Transaction t (Some ps) ≡ fact p (Ask.Transaction t) → Fact.Transaction t (Some ps) ≡ fact h (Ask.Transaction t)
-parts_same p h t ps is good e = go (transaction p t) refl
+parts_same p h t ps is good e = above (nat_lt p.floor t) refl
   where
     same : (x : Transaction) → transaction p t ≡ Some x → parts_of h x ≡ parts_of p x
     same x found =
         let within = found_within t 0 p.transactions x (prefix_history is good) found in
         ap (λ past. map (part_of past) (last_records x.records)) (before_stays x.tid is good (subst (λ n. n ≤ last p) (sym within.0) within.1))
 
-    go : (o : Option Transaction) → transaction p t ≡ o → Fact.Transaction t (Some ps) ≡ fact h (Ask.Transaction t)
-    go None found = (let bad : Fact.Transaction t (Some ps) ≡ Fact.Transaction t None = rw found at e in cc)
-    go (Some x) found =
-        let seen : Fact.Transaction t (Some ps) ≡ Fact.Transaction t (Some (parts_of p x)) = rw found at e in
-        let there : transaction h t ≡ Some x = transaction_stays t x is found in
-        let told : fact h (Ask.Transaction t) ≡ Fact.Transaction t (Some (parts_of h x)) = rw there refl in
-        seen ∙ ap (λ qs. Fact.Transaction t (Some qs)) (sym (same x found)) ∙ sym told
+    -- what a history tells of a transaction that is above its floor, and of one that isn't
+    told : (b : Bool) (g : History) → nat_lt g.floor t ≡ b → fact g (Ask.Transaction t) ≡ Fact.Transaction t (option_map (parts_of g) (cond b (transaction g t) None))
+    told b g lt = ap (λ c. Fact.Transaction t (option_map (parts_of g) (cond c (transaction g t) None))) lt
+
+    go : (o : Option Transaction) → nat_lt p.floor t ≡ true → transaction p t ≡ o → Fact.Transaction t (Some ps) ≡ fact h (Ask.Transaction t)
+    go None lt found = (let bad : Fact.Transaction t (Some ps) ≡ Fact.Transaction t None = e ∙ told true p lt ∙ ap (λ o. Fact.Transaction t (option_map (parts_of p) o)) found in cc)
+    go (Some x) lt found =
+        let seen : Fact.Transaction t (Some ps) ≡ Fact.Transaction t (Some (parts_of p x)) = e ∙ told true p lt ∙ ap (λ o. Fact.Transaction t (option_map (parts_of p) o)) found in
+        let there : fact h (Ask.Transaction t) ≡ Fact.Transaction t (Some (parts_of h x)) = told true h (ap (λ n. nat_lt n t) (sym is.floor) ∙ lt) ∙ ap (λ o. Fact.Transaction t (option_map (parts_of h) o)) (transaction_stays t x is found) in
+        seen ∙ ap (λ qs. Fact.Transaction t (Some qs)) (sym (same x found)) ∙ sym there
+
+    above : (b : Bool) → nat_lt p.floor t ≡ b → Fact.Transaction t (Some ps) ≡ fact h (Ask.Transaction t)
+    above false lt = (let bad : Fact.Transaction t (Some ps) ≡ Fact.Transaction t None = e ∙ told false p lt in cc)
+    above true lt = go (transaction p t) lt refl
 
 pub fact_stays : (p h : History) (f : Fact) → IsPrefixOf p h → IsHistory h → f ≡ fact p (ask_of f) → is_lasting f ≡ true → clash_of h f ≡ None → f ≡ fact h (ask_of f)
 fact_stays p h (Fact.Object o v s) is good e lasts none = object_same p h o s v is good e (no_later s (serial h o) (record { oid = o; seen = s; found = serial h o }) none)

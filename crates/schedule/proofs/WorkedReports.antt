@@ -9,7 +9,7 @@ use Rattle.schedule.specs.Courses.{Place}
 use Rattle.schedule.specs.Explained.{Explained}
 use Rattle.schedule.specs.Moments.{Moment, start}
 use Rattle.schedule.specs.Stepping.{Trouble, Is_stopped}
-use Rattle.schedule.specs.Worked.{cells, two_cells, one_cell, conflict_schedule, conflict_report, stop_schedule, dropped_report, kept_report}
+use Rattle.schedule.specs.Worked.{cells, two_cells, one_cell, conflict_schedule, conflict_report, stop_schedule, dropped_report, kept_report, packed_cell, packed_schedule, packed_report}
 use Rattle.schedule.proofs.Oracle.{ran, trace_of, end_of}
 use Rattle.schedule.proofs.OracleCourses.{ran_course}
 use Rattle.schedule.proofs.Running.{explained}
@@ -53,4 +53,17 @@ pub kept_is_explained : Explained cells one_cell (stop_schedule 1) kept_report
 kept_is_explained =
     explained cells IsArmed one_cell (trace_of (stop_run 1 true)) (end_of (start cells one_cell) (stop_run 1 true)) cells_lawful (omega arith, tt)
     (ran_course cells (start cells one_cell) (stop_oracle 1 true) (trace_of (stop_run 1 true)) (end_of (start cells one_cell) (stop_run 1 true)) refl)
+    refl
+
+-- over a packed file
+abbrev packed_run : Option (List (Place CellRequest) × Moment CellRequest)
+packed_run = ran cells (start cells packed_cell) (map plain packed_schedule)
+
+packed_ends : packed_run ≡ Some (trace_of packed_run, end_of (start cells packed_cell) packed_run)
+packed_ends = goes_through (start cells packed_cell) packed_run refl
+
+pub packed_is_explained : Explained cells packed_cell packed_schedule packed_report
+packed_is_explained =
+    explained cells IsArmed packed_cell (trace_of packed_run) (end_of (start cells packed_cell) packed_run) cells_lawful (omega arith, (omega arith, tt))
+    (ran_course cells (start cells packed_cell) (map plain packed_schedule) (trace_of packed_run) (end_of (start cells packed_cell) packed_run) packed_ends)
     refl

@@ -1,23 +1,14 @@
 -- Explained: which report a schedule may have, run over a history.
-use Rattle.std.specs.Prelude.{ℕ, ◌≡◌, List, [], ◌∷◌, ◌++◌, length, map, flat_map}
-use Rattle.zbase.specs.History.{Value, Transaction, History, IsPrefixOf}
+use Rattle.std.specs.Prelude.{ℕ, ◌≡◌, List, [], ◌∷◌, ◌++◌, length}
+use Rattle.zbase.specs.History.{History, IsPrefixOf}
 use Rattle.zbase.specs.Values.{last}
 use Rattle.schedule.specs.declared.item.Item2.{Item2}
 use Rattle.schedule.specs.declared.line.Line.{Line}
 use Rattle.schedule.specs.Armed.{IsArmed}
 use Rattle.schedule.specs.Courses.{Place, Course, items_of, lines_of}
+pub use Rattle.schedule.specs.Histories.{record_line, transaction_lines, floor_lines, history_head, history_lines}
 use Rattle.schedule.specs.Moments.{Terms, Moment, start, lost_lines}
 use Rattle.schedule.specs.Right.{AreRight}
-
--- the history, as the report prints it
-abbrev pub record_line : ℕ × Value → Line
-record_line r = Line.RecordRow r.0 r.1
-
-abbrev pub transaction_lines : Transaction → List Line
-transaction_lines t = Line.Transaction t.tid t.user t.description t.extension (length t.records) ∷ map record_line t.records
-
-abbrev pub history_lines : History → List Line
-history_lines h = Line.History (length h.transactions) ∷ flat_map transaction_lines h.transactions
 
 abbrev pub report : {R : Type 0} → History → List (Place R) → Moment R → List Line
 report h0 trace end =

@@ -6,6 +6,7 @@ pub mod Lines
 pub mod Moments
 pub mod Causes
 pub mod Stepping
+pub mod Histories
 pub mod Courses
 pub mod Right
 pub mod Armed
@@ -23,3 +24,4 @@ pub mod StepLaws
 pub mod Asks
 pub mod AskLaws
 pub mod Unhindered
+pub mod Counted

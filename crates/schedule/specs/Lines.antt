@@ -57,6 +57,7 @@ line_text (Line.Lost w) = row (codes "lost") (decimal w ∷ [])
 line_text Line.OpenFault = row (codes "openfault") []
 line_text (Line.Restart t n) = row (codes "restart") (hex16_text t ∷ decimal n ∷ [])
 line_text (Line.History n) = row (codes "history") (decimal n ∷ [])
+line_text (Line.Floor t) = row (codes "floor") (hex16_text t ∷ [])
 line_text (Line.Transaction t user description extension n) = row (codes "transaction") (hex16_text t ∷ text_field user ∷ text_field description ∷ text_field extension ∷ decimal n ∷ [])
 line_text (Line.RecordRow o v) = row (codes "record") (hex16_text o ∷ value_field v ∷ [])
 line_text Line.End = row (codes "end") []

@@ -1,5 +1,5 @@
 -- Worked reports over cells: some that explain their schedule, and beginnings of others that can't.
-use Rattle.std.specs.Prelude.{ℕ, ◌+◌, List, [], ◌∷◌, ◌++◌, Some, codes}
+use Rattle.std.specs.Prelude.{ℕ, ◌+◌, List, [], ◌∷◌, ◌++◌, Some, codes, decimal}
 use Rattle.zbase.specs.History.{History}
 use Rattle.evaluator.specs.declared.ask.Ask.{Ask}
 use Rattle.evaluator.specs.declared.cells.CellRequest.{CellRequest}
@@ -132,3 +132,31 @@ copy_steps =
 -- and one that reads the first: three. Its reply has the value in hexadecimal digits
 abbrev pub read_steps : List (List Line)
 read_steps = (Line.Begin 3 first_tid ∷ []) ∷ (Line.Fetch 3 (Ask.Object 1) ∷ []) ∷ (Line.ReplyRead 3 first_tid (114 ∷ first_tid ∷ codes "61" ++ 10 ∷ []) ∷ []) ∷ []
+
+-- The same cell, written twice, in a file that is packed up to the first transaction.
+abbrev pub packed_cell : History
+packed_cell = record {
+  floor = first_tid;
+  transactions =
+      record { tid = first_tid; user = []; description = []; extension = []; records = (1, Some (codes "a")) ∷ [] }
+      ∷ record { tid = first_tid + 1; user = []; description = []; extension = []; records = (1, Some (codes "b")) ∷ [] }
+      ∷ [];
+}
+
+-- the log, and what the two transactions changed
+abbrev pub packed_schedule : List Item2
+packed_schedule =
+    Item2.Request 0 (codes "log") ∷ Item2.Request 1 (codes "part 0331620000000000") ∷ Item2.Request 2 (codes "part 0331620000000001")
+    ∷ Item2.Step 0 ∷ Item2.Step 0 ∷ Item2.Step 0 ∷ Item2.Step 1 ∷ Item2.Step 1 ∷ Item2.Step 1 ∷ Item2.Step 2 ∷ Item2.Step 2 ∷ Item2.Step 2 ∷ []
+
+-- The log has the row above the floor alone, and of the packed transaction nothing is told. The history at the end names its floor.
+abbrev pub packed_report : List Line
+packed_report =
+    Line.Head ∷ Line.Opened (first_tid + 1) 2
+    ∷ Line.Begin 0 (first_tid + 1) ∷ Line.Fetch 0 Ask.Log ∷ Line.ReplyRead 0 (first_tid + 1) (114 ∷ (first_tid + 1) ∷ decimal 1 ++ 10 ∷ [])
+    ∷ Line.Begin 1 (first_tid + 1) ∷ Line.Fetch 1 (Ask.Transaction first_tid) ∷ Line.ReplyRead 1 (first_tid + 1) (114 ∷ (first_tid + 1) ∷ codes "none" ++ 10 ∷ [])
+    ∷ Line.Begin 2 (first_tid + 1) ∷ Line.Fetch 2 (Ask.Transaction (first_tid + 1)) ∷ Line.ReplyRead 2 (first_tid + 1) (114 ∷ (first_tid + 1) ∷ decimal 1 ++ 10 ∷ [])
+    ∷ Line.History 2 ∷ Line.Floor first_tid
+    ∷ Line.Transaction first_tid [] [] [] 1 ∷ Line.RecordRow 1 (Some (codes "a"))
+    ∷ Line.Transaction (first_tid + 1) [] [] [] 1 ∷ Line.RecordRow 1 (Some (codes "b"))
+    ∷ Line.End ∷ []

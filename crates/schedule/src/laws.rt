@@ -1,4 +1,4 @@
-ghost use Rattle.std.specs.Prelude.{◌≡◌, ◌⊎◌, ◌+◌, ℕ, List, length};
+ghost use Rattle.std.specs.Prelude.{◌≡◌, ◌⊎◌, ◌+◌, ◌<◌, ℕ, List, [], length};
 ghost use Rattle.zbase.specs.History.{History, IsHistory};
 ghost use Rattle.evaluator.specs.Exec.{IsDecided, IsLawful, exec};
 ghost use Rattle.evaluator.specs.declared.draft.Draft.{Draft};
@@ -16,6 +16,9 @@ ghost use Rattle.schedule.specs.Moments.{Terms, Moment, start};
 ghost use Rattle.schedule.specs.Courses.{Place, Course, items_of};
 ghost use Rattle.schedule.specs.Armed.{IsArmed};
 ghost use Rattle.schedule.specs.Explained.{report, Explained};
+ghost use Rattle.schedule.specs.Entries.{entries};
+ghost use Rattle.schedule.specs.Counted.{AreCounted, ExplainedByCount, printed};
+ghost use Rattle.zbase.specs.Limits.{greatest_number};
 
 use evaluator::Evaluator;
 
@@ -29,6 +32,16 @@ pub fn runs_are_serial<E: Evaluator>()
     ensures { (terms : Terms E.Request) (h0 : History) (trace : List (Place E.Request)) (end : Moment E.Request) →
         IsLawful terms.eval → IsHistory h0 → Course terms (start terms h0) trace end → IsArmed trace →
         (e : Explained terms h0 (items_of trace) (report h0 trace end)) × (e.trace ≡ trace) × (e.end ≡ end) }
+{}
+
+/// The run law over a disk that was handed in: what a server shows step by step makes its report explained by the disk's
+/// count of faults. Where the count didn't rise and no item arms anything, the report is one that a replay of the same items may print.
+pub fn served_runs_are_serial<E: Evaluator>()
+    ensures serial { (terms : Terms E.Request) (h0 : History) (old new : ℕ) (trace : List (Place E.Request)) (end : Moment E.Request) →
+        IsLawful terms.eval → IsHistory h0 → Course terms (start terms h0) trace end → AreCounted old (printed trace) new →
+        (e : ExplainedByCount terms old new h0 (items_of trace) (report h0 trace end)) × (e.trace ≡ trace) × (e.end ≡ end) }
+    ensures replays { (terms : Terms E.Request) (h0 : History) (s : List Item2) (r : List Line) (n : ℕ) → n < greatest_number →
+        entries s ≡ [] → ExplainedByCount terms n n h0 s r → Explained terms h0 s r }
 {}
 
 /// **A request that meets nothing comes to its reply by its worker's own steps alone**: in f + 2 of them where it reads,

@@ -17,12 +17,14 @@ mod writer;
 
 pub use item::{Item2, Schedule, WORKERS};
 pub use item_writer::write_item;
-pub use laws::{one_bad_line, one_schedule, requests_keep_pace, runs_are_serial};
+pub use laws::{
+    one_bad_line, one_schedule, requests_keep_pace, runs_are_serial, served_runs_are_serial,
+};
 pub use line::Line;
 pub use reader::{ScheduleRefusal, read_schedule};
 pub use worked::{
     conflict_is_explained, cut_off_finish_is_explained, early_commit_is_refuted,
-    lossy_restart_is_refuted, missed_conflict_is_refuted, second_vote_is_refuted,
-    unhindered_steps_are_these,
+    lossy_restart_is_refuted, missed_conflict_is_refuted, packed_file_is_explained,
+    second_vote_is_refuted, unhindered_steps_are_these,
 };
 pub use writer::{line_bytes, record_bytes, transaction_bytes, write_line};

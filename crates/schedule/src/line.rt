@@ -57,6 +57,8 @@ pub enum Line {
     Restart(Tid, u64),
     /// `history N`: the number of transactions that follow.
     History(u64),
+    /// `floor TID`: up to this transaction the file was packed. It stands where that is above 0.
+    Floor(Tid),
     /// `transaction TID USER DESCRIPTION EXTENSION N`, N being the number of its records.
     Transaction(Tid, Bytes, Bytes, Bytes, u64),
     /// `record OID VALUE`.

@@ -3,7 +3,7 @@ ghost use Rattle.evaluator.specs.declared.cells.CellRequest.{CellRequest};
 ghost use Rattle.schedule.specs.declared.line.Line.{Line};
 ghost use Rattle.schedule.specs.Explained.{Explained};
 ghost use Rattle.schedule.specs.Unhindered.{whole_steps};
-ghost use Rattle.schedule.specs.Worked.{cells, one_cell, two_cells, first_tid, copy_steps, read_steps, conflict_schedule, conflict_report, stop_schedule, dropped_report, kept_report, early_commit_schedule, early_commit, second_vote_schedule, second_vote, stale_vote_schedule, stale_vote, lossy_restart_schedule, lossy_restart};
+ghost use Rattle.schedule.specs.Worked.{cells, one_cell, two_cells, first_tid, copy_steps, read_steps, conflict_schedule, conflict_report, stop_schedule, dropped_report, kept_report, early_commit_schedule, early_commit, second_vote_schedule, second_vote, stale_vote_schedule, stale_vote, lossy_restart_schedule, lossy_restart, packed_cell, packed_schedule, packed_report};
 
 /// Two requests that each read what the other writes: the second meets a conflict, begins anew and commits.
 pub fn conflict_is_explained()
@@ -14,6 +14,11 @@ pub fn conflict_is_explained()
 pub fn cut_off_finish_is_explained()
     ensures dropped { Explained cells one_cell (stop_schedule 0) dropped_report }
     ensures kept { Explained cells one_cell (stop_schedule 1) kept_report }
+{}
+
+/// Over a packed file the log and the parts are those above the floor, and the history at the end names it.
+pub fn packed_file_is_explained()
+    ensures { Explained cells packed_cell packed_schedule packed_report }
 {}
 
 /// What requests print that meet nothing and ask for one cell: a copy has its reply after five steps, a read after three.

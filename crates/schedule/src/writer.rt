@@ -205,6 +205,7 @@ fn put_line(line: &Line, out: &mut Bytes) -> Result<(), Memory>
         Line::OpenFault => put_row(out, b"openfault", &[]),
         Line::Restart(tid, n) => put_row(out, b"restart", &[Field::Id(tid.0), Field::Number(*n)]),
         Line::History(n) => put_row(out, b"history", &[Field::Number(*n)]),
+        Line::Floor(tid) => put_row(out, b"floor", &[Field::Id(tid.0)]),
         Line::Transaction(tid, user, description, extension, n) => {
             put_transaction(*tid, user, description, extension, *n, out)
         }

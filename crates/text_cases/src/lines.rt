@@ -64,6 +64,7 @@ fn plain_line(kind: &str, numbers: &[u64]) -> Option<Line> {
         ("openfault", []) => Line::OpenFault,
         ("restart", [tid, count]) => Line::Restart(Tid(*tid), *count),
         ("history", [count]) => Line::History(*count),
+        ("floor", [tid]) => Line::Floor(Tid(*tid)),
         ("record-none", [oid]) => Line::RecordRow(Oid(*oid), None),
         ("end", []) => Line::End,
         _ => return None,
