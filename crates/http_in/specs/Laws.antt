@@ -2,7 +2,9 @@
 use Rattle.std.specs.Prelude.{◌≡◌, ℕ, ◌<◌, ◌≤◌, List, [], ◌∷◌, ◌++◌, length, take, drop, Some, None}
 use Rattle.std.specs.List.{All, concat}
 use Rattle.http_in.specs.declared.message.Message.{Message}
-use Rattle.http_in.specs.Messages.{asked, most_message, one_message}
+use Rattle.http_in.specs.declared.message.Request.{Request}
+use Rattle.http_in.specs.Messages.{asked, most_message, most_target, one_message}
+use Rattle.http_in.specs.Paths.{path_text}
 
 -- A message that bytes begin with stands, whatever follows them, and so does its length.
 abbrev pub MessagesStand : Type 0
@@ -23,6 +25,10 @@ LongEnough = (bytes : List ℕ) → asked bytes ≡ None → length bytes < most
 -- No message has more bytes than the longest head and the longest body.
 abbrev pub LongestMessage : Type 0
 LongestMessage = (bytes : List ℕ) (x : Message × ℕ) → asked bytes ≡ Some x → x.1 ≤ most_message
+
+-- The path of a whole message, as a text, has no more bytes than a target may have.
+abbrev pub PathsAreShort : Type 0
+PathsAreShort = (bytes : List ℕ) (q : Request) → one_message bytes ≡ Some (Message.Whole q) → length (path_text q.path) ≤ most_target
 
 -- The front of a message is none yet.
 abbrev pub FrontIsNone : Type 0

@@ -4,6 +4,7 @@
 use Rattle.std.specs.Prelude.{ℕ, ◌+◌, ◌==◌, ◌&&◌, ◌||◌, nat_lt, Bool, true, false, List, [], length, take, drop, map, slice_index, Option, Some, None, Result, Ok, Err, if◌then◌else◌, codes}
 use Rattle.std.specs.Str.{bytes_eq}
 use Rattle.httparse.specs.Grammar.{RequestHead}
+use Rattle.http_in.specs.declared.limits.TheConstants.{MOST_BODY, MOST_HEAD, MOST_LINES, MOST_SEGMENTS, MOST_TARGET}
 use Rattle.http_in.specs.declared.message.HttpRefusal.{HttpRefusal}
 use Rattle.http_in.specs.declared.message.Message.{Message}
 use Rattle.http_in.specs.declared.message.Request.{Request}
@@ -16,23 +17,23 @@ use Rattle.http_in.specs.Paths.{count_segments, path_of, query_of, raw_of}
 -- ---- limits, in bytes, lines and segments
 
 abbrev pub most_head : ℕ
-most_head = 16384
+most_head = MOST_HEAD
 
 abbrev pub most_lines : ℕ
-most_lines = 64
+most_lines = MOST_LINES
 
 abbrev pub most_target : ℕ
-most_target = 8192
+most_target = MOST_TARGET
 
 abbrev pub most_segments : ℕ
-most_segments = 64
+most_segments = MOST_SEGMENTS
 
 abbrev pub most_body : ℕ
-most_body = 1048576
+most_body = MOST_BODY
 
 -- the longest head and the longest body
 abbrev pub most_message : ℕ
-most_message = 1064960
+most_message = MOST_HEAD + MOST_BODY
 
 -- ---- the request of a head
 

@@ -34,7 +34,7 @@ behind_tests true c m size q x is = cc
 behind_tests false true m size q x is = cc
 behind_tests false false m size q x is = behind_body (nat_lt 1048576 size) m size q x refl is
 
-abbrev made : List ℕ → List Header → List (List ℕ) → Verb → Request
+abbrev pub made : List ℕ → List Header → List (List ℕ) → Verb → Request
 made target headers path verb = record { method = verb; path = path; raw = lossy (raw_of target); query = lossy (query_of target); headers = headers; body = [] }
 
 request_small : (method target : List ℕ) (headers : List Header) (x : Request × ℕ) → request_of method target headers ≡ Ok x → x.1 ≤ 1048576

@@ -1,4 +1,4 @@
-ghost use Rattle.http_in.specs.Laws.{FewReads, FrontIsNone, LongEnough, LongestMessage, MessagesAreOne, MessagesStand, NextIsRead, NoneBefore, NoneBeginsAnother, NoneIsFront, OneReading, PiecesGoOn, UnreadIsNothing};
+ghost use Rattle.http_in.specs.Laws.{FewReads, FrontIsNone, LongEnough, LongestMessage, MessagesAreOne, MessagesStand, NextIsRead, NoneBefore, NoneBeginsAnother, NoneIsFront, OneReading, PathsAreShort, PiecesGoOn, UnreadIsNothing};
 
 /// A message stands whatever follows it, it is one message by itself, none begins another, and none has more than
 /// 1,064,960 bytes. What is no message yet is the front of one, and the front of a message is none.
@@ -25,4 +25,9 @@ pub fn one_connection()
     ensures reads { FewReads }
     ensures unread { UnreadIsNothing }
     ensures before { NoneBefore }
+{}
+
+/// The path of a whole message, as a text with a slash before each segment, has at most 8,192 bytes.
+pub fn paths_are_short()
+    ensures { PathsAreShort }
 {}

@@ -18,7 +18,7 @@ mod reader;
 mod refusal;
 mod taking;
 
-pub use laws::{any_cutting, one_connection, one_message_alone};
+pub use laws::{any_cutting, one_connection, one_message_alone, paths_are_short};
 pub use message::{HttpRefusal, Message, Request, Segments, Verb};
 pub use placed::Headers;
 pub use reader::Reader;
