@@ -4,5 +4,6 @@
 #![tactic(auto)]
 
 mod keys;
+mod names;
 
-pub use keys::{keys_differ, name_key};
+pub use names::{HasName, names_differ};

@@ -9,6 +9,7 @@ use Rattle.std.proofs.lemmas.Int.{to_z-of_z, of_z-to_z}
 use Rattle.std.proofs.Math.Facts.{Fits-lt-pow, Fits-of_lt, Fits-of_z, sfits_to_z}
 use Rattle.std.proofs.lemmas.Slice.Eq.{bytes_eq-Decides}
 use Rattle.zbase.specs.Numbers.{be64}
+use Rattle.zobject.specs.declared.limits.TheConstants.{MOST_CHILDREN, MOST_LINES, MOST_PROPERTIES, MOST_USERS}
 use Rattle.zobject.specs.declared.object.Property.{Property}
 use Rattle.zobject.specs.declared.object.PropValue.{PropValue}
 use Rattle.zobject.specs.declared.object.PropValue.TheVariants.{Line, Int, Lines}
@@ -63,15 +64,15 @@ in_any_order [] = tt
 in_any_order (t ∷ []) = tt
 in_any_order (t ∷ u ∷ ts) = (refl, in_any_order (u ∷ ts))
 
-line_list_exact : IsExact (AreMany 0 1000 (Keeps Value)) (list_of text) (list_at 0 1000 line_at)
-line_list_exact = as_exact (AreRising (Keeps Value) (λ (a b : List ℕ). true) 0 1000) (AreMany 0 1000 (Keeps Value)) (list_of text) (list_at 0 1000 line_at) (λ ts r. r.0) (λ ts r. (r, in_any_order ts))
-    (rising_exact (Keeps Value) (λ (a b : List ℕ). true) text line_at line_exact 0 1000 (omega arith))
+line_list_exact : IsExact (AreMany 0 MOST_LINES (Keeps Value)) (list_of text) (list_at 0 MOST_LINES line_at)
+line_list_exact = as_exact (AreRising (Keeps Value) (λ (a b : List ℕ). true) 0 MOST_LINES) (AreMany 0 MOST_LINES (Keeps Value)) (list_of text) (list_at 0 MOST_LINES line_at) (λ ts r. r.0) (λ ts r. (r, in_any_order ts))
+    (rising_exact (Keeps Value) (λ (a b : List ℕ). true) text line_at line_exact 0 MOST_LINES (omega arith))
 
 -- a value of each type, without its type
 AreLines : PropValue → Type 0
 AreLines (Line t) = ⊥
 AreLines (Int n) = ⊥
-AreLines (Lines ts) = AreMany 0 1000 (Keeps Value) ts
+AreLines (Lines ts) = AreMany 0 MOST_LINES (Keeps Value) ts
 
 lines_text : PropValue → List ℕ
 lines_text (Line t) = []
@@ -85,9 +86,9 @@ the_lines (Lines ts) = ts
 
 lines_exact : IsExact AreLines lines_text lines_at
 unfolding lines_at AreLines lines_text the_lines
-lines_exact = one_exact (AreMany 0 1000 (Keeps Value)) (list_of text) (list_at 0 1000 line_at) AreLines lines_text (λ ts. Lines ts) the_lines line_list_exact (λ ts p. (p, refl)) back
+lines_exact = one_exact (AreMany 0 MOST_LINES (Keeps Value)) (list_of text) (list_at 0 MOST_LINES line_at) AreLines lines_text (λ ts. Lines ts) the_lines line_list_exact (λ ts p. (p, refl)) back
   where
-    back : (v : PropValue) → AreLines v → AreMany 0 1000 (Keeps Value) (the_lines v) × (Lines (the_lines v) ≡ v)
+    back : (v : PropValue) → AreLines v → AreMany 0 MOST_LINES (Keeps Value) (the_lines v) × (Lines (the_lines v) ≡ v)
     back (Line t) r = absurd r
     back (Int n) r = absurd r
     back (Lines ts) r = (r, refl)
@@ -189,8 +190,8 @@ property_exact version last =
     (λ n v p q. let one : Property = record { name = n; value = v } in ((record { name = p.0; value = q }, rises_by comes_before (λ (p : Property). p.name) last one ∙ p.1), refl))
     (λ p r. ((r.0.name, sym (rises_by comes_before (λ (p : Property). p.name) last p) ∙ r.1), r.0.value, refl))
 
-pub properties_exact : (version : Version) → IsExact (AreRising (IsProperty version) (λ (p q : Property). comes_before p.name q.name) 0 100) (list_of (property version)) (list_at 0 100 (property_at version))
-properties_exact version = rising_exact (IsProperty version) (λ (p q : Property). comes_before p.name q.name) (property version) (property_at version) (property_exact version) 0 100 (omega arith)
+pub properties_exact : (version : Version) → IsExact (AreRising (IsProperty version) (λ (p q : Property). comes_before p.name q.name) 0 MOST_PROPERTIES) (list_of (property version)) (list_at 0 MOST_PROPERTIES (property_at version))
+properties_exact version = rising_exact (IsProperty version) (λ (p q : Property). comes_before p.name q.name) (property version) (property_at version) (property_exact version) 0 MOST_PROPERTIES (omega arith)
 
 -- ---- children
 
@@ -280,14 +281,14 @@ child_exact earlier = two_exact (λ n. Keeps ChildName n × (list_any (bytes_eq 
     (λ c r. ((r.0.name, r.1), r.0.oid, refl))
 
 abbrev AreChildren : List Child → Type 0
-AreChildren cs = AreMany 0 10000 IsChild cs × AreDistinct (names cs)
+AreChildren cs = AreMany 0 MOST_CHILDREN IsChild cs × AreDistinct (names cs)
 
 children_exact : IsExact AreChildren (list_of child) children_at
 unfolding children_at
-children_exact = as_exact (IsListed IsNewChild child child_at and_name child_exact 0 10000 []) AreChildren (list_of child) children_at
+children_exact = as_exact (IsListed IsNewChild child child_at and_name child_exact 0 MOST_CHILDREN []) AreChildren (list_of child) children_at
     (λ cs r. let f = followed [] cs r.follow in (record { enough = r.enough; few = r.few; each = f.0 }, f.2))
     (λ cs r. record { enough = r.0.enough; few = r.0.few; follow = follows [] cs r.0.each (all_new (names cs)) r.1 })
-    (counted_exact IsNewChild child child_at and_name child_exact 0 10000 [] (omega arith))
+    (counted_exact IsNewChild child child_at and_name child_exact 0 MOST_CHILDREN [] (omega arith))
 
 -- ---- the part of a kind
 
@@ -339,10 +340,10 @@ folder_exact version = one_exact AreChildren (list_of child) children_at (IsPart
 
 user_folder_exact : (version : Version) → IsExact (IsPartOf version kind.UserFolder) (part_text version) user_folder_at
 unfolding user_folder_at IsPartOf
-user_folder_exact version = one_exact (AreRising IsUser (λ (u v : User). comes_before u.name v.name) 0 1000) (list_of user) (list_at 0 1000 user_at) (IsPartOf version kind.UserFolder) (part_text version) (λ us. part.UserFolder us) users_in users_exact
+user_folder_exact version = one_exact (AreRising IsUser (λ (u v : User). comes_before u.name v.name) 0 MOST_USERS) (list_of user) (list_at 0 MOST_USERS user_at) (IsPartOf version kind.UserFolder) (part_text version) (λ us. part.UserFolder us) users_in users_exact
     (λ us p. ((refl, p), refl)) back
   where
-    back : (p : Part2) → IsPartOf version kind.UserFolder p → AreRising IsUser (λ (u v : User). comes_before u.name v.name) 0 1000 (users_in p) × (part.UserFolder (users_in p) ≡ p)
+    back : (p : Part2) → IsPartOf version kind.UserFolder p → AreRising IsUser (λ (u v : User). comes_before u.name v.name) 0 MOST_USERS (users_in p) × (part.UserFolder (users_in p) ≡ p)
     back (part.UserFolder us) r = (r.1, refl)
     back (part.Folder cs) r = absurd (let bad = r.0 in cc)
     back (part.Method source proxy) r = absurd (let bad = r.0 in cc)

@@ -5,6 +5,8 @@ use Rattle.std.specs.Int.{Width, w16, w32, to_be_bytes}
 use Rattle.std.proofs.lemmas.Bool.{leb-true, le-leb, eqb-true}
 use Rattle.std.proofs.lemmas.Slice.Eq.{bytes_eq-Decides}
 use Rattle.zbase.specs.Numbers.{be16, be32}
+use Rattle.zbase.specs.declared.limits.TheConstants.{MOST_SOURCE}
+use Rattle.zobject.specs.declared.limits.TheConstants.{MOST_COUNTED, MOST_LOCALS, MOST_NAME, MOST_PASSWORD, MOST_ROLE, MOST_TITLE, MOST_USERS, MOST_VALUE}
 use Rattle.zobject.specs.declared.object.Setting.{Setting}
 use Rattle.zobject.specs.declared.object.Local.{Local}
 use Rattle.zobject.specs.declared.object.User.{User}
@@ -15,7 +17,7 @@ use Rattle.zobject.specs.declared.version.Rule.TheVariants.{StoredId, ChildName,
 use Rattle.zobject.specs.declared.version.Version.{Version}
 use Rattle.zobject.specs.declared.version.Version.TheVariants.{First, Second}
 use Rattle.zobject.specs.Texts.{fits, is_acl_users, is_id, is_of_length, is_stored_id, keeps}
-use Rattle.zobject.specs.Rules.{AreRoles, IsLocal, IsSetting, IsUser, Keeps, comes_before, least_roles, most_counted, most_permission}
+use Rattle.zobject.specs.Rules.{AreRoles, IsLocal, IsSetting, IsUser, Keeps, comes_before, least_roles, most_permission}
 use Rattle.zcodec.specs.Record.{flag, list_of, local_roles, roles, setting, source_text, text, user}
 use Rattle.zcodec.specs.Reading.{◌>>=◌, byte_at, flag_at, front_at, list_at, local_at, name_at, number_at, permission_at, rises, role_at, roles_at, setting_at, text_at, user_at, where_kept}
 use Rattle.zcodec.proofs.Exact.{AreRising, Behind, IsBytes, IsExact, IsWide, Takes, both_true, byte_exact, front_exact, got, gives, kept_exact, kept_ok, number_exact, ok_is, rising_exact, wide16, wide32}
@@ -30,14 +32,14 @@ either false b e = inr e
 long_at_most : (most : ℕ) (t : List ℕ) → is_of_length most t ≡ true → length t ≤ most
 long_at_most most t e = leb-true _ _ (both_true _ _ e).1
 
-id_short : (t : List ℕ) → is_id t ≡ true → length t ≤ 100
+id_short : (t : List ℕ) → is_id t ≡ true → length t ≤ MOST_NAME
 unfolding is_id
-id_short t e = long_at_most 100 t (both_true _ _ (both_true _ _ (both_true _ _ e).0).0).0
+id_short t e = long_at_most MOST_NAME t (both_true _ _ (both_true _ _ (both_true _ _ e).0).0).0
 
-acl_users_short : (t : List ℕ) → is_acl_users t ≡ true → length t ≤ 100
+acl_users_short : (t : List ℕ) → is_acl_users t ≡ true → length t ≤ MOST_NAME
 acl_users_short t e = let len : 9 ≡ length t = ap length ((bytes_eq-Decides (codes "acl_users") t).0 e) in omega (arith, len)
 
-stored_short : (k : Kind) (t : List ℕ) → is_stored_id k t ≡ true → length t ≤ 100
+stored_short : (k : Kind) (t : List ℕ) → is_stored_id k t ≡ true → length t ≤ MOST_NAME
 stored_short kind.Folder t e = elim (either (eqb (length t) 0) (is_id t) e) [
   | inl empty ↦ let len : length t ≡ 0 = eqb-true (length t) 0 empty in omega (arith, len)
   | inr id ↦ id_short t id
@@ -51,15 +53,15 @@ stored_short kind.Document t e = id_short t e
 
 -- the most bytes of a text by its rule
 abbrev pub most_bytes : Rule → ℕ
-most_bytes (StoredId k) = 100
-most_bytes ChildName = 100
-most_bytes PropertyName = 100
-most_bytes Value = 10000
-most_bytes Role = 64
-most_bytes UserName = 100
-most_bytes Password = 100
-most_bytes Title = 1000
-most_bytes Source = 262144
+most_bytes (StoredId k) = MOST_NAME
+most_bytes ChildName = MOST_NAME
+most_bytes PropertyName = MOST_NAME
+most_bytes Value = MOST_VALUE
+most_bytes Role = MOST_ROLE
+most_bytes UserName = MOST_NAME
+most_bytes Password = MOST_PASSWORD
+most_bytes Title = MOST_TITLE
+most_bytes Source = MOST_SOURCE
 
 pub short : (rule : Rule) (t : List ℕ) → fits rule t ≡ true → length t ≤ most_bytes rule
 short (StoredId k) t e = stored_short k t e
@@ -67,10 +69,10 @@ short ChildName t e = elim (either (is_id t) (is_acl_users t) e) [
   | inl id ↦ id_short t id
   | inr acl ↦ acl_users_short t acl
 ]
-short PropertyName t e = long_at_most 100 t (both_true _ _ (both_true _ _ (both_true _ _ e).0).0).0
+short PropertyName t e = long_at_most MOST_NAME t (both_true _ _ (both_true _ _ (both_true _ _ e).0).0).0
 short Value t e = leb-true _ _ e
-short Role t e = long_at_most 64 t (both_true _ _ e).0
-short UserName t e = long_at_most 100 t (both_true _ _ e).0
+short Role t e = long_at_most MOST_ROLE t (both_true _ _ e).0
+short UserName t e = long_at_most MOST_NAME t (both_true _ _ e).0
 short Password t e = leb-true _ _ e
 short Title t e = leb-true _ _ e
 short Source t e = leb-true _ _ e
@@ -116,9 +118,9 @@ unfolding role_at
 role_exact last = kept_exact (Keeps Role) text (rises comes_before last) (text_at w16 Role) (text16_exact Role (omega arith))
 
 pub roles_exact : (least : ℕ) → IsExact (AreRoles least) roles (roles_at least)
-roles_exact least = as_exact (AreRising (Keeps Role) comes_before least most_counted) (AreRoles least) roles (roles_at least)
+roles_exact least = as_exact (AreRising (Keeps Role) comes_before least MOST_COUNTED) (AreRoles least) roles (roles_at least)
     (λ x r. record { many = r.0; rise = r.1 }) (λ x r. (r.many, r.rise))
-    (rising_exact (Keeps Role) comes_before text role_at role_exact least most_counted (omega arith))
+    (rising_exact (Keeps Role) comes_before text role_at role_exact least MOST_COUNTED (omega arith))
 
 -- ---- settings
 
@@ -180,8 +182,8 @@ setting_exact version last = three_exact
     most_small First = omega arith
     most_small Second = omega arith
 
-pub settings_exact : (version : Version) → IsExact (AreRising (IsSetting version) (λ (s t : Setting). ltb s.permission t.permission) 0 most_counted) (list_of setting) (list_at 0 most_counted (setting_at version))
-settings_exact version = rising_exact (IsSetting version) (λ (s t : Setting). ltb s.permission t.permission) setting (setting_at version) (setting_exact version) 0 most_counted (omega arith)
+pub settings_exact : (version : Version) → IsExact (AreRising (IsSetting version) (λ (s t : Setting). ltb s.permission t.permission) 0 MOST_COUNTED) (list_of setting) (list_at 0 MOST_COUNTED (setting_at version))
+settings_exact version = rising_exact (IsSetting version) (λ (s t : Setting). ltb s.permission t.permission) setting (setting_at version) (setting_exact version) 0 MOST_COUNTED (omega arith)
 
 -- ---- names that rise
 
@@ -199,8 +201,8 @@ local_exact last =
     (λ n rs p q. let l : Local = record { user = n; roles = rs } in ((record { user = p.0; roles = q }, rises_by comes_before (λ (l : Local). l.user) last l ∙ p.1), refl))
     (λ l r. ((r.0.user, sym (rises_by comes_before (λ (l : Local). l.user) last l) ∙ r.1), r.0.roles, refl))
 
-pub locals_exact : IsExact (AreRising IsLocal (λ (l k : Local). comes_before l.user k.user) 0 1000) (list_of local_roles) (list_at 0 1000 local_at)
-locals_exact = rising_exact IsLocal (λ (l k : Local). comes_before l.user k.user) local_roles local_at local_exact 0 1000 (omega arith)
+pub locals_exact : IsExact (AreRising IsLocal (λ (l k : Local). comes_before l.user k.user) 0 MOST_LOCALS) (list_of local_roles) (list_at 0 MOST_LOCALS local_at)
+locals_exact = rising_exact IsLocal (λ (l k : Local). comes_before l.user k.user) local_roles local_at local_exact 0 MOST_LOCALS (omega arith)
 
 user_exact : (last : Option User) → IsExact (Behind IsUser (λ (u v : User). comes_before u.name v.name) last) user (user_at last)
 unfolding user_at
@@ -212,5 +214,5 @@ user_exact last =
     (λ n p rs q r o. let u : User = record { name = n; password = p; roles = rs } in ((record { name = q.0; password = r; roles = o }, rises_by comes_before (λ (u : User). u.name) last u ∙ q.1), append_assoc (text n) (text p) (roles rs)))
     (λ u r. ((r.0.name, sym (rises_by comes_before (λ (u : User). u.name) last u) ∙ r.1), r.0.password, r.0.roles, refl))
 
-pub users_exact : IsExact (AreRising IsUser (λ (u v : User). comes_before u.name v.name) 0 1000) (list_of user) (list_at 0 1000 user_at)
-users_exact = rising_exact IsUser (λ (u v : User). comes_before u.name v.name) user user_at user_exact 0 1000 (omega arith)
+pub users_exact : IsExact (AreRising IsUser (λ (u v : User). comes_before u.name v.name) 0 MOST_USERS) (list_of user) (list_at 0 MOST_USERS user_at)
+users_exact = rising_exact IsUser (λ (u v : User). comes_before u.name v.name) user user_at user_exact 0 MOST_USERS (omega arith)

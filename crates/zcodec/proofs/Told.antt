@@ -1,7 +1,7 @@
 -- What tells the names of children apart: that they rise, or that their keys differ.
 use Rattle.std.proofs.Common.{◌≡◌, ℕ, Bool, true, false, List, [], ◌∷◌, ◌++◌, ◌&&◌, subst, map, reverse, Option, Some, None, option_map, Ordering, Less, Equal, Greater, refl, sym, ap, ◌∙◌, nat_cmp, is_eq, is_lt}
 use Rattle.std.specs.List.{IsDistinct, AllByRecursion}
-use Rattle.std.specs.Ordering.{eq_by_cmp, ordering_reverse}
+use Rattle.std.specs.Ordering.{ordering_reverse}
 use Rattle.std.specs.Cmp.Lexicographic.{slice_cmp}
 use Rattle.std.specs.Str.{bytes_eq}
 use Rattle.std.proofs.lemmas.Cmp.{nat_list_cmp_total}
@@ -9,8 +9,7 @@ use Rattle.std.proofs.lemmas.List.Sorted.{IsPermutation-reverse, IsPermutation-s
 use Rattle.std.proofs.lemmas.Map.Keys.{IsDistinct-IsPermutation}
 use Rattle.std.proofs.lemmas.Map.Text.{is_eq-slice_cmp}
 use denote.Ref.{Bor}
-use Rattle.name_keys.specs.KeyLaws.{apart, by_keys as keys_tell_apart}
-use Rattle.name_keys.specs.Keys.{name_key}
+use Rattle.name_keys.specs.KeyLaws.{apart}
 use Rattle.zobject.specs.declared.object.Child.{Child}
 use Rattle.zobject.specs.Rules.{comes_before}
 use Rattle.zcodec.specs.Reading.{Fails, rises}
@@ -72,10 +71,6 @@ risen cs all =
     let names = map (λ (c : Child). c.name) cs in
     apart bytes_eq namesakes (λ (c : Child). c.name) (λ c d e. e) cs
     (IsDistinct-IsPermutation bytes_eq either_way (reverse names) names (IsPermutation-sym names (reverse names) (IsPermutation-reverse names)) all.0)
-
--- names whose keys differ are different names
-pub by_keys : (cs : List Child) → IsDistinct (eq_by_cmp nat_cmp) (map (λ (c : Child). name_key c.name) cs) → IsDistinct namesakes cs
-by_keys cs all = keys_tell_apart (λ (c : Child). c.name) cs all
 
 -- ---- a child, whatever the last one is
 

@@ -12,6 +12,7 @@ use Rattle.zobject.specs.declared.object.Local.{Local}
 use Rattle.zobject.specs.declared.object.Property.{Property}
 use Rattle.zobject.specs.declared.object.Part2.{Part2}
 use Rattle.zobject.specs.declared.object.Object.{Object}
+use Rattle.zobject.specs.declared.limits.TheConstants.{MOST_COUNTED, MOST_LOCALS, MOST_PROPERTIES}
 use Rattle.zobject.specs.declared.refusal.CodecRefusal.{CodecRefusal}
 use Rattle.zobject.specs.declared.version.Kind.{Kind}
 use Rattle.zobject.specs.declared.version.Kind.TheVariants as kind
@@ -19,7 +20,7 @@ use Rattle.zobject.specs.declared.version.Rule.TheVariants.{StoredId, Title}
 use Rattle.zobject.specs.declared.version.Version.{Version}
 use Rattle.zobject.specs.declared.version.Version.TheVariants.{First, Second}
 use Rattle.zobject.specs.Texts.{letter}
-use Rattle.zobject.specs.Rules.{IsLocal, IsOf, IsProperty, IsSetting, Keeps, comes_before, kind_of, most_counted}
+use Rattle.zobject.specs.Rules.{IsLocal, IsOf, IsProperty, IsSetting, Keeps, comes_before, kind_of}
 use Rattle.zcodec.specs.Record.{Spells, list_of, local_roles, magic, part_text, property, record_text, setting, text}
 use Rattle.zcodec.specs.Reading.{◌>>=◌, Decodes, Head, Lists, Names, Reads, Start, byte_at, head_at, kind_at, kind_by, kind_or, lists_at, list_at, local_at, magic_at, names_at, number_at, object_at, object_of, part_at, placed, property_at, read, setting_at, start_at, text_at, where_kept, whole_at}
 use Rattle.zcodec.proofs.Exact.{AreRising, IsBytes, IsExact, Takes, byte_exact, got, gives, kept_ok, number_exact, ok_is, wide64}
@@ -138,13 +139,13 @@ head_exact = two_exact (λ s. Unit {0}) (λ s. AreNames s.kind) start_text (λ s
     (λ s n. record { start = s; names = n }) (λ h. h.start) (λ h. h.names) start_exact (λ s p. names_exact s.kind) (λ s n p q. (q, refl)) (λ h r. (tt, r, refl))
 
 AreSettings : Version → List Setting → Type 0
-AreSettings version = AreRising (IsSetting version) (λ (s t : Setting). nat_lt s.permission t.permission) 0 most_counted
+AreSettings version = AreRising (IsSetting version) (λ (s t : Setting). nat_lt s.permission t.permission) 0 MOST_COUNTED
 
 AreLocals : List Local → Type 0
-AreLocals = AreRising IsLocal (λ (l k : Local). comes_before l.user k.user) 0 1000
+AreLocals = AreRising IsLocal (λ (l k : Local). comes_before l.user k.user) 0 MOST_LOCALS
 
 AreProperties : Version → List Property → Type 0
-AreProperties version = AreRising (IsProperty version) (λ (p q : Property). comes_before p.name q.name) 0 100
+AreProperties version = AreRising (IsProperty version) (λ (p q : Property). comes_before p.name q.name) 0 MOST_PROPERTIES
 
 record AreLists (version : Version) (l : Lists) : Type 0 where
   settings : AreSettings version l.settings
@@ -157,7 +158,7 @@ lists_text version l = list_of setting l.settings ++ (list_of local_roles l.loca
 lists_exact : (version : Version) → IsExact (AreLists version) (lists_text version) (lists_at version)
 unfolding lists_at AreSettings AreLocals AreProperties
 lists_exact version = three_exact (AreSettings version) (λ s. AreLocals) (λ s l. AreProperties version) (list_of setting) (λ s. list_of local_roles) (λ s l. list_of (property version))
-    (list_at 0 most_counted (setting_at version)) (λ s. list_at 0 1000 local_at) (λ s l. list_at 0 100 (property_at version))
+    (list_at 0 MOST_COUNTED (setting_at version)) (λ s. list_at 0 MOST_LOCALS local_at) (λ s l. list_at 0 MOST_PROPERTIES (property_at version))
     (AreLists version) (lists_text version) (λ s l p. record { settings = s; locals = l; properties = p }) (λ l. l.settings) (λ l. l.locals) (λ l. l.properties)
     (settings_exact version) (λ s q. locals_exact) (λ s l q r. properties_exact version)
     (λ s l p q r o. (record { settings = q; locals = r; properties = o }, refl)) (λ l r. (r.settings, r.locals, r.properties, refl))

@@ -4,6 +4,7 @@ use Rattle.std.specs.Prelude.{◌≡◌, ℕ, zero, suc, ◌-◌, ◌&&◌, Bool
 use Rattle.std.specs.Int.{Width, w16, w32, w64, byte_len, from_be_bytes, cast_signed}
 use Rattle.std.specs.List.{list_any}
 use Rattle.std.specs.Str.{bytes_eq}
+use Rattle.zobject.specs.declared.limits.TheConstants.{MOST_CHILDREN, MOST_COUNTED, MOST_LINES, MOST_LOCALS, MOST_PROPERTIES, MOST_USERS}
 use Rattle.zobject.specs.declared.object.Setting.{Setting}
 use Rattle.zobject.specs.declared.object.Local.{Local}
 use Rattle.zobject.specs.declared.object.Property.{Property}
@@ -23,7 +24,7 @@ use Rattle.zobject.specs.declared.version.Rule.TheVariants.{StoredId, ChildName,
 use Rattle.zobject.specs.declared.version.Version.{Version}
 use Rattle.zobject.specs.declared.version.Version.TheVariants.{First, Second}
 use Rattle.zobject.specs.Texts.{keeps}
-use Rattle.zobject.specs.Rules.{comes_before, least_roles, most_counted, most_permission}
+use Rattle.zobject.specs.Rules.{comes_before, least_roles, most_permission}
 use Rattle.zcodec.specs.declared.unread.Unread.{Unread}
 use Rattle.zcodec.specs.declared.unread.Unread.TheVariants as unread
 
@@ -104,7 +105,7 @@ role_at last bytes = do
   where_kept (rises comes_before last role.0) (length bytes) role
 
 abbrev pub roles_at : ℕ → List ℕ → Reads (List (List ℕ))
-roles_at least bytes = list_at least most_counted role_at bytes
+roles_at least bytes = list_at least MOST_COUNTED role_at bytes
 
 -- ---- the parts of an object
 
@@ -143,7 +144,7 @@ unfoldable pub int_at : List ℕ → Reads PropValue
 int_at bytes = number_at w64 bytes >>= λ n. Ok (Int (cast_signed w64 n.0), n.1)
 
 unfoldable pub lines_at : List ℕ → Reads PropValue
-lines_at bytes = list_at 0 1000 line_at bytes >>= λ lines. Ok (Lines lines.0, lines.1)
+lines_at bytes = list_at 0 MOST_LINES line_at bytes >>= λ lines. Ok (Lines lines.0, lines.1)
 
 -- behind a type that starts where so many bytes were left: `s`, `i` or `l`
 abbrev pub typed_at : ℕ → ℕ → List ℕ → Reads PropValue
@@ -183,7 +184,7 @@ and_name earlier c = c.name ∷ earlier
 
 unfoldable pub children_at : List ℕ → Reads (List Child)
 children_at bytes = do
-  n ← count_at 0 10000 bytes
+  n ← count_at 0 MOST_CHILDREN bytes
   items_at child_at and_name n.0 [] n.1
 
 unfoldable pub proxy_at : Version → List ℕ → Reads (List (List ℕ))
@@ -206,7 +207,7 @@ document_at version bytes = do
   Ok (part.Document source.0 proxy.0, proxy.1)
 
 unfoldable pub user_folder_at : List ℕ → Reads Part2
-user_folder_at bytes = list_at 0 1000 user_at bytes >>= λ users. Ok (part.UserFolder users.0, users.1)
+user_folder_at bytes = list_at 0 MOST_USERS user_at bytes >>= λ users. Ok (part.UserFolder users.0, users.1)
 
 abbrev pub part_at : Version → Kind → List ℕ → Reads Part2
 part_at version kind.Folder bytes = folder_at bytes
@@ -277,9 +278,9 @@ pub record Lists : Type 0 where
 
 unfoldable pub lists_at : Version → List ℕ → Reads Lists
 lists_at version bytes = do
-  settings ← list_at 0 most_counted (setting_at version) bytes
-  locals ← list_at 0 1000 local_at settings.1
-  properties ← list_at 0 100 (property_at version) locals.1
+  settings ← list_at 0 MOST_COUNTED (setting_at version) bytes
+  locals ← list_at 0 MOST_LOCALS local_at settings.1
+  properties ← list_at 0 MOST_PROPERTIES (property_at version) locals.1
   Ok (record { settings = settings.0; locals = locals.0; properties = properties.0 }, properties.1)
 
 abbrev pub object_of : Head → Lists → Part2 → Object

@@ -1,6 +1,6 @@
 ghost use Rattle.std.specs.Prelude.{IfOk, Ok};
 ghost use Rattle.zobject.specs.declared.object.Object.{Object};
-ghost use Rattle.zobject.specs.Rules.{most_counted};
+ghost use Rattle.zobject.specs.declared.limits.TheConstants.{MOST_COUNTED, MOST_LOCALS, MOST_PROPERTIES};
 ghost use Rattle.zcodec.specs.Reading.{Decodes, Gives, head_at, list_at, lists_at, local_at, names_at, object_at, property_at, read, setting_at, start_at, whole_at};
 ghost use Rattle.zcodec.specs.Record.{Spells};
 
@@ -11,13 +11,8 @@ use crate::rows::{LocalRow, PropertyRow, SettingRow};
 use crate::unread::Unread;
 use std::alloc::Global;
 use zbase::{Oid, Text};
+use zobject::limits::{MOST_COUNTED, MOST_LOCALS, MOST_PROPERTIES};
 use zobject::{CodecRefusal, Kind, Locals, Object, Properties, Rule, Settings, Version};
-
-/// The most users with local roles.
-const MOST_LOCALS: u16 = 1000;
-
-/// The most properties.
-const MOST_PROPERTIES: u16 = 100;
 
 #[derive(Clone, Copy)]
 struct Start {
@@ -80,13 +75,13 @@ fn head_of(alloc: Global, bytes: &[u8]) -> Result<(Start, Names, &[u8]), Unread>
 }
 
 fn settings_of(alloc: Global, version: Version, bytes: &[u8]) -> Result<(Settings, &[u8]), Unread>
-    ensures { Gives (λ x. (x.0, x.1.now)) result (list_at 0 most_counted (setting_at version) bytes.now) }
+    ensures { Gives (λ x. (x.0, x.1.now)) result (list_at 0 MOST_COUNTED (setting_at version) bytes.now) }
 {
-    list_of(alloc, &SettingRow { version }, 0, u16::MAX, bytes)
+    list_of(alloc, &SettingRow { version }, 0, MOST_COUNTED, bytes)
 }
 
 fn locals_of(alloc: Global, bytes: &[u8]) -> Result<(Locals, &[u8]), Unread>
-    ensures { Gives (λ x. (x.0, x.1.now)) result (list_at 0 1000 local_at bytes.now) }
+    ensures { Gives (λ x. (x.0, x.1.now)) result (list_at 0 MOST_LOCALS local_at bytes.now) }
 {
     list_of(alloc, &LocalRow, 0, MOST_LOCALS, bytes)
 }
@@ -96,7 +91,7 @@ fn properties_of(
     version: Version,
     bytes: &[u8],
 ) -> Result<(Properties, &[u8]), Unread>
-    ensures { Gives (λ x. (x.0, x.1.now)) result (list_at 0 100 (property_at version) bytes.now) }
+    ensures { Gives (λ x. (x.0, x.1.now)) result (list_at 0 MOST_PROPERTIES (property_at version) bytes.now) }
 {
     list_of(alloc, &PropertyRow { version }, 0, MOST_PROPERTIES, bytes)
 }

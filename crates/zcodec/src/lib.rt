@@ -6,7 +6,6 @@
 
 mod codec;
 mod fields;
-mod keys;
 mod laws;
 mod lists;
 mod parts;

@@ -1,10 +1,10 @@
-ghost use Rattle.std.specs.Prelude.{ℕ, List, Option, None, option_map};
+ghost use Rattle.std.specs.Prelude.{◌≡◌, [], ℕ, List, Option, None, IfOk, option_map};
 ghost use Rattle.zcodec.specs.Reading.{Gives, Reads, items_at, last_one, list_at};
 
 use crate::fields::count_of;
 use crate::unread::Unread;
 use std::alloc::Global;
-use zbase::Items;
+use zbase::{Items, Memory};
 
 /// How an item of a list is read, behind the last one.
 pub(crate) trait Row {
@@ -22,6 +22,14 @@ pub(crate) trait Row {
         ensures { Gives (λ x. (x.0, x.1.now)) result (next self.now (option_map (λ x. x.now) last.entry) bytes.now) };
 }
 
+/// An empty list, with room for so many items. Each item has at least one byte, so no count asks for more than there is.
+pub(crate) fn room_for<T: Drop>(alloc: Global, count: u16, bytes: &[u8]) -> Result<Items<T>, Memory>
+    ensures { IfOk result (λ items. items ≡ []) }
+{
+    let room = usize::from(count).min(bytes.len());
+    Ok(Items::from_vec(Vec::with_capacity(alloc, room)?))
+}
+
 /// So many items.
 pub(crate) fn items_of<'a, R: Row>(
     alloc: Global,
@@ -31,7 +39,7 @@ pub(crate) fn items_of<'a, R: Row>(
 ) -> Result<(Items<R::Item>, &'a [u8]), Unread>
     ensures { Gives (λ x. (x.0, x.1.now)) result (items_at (R.next row.now) last_one count None bytes.now) }
 {
-    let mut items = Items::new(alloc);
+    let mut items = room_for(alloc, count, bytes)?;
     let mut rest = bytes;
     for _ in 0..count {
         let (item, after) = row.read(alloc, items.as_slice().last(), rest)?;

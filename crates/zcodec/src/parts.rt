@@ -7,21 +7,16 @@ ghost use Rattle.zcodec.specs.Reading.{Gives, and_name, child_at, children_at, d
 ghost use Rattle.zcodec.specs.Given.{Knows, any_child_at};
 
 use crate::fields::{count_of, source_of, text_of, u64_of};
-use crate::keys::names_differ;
-use crate::lists::list_of;
+use crate::lists::{list_of, room_for};
 use crate::reading::proxy_of;
 use crate::rows::UserRow;
 use crate::unread::Unread;
+use name_keys::names_differ;
 use std::alloc::Global;
 use std::collections::BTreeSet;
-use zbase::{Items, Oid, Text};
+use zbase::{Oid, Text};
+use zobject::limits::{MOST_CHILDREN, MOST_USERS};
 use zobject::{Child, Children, Kind, Part2, Rule, Version};
-
-/// The most children that a folder lists.
-const MOST_CHILDREN: u16 = 10_000;
-
-/// The most users of a user folder.
-const MOST_USERS: u16 = 1000;
 
 /// The name of a child, which is none of the names, and which they then have.
 #[tactic(auto, unfolding(crate::specs::Reading::new_name_at))]
@@ -61,7 +56,7 @@ fn child_of<'a>(
 fn told_apart_of(alloc: Global, count: u16, bytes: &[u8]) -> Result<(Children, &[u8]), Unread>
     ensures { Gives (λ x. (x.0, x.1.now)) result (items_at child_at and_name count [] bytes.now) }
 {
-    let mut children = Items::new(alloc);
+    let mut children = room_for(alloc, count, bytes)?;
     let mut names = BTreeSet::new(alloc);
     let mut rest = bytes;
     for _ in 0..count {
@@ -103,7 +98,7 @@ fn any_children_of(
     ensures gives { Gives (λ x. (x.0, x.2.now)) result (items_at any_child_at last_one count None bytes.now) }
     ensures apart { IfOk result (λ x. IsTrue x.1 → IsDistinct (λ (c d : AChild). bytes_eq c.name d.name) x.0) }
 {
-    let mut children = Items::new(alloc);
+    let mut children = room_for(alloc, count, bytes)?;
     let mut rising = true;
     let mut rest = bytes;
     for _ in 0..count {

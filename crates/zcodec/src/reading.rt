@@ -6,10 +6,8 @@ use crate::rows::{LineRow, roles_of};
 use crate::unread::Unread;
 use std::alloc::Global;
 use zbase::{Items, Text};
+use zobject::limits::MOST_LINES;
 use zobject::{PropValue, Roles, Rule, Version};
-
-/// The most lines of a property.
-const MOST_LINES: u16 = 1000;
 
 #[tactic(auto, unfolding(crate::specs::Reading::one_line_at))]
 fn line_of(alloc: Global, bytes: &[u8]) -> Result<(PropValue, &[u8]), Unread>

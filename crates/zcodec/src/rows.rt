@@ -8,6 +8,7 @@ use crate::reading::value_of;
 use crate::unread::Unread;
 use std::alloc::Global;
 use zbase::Text;
+use zobject::limits::MOST_COUNTED;
 use zobject::{Local, Property, Roles, Rule, Setting, User, Version};
 
 /// A role, by bytes behind the last one.
@@ -97,7 +98,7 @@ pub(crate) fn roles_of<'a>(
 ) -> Result<(Roles, &'a [u8]), Unread>
     ensures { Gives (λ x. (x.0, x.1.now)) result (roles_at least bytes.now) }
 {
-    list_of(alloc, &RoleRow, least, u16::MAX, bytes)
+    list_of(alloc, &RoleRow, least, MOST_COUNTED, bytes)
 }
 
 /// The roles of a permission.

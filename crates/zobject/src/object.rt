@@ -1,3 +1,4 @@
+use name_keys::HasName;
 use zbase::{Items, Oid, Text, Texts};
 
 /// Names of roles, by bytes and each once.
@@ -69,6 +70,14 @@ pub struct Child {
     pub name: Text,
     /// Its id in the storage.
     pub oid: Oid,
+}
+
+impl HasName for Child {
+    ghost name_of = { λ child. child.name };
+
+    fn name_bytes(&self) -> &[u8] {
+        self.name.as_bytes()
+    }
 }
 
 /// The children of a folder, in the order in which they were added.

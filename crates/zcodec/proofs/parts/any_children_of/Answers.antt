@@ -10,12 +10,12 @@ use Rattle.zcodec.proofs.Told.{any_alike, fails_alike, named_alike, none_risen, 
 use Rattle.zcodec.proofs.parts.any_children_of.Goals as goal
 
 pub loop-init : goal.loop-init
-loop-init c = (rw c.new-children.ensures (starts any_child_at last_one _ c.args.count None c.args.bytes.now refl), λ _. none_risen c.new-children.result c.new-children.ensures)
+loop-init c = (rw c.in_ok-children.ensures (starts any_child_at last_one _ c.args.count None c.args.bytes.now refl), λ _. none_risen c.in_ok-children.children c.in_ok-children.ensures)
 
 pub returns-in_err-child-clause-gives : goal.returns-in_err-child-clause-gives
 returns-in_err-child-clause-gives c =
     let last = last_of c.loop.children in
-    let p = err_from_is_err_and c.from_residual.result c.from_residual.ensures.1 in
+    let p = err_from_is_err_and c.from_residual-in_err-child.result c.from_residual-in_err-child.ensures.1 in
     rw (p.1, p.2) (ends any_child_at last_one c.in_err-child.field-0.0 c.loop.children c.args.count c.loop.counter last c.loop.rest.now _ c.loop-test.true (fails_alike c.in_err-child.field-0.0 last c.loop.rest.now c.in_err-child.ensures) c.loop.invariant.0)
 
 pub loop-preserved : goal.loop-preserved
