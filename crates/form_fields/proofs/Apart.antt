@@ -1,21 +1,15 @@
 -- Rows of different names: each is a field of its own.
-use Rattle.std.proofs.Common.{◌≡◌, ◌∙◌, ℕ, Bool, true, false, not, List, [], ◌∷◌, filter, map, refl, ap, ap₂, nat_cmp}
+use Rattle.std.proofs.Common.{◌≡◌, ◌∙◌, ℕ, Bool, true, false, not, List, [], ◌∷◌, filter, map, refl, ap, ap₂}
 use Rattle.std.specs.Cmp.Lexicographic.{nat_list_eq_equiv}
 use Rattle.std.specs.List.{AllByRecursion, IsDistinct}
-use Rattle.std.specs.Ordering.{eq_by_cmp}
 use Rattle.std.specs.Str.{bytes_eq}
 use Rattle.std.proofs.lemmas.Bool.{true≢false}
-use Rattle.name_keys.specs.KeyLaws.{by_keys}
-use Rattle.name_keys.specs.Keys.{name_key}
 use Rattle.form_fields.specs.declared.field.Field.{Field}
 use Rattle.form_fields.specs.declared.rows.Row.{Row}
 use Rattle.form_fields.specs.Fields.{field_of, fields_by, names_of, rows_named, value_of}
 use Rattle.form_fields.specs.Grouping.{field_by}
 use Rattle.form_fields.proofs.Firsting.{has, has_first_names}
 use Rattle.form_fields.proofs.Grouped.{none_named, stay}
-
-pub row_names_differ : (rows : List Row) → IsDistinct (eq_by_cmp nat_cmp) (map (λ (r : Row). name_key r.name) rows) → IsDistinct (λ (r q : Row). bytes_eq r.name q.name) rows
-row_names_differ rows all = by_keys (λ (r : Row). r.name) rows all
 
 -- rows of other names lack the name
 lacks : (r : Row) (rows : List Row) → AllByRecursion (λ (q : Row). bytes_eq r.name q.name ≡ false) rows → has r.name (map (λ (q : Row). q.name) rows) ≡ false

@@ -1,7 +1,7 @@
 ghost use Rattle.std.specs.Prelude.{◌≡◌};
 ghost use Rattle.form_fields.specs.declared.field.FieldRefusal.TheVariants as refusals;
 
-use std::alloc::AllocFailed;
+use std::alloc::{AllocError, AllocFailed};
 use zbase::{Items, Memory, Text};
 
 /// One value of a field.
@@ -50,6 +50,14 @@ impl From<Memory> for FieldRefusal {
     ghost from_gives = { λ _ refusal. refusal ≡ refusals.Memory };
 
     fn from(_: Memory) -> FieldRefusal {
+        FieldRefusal::Memory
+    }
+}
+
+impl From<AllocError> for FieldRefusal {
+    ghost from_gives = { λ _ refusal. refusal ≡ refusals.Memory };
+
+    fn from(_: AllocError) -> FieldRefusal {
         FieldRefusal::Memory
     }
 }

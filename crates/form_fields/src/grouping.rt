@@ -3,10 +3,10 @@ ghost use Rattle.form_fields.specs.Firsts.{AreAt};
 ghost use Rattle.form_fields.specs.Fields.{fields_by};
 ghost use Rattle.form_fields.specs.Grouping as spec;
 
-use crate::keys::names_differ;
 use crate::places::{Places, place_of, put_name};
 use crate::rows::Row;
 use crate::{Field, FieldValue, Fields, Scalar};
+use name_keys::names_differ;
 use std::alloc::Global;
 use std::collections::BTreeMap;
 use std::mem;
@@ -104,7 +104,6 @@ fn each_alone(alloc: Global, rows: Vec<Row>) -> Result<Fields, Memory>
 }
 
 /// The fields of these rows: one for each name, in the order in which the names come first.
-#[tactic(auto, using(crate::proofs::Apart::apart_fields))]
 pub(crate) fn grouped(alloc: Global, rows: Vec<Row>) -> Result<Fields, Memory>
     ensures { IfOk result (λ fields. fields ≡ fields_by rows.items) }
 {

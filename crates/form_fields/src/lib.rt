@@ -9,7 +9,6 @@ mod cookie;
 mod field;
 mod grouping;
 mod headers;
-mod keys;
 mod names;
 mod numbers;
 mod pairs;

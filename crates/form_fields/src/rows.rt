@@ -7,6 +7,7 @@ use crate::names::{Named, named_by};
 use crate::numbers::whole_number;
 use crate::pairs::{Pair, Pairs};
 use crate::{FieldRefusal, Scalar};
+use name_keys::HasName;
 use std::alloc::Global;
 use zbase::Text;
 
@@ -16,6 +17,14 @@ pub(crate) struct Row {
     pub name: Text,
     pub is_list: bool,
     pub value: Scalar,
+}
+
+impl HasName for Row {
+    ghost name_of = { λ row. row.name };
+
+    fn name_bytes(&self) -> &[u8] {
+        self.name.as_bytes()
+    }
 }
 
 fn scalar_of(alloc: Global, named: &Named<'_>, text: Text) -> Result<Scalar, FieldRefusal>
@@ -50,7 +59,7 @@ pub(crate) fn rows_of(alloc: Global, pairs: Pairs) -> Result<Vec<Row>, FieldRefu
     ensures ok { IfOk result (λ rows. spec.rows_of (pair_views pairs) ≡ Ok rows.items) }
     ensures err { IfErr result (λ refusal. spec.Fails refusal (spec.rows_of (pair_views pairs))) }
 {
-    let mut rows = Vec::new(alloc);
+    let mut rows = Vec::with_capacity(alloc, pairs.len())?;
     for pair in pairs.into_vec() {
         rows.push(row_of(alloc, pair)?)?;
     }
