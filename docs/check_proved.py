@@ -2,7 +2,7 @@
 """Looks that what the documents name is there.
 
 Of every document: each file, module and link, and each name that stands behind a module; of ARCHITECTURE each file of a
-crate, of DEFINITIONS each module, of PROVED each function and clause; and the toolchain's line. Prints for each document
+crate, of DEFINITIONS each module, of PROVED each function and clause; and that all name one toolchain. Prints for each document
 how many names were looked up. Each that isn't found is printed with its line, and the status is then 1.
 """
 
@@ -182,14 +182,14 @@ def look_at_modules(document):
             document.look(number, f"{place}/{name}", place and name and exists(f"{place}/{name}", (), HOME) or word.endswith("/"))
 
 
-def look_at_toolchain(document):
-    """The toolchain's line is that of the toolchain that is here."""
-    found = re.findall(r"rattle-kit-\S+ logic \w+", document.path.read_text())
-    if not found or not shutil.which("rt"):
-        return
-    version = subprocess.run(["rt", "version"], capture_output=True, text=True, check=True).stdout.strip()
-    for line in found:
-        document.look(0, f"toolchain {line}, but {version}", line == version)
+def look_at_toolchains():
+    """Every document names one toolchain; whether it is the one that is here is told, and no fault of the documents."""
+    found = {line for path in DOCUMENTS for line in re.findall(r"rattle-kit-\S+ logic \w+", path.read_text())}
+    if shutil.which("rt"):
+        version = subprocess.run(["rt", "version"], capture_output=True, text=True, check=True).stdout.strip()
+        if found != {version}:
+            print(f"the documents name {', '.join(sorted(found))}; here is {version}")
+    return len(found) != 1
 
 
 def main():
@@ -201,10 +201,9 @@ def main():
         document.links()
         document.commands()
         by_name.get(path.name, lambda _: None)(document)
-        look_at_toolchain(document)
         print(f"{path.relative_to(HOME)}: {document.looked_up} names looked up, {document.lost} not found")
         lost += document.lost or not document.looked_up
-    return 1 if lost else 0
+    return 1 if look_at_toolchains() or lost else 0
 
 
 if __name__ == "__main__":
