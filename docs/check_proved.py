@@ -75,6 +75,12 @@ def near_in(line):
     return {word.split("/")[0] for word in words} & CRATES
 
 
+def headings_of(path):
+    """The names by which links lead to a document's headings."""
+    titles = re.findall(r"^#+ (.*)$", path.read_text(), re.M)
+    return {re.sub(r"[^\w -]", "", title).lower().replace(" ", "-") for title in titles}
+
+
 class Document:
     """A document, and what was looked up in it."""
 
@@ -111,10 +117,12 @@ class Document:
                         self.look(number, f"{word} in {module}", any(speaks_of(crate, module, word) for crate in crates))
 
     def links(self):
+        """What a link names, and the heading behind a #."""
         for number, line, _ in self.lines():
-            for target in re.findall(r"\]\(([^)#\s]+)[^)]*\)", line):
+            for target, heading in re.findall(r"\]\(([^)#\s]*)#?([^)\s]*)\)", line):
                 if "://" not in target:
-                    self.look(number, target, (self.path.parent / target).exists())
+                    path = self.path.parent / target if target else self.path
+                    self.look(number, f"{target}#{heading}", path.exists() and (not heading or heading in headings_of(path)))
 
     def commands(self):
         """What blocks of the shell name with a path, from the top or from the folder of a line `cd`."""
