@@ -7,6 +7,7 @@ use Rattle.std.specs.List.{list_any}
 use Rattle.zbase.specs.Query.{Query, Done, Stops, Asks, Halt, Need, Cause, ◌>>=◌}
 use Rattle.zobject.specs.Shapes.{child_in}
 use Rattle.zknown.specs.Seen.{Seen, Here, Absent, Unreadable, Shapes}
+use Rattle.acquisition.specs.declared.limits.TheConstants.{MOST_ON_PATH}
 use Rattle.acquisition.specs.declared.refusal.AqRefusal.{AqRefusal}
 use Rattle.acquisition.specs.declared.refusal.AqRefusal.TheVariants as refusal
 
@@ -31,9 +32,9 @@ upwards (suc n) path o = do
   object ← here o
   if nat_eq o 0 then Done (path ++ o ∷ []) else upwards n (path ++ o ∷ []) object.parent
 
--- the object and at most 64 containers, up to the root
+-- the object and its containers, up to the root: at most MOST_ON_PATH objects
 unfoldable pub containers : ℕ → Shapes Fault (List ℕ)
-containers o = upwards 65 [] o
+containers o = upwards MOST_ON_PATH [] o
 
 -- the object that the wrapper is about
 abbrev pub first : List ℕ → ℕ

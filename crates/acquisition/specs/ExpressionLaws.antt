@@ -6,6 +6,7 @@ use Rattle.zbase.specs.Query.{Done, Asks, Halt, ◌>>=◌, run, go_on, and_then}
 use Rattle.zbase.specs.QueryLaws.{run_then}
 use Rattle.zobject.specs.Shapes.{Shape, child_in}
 use Rattle.zknown.specs.Seen.{Seen, Here, Absent, Unreadable, Shapes}
+use Rattle.acquisition.specs.declared.limits.TheConstants.{MOST_ON_PATH}
 use Rattle.acquisition.specs.Acquiring.{Fault, IsOnce, present, or_search, searched, joined, put, has, upwards, containers, reached}
 use Rattle.acquisition.specs.Expressions.{Expr, Plain, Of, leaves, Stands, Contains, IsHere, looked}
 
@@ -275,7 +276,7 @@ module _ (k : ℕ → Option (Seen Shape)) where
 
   pub path_is : (o : ℕ) (path : List ℕ) → run k (containers o) ≡ Ok path → IsPath k o [] path
   unfolding containers
-  path_is o path e = path_up 65 [] o path e
+  path_is o path e = path_up MOST_ON_PATH [] o path e
 
   -- a path that was found leads through objects that are here, and stands for a containment
   pub record IsFound (o : ℕ) (path : List ℕ) : Type 0 where

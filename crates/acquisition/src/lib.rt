@@ -5,9 +5,11 @@
 
 mod join;
 mod laws;
+mod limits;
 mod refusal;
 mod wrapped;
 
 pub use laws::{containers_are_here, found_in_expressions, reached_stands};
+pub use limits::MOST_ON_PATH;
 pub use refusal::AqRefusal;
 pub use wrapped::{Wrapped, containers, here};

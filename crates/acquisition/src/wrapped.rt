@@ -7,15 +7,13 @@ ghost use Rattle.acquisition.specs.Acquiring as acquiring;
 ghost use Rattle.acquisition.specs.Acquiring.{IsOnce};
 
 use crate::join::{join, list_of};
+use crate::limits::MOST_ON_PATH;
 use crate::refusal::AqRefusal;
 use std::alloc::Global;
 use std::marker::Model;
 use zbase::{Items, Memory, Oid, Oids};
 use zknown::{Got, Known};
 use zobject::{Object, child_in};
-
-/// How many objects are asked for at most to come from an object to the root: it and 64 containers.
-const MOST_ON_PATH: usize = 65;
 
 /// An object, reached through others: the objects from left to right, each at its first place alone.
 ///

@@ -5,6 +5,7 @@ use Rattle.zbase.specs.Query.{Done, Halt, Cause, ◌>>=◌, run, go_on, Told}
 use Rattle.zbase.specs.QueryLaws.{run_goes, run_passes}
 use Rattle.zobject.specs.Shapes.{Shape}
 use Rattle.zknown.specs.Seen.{Seen, Here, Absent, Unreadable, Shapes}
+use Rattle.acquisition.specs.declared.limits.TheConstants.{MOST_ON_PATH}
 use Rattle.acquisition.specs.Acquiring as acquiring
 use Rattle.acquisition.specs.Acquiring.{Fault, TooDeep, here, present, upwards, containers}
 use Rattle.permissions.specs.declared.who.Who.{Who}
@@ -100,20 +101,20 @@ module _ (k : ℕ → Option (Seen Shape)) (permission : ℕ) where
 
   -- what was gone through says nothing, and the rest is still to be gone through
   abbrev pub Climbs : ℕ → ℕ → ℕ → Type 0
-  Climbs o n at = (path : List ℕ) × Unsaid path × (run k (upwards (65 - n) path at) ≡ run k (containers o))
+  Climbs o n at = (path : List ℕ) × Unsaid path × (run k (upwards (MOST_ON_PATH - n) path at) ≡ run k (containers o))
 
   -- nothing was gone through yet
   pub begins : (o : ℕ) → Climbs o 0 o
   unfolding containers
   begins o = ([], tt, refl)
 
-  module _ (o n at : ℕ) (few : n < 65) (so : Climbs o n at) where
+  module _ (o n at : ℕ) (few : n < MOST_ON_PATH) (so : Climbs o n at) where
     abbrev further : Shape → Shapes Fault (List ℕ)
-    further object = if nat_eq at 0 then Done (so.0 ++ at ∷ []) else upwards (65 - (n + 1)) (so.0 ++ at ∷ []) object.parent
+    further object = if nat_eq at 0 then Done (so.0 ++ at ∷ []) else upwards (MOST_ON_PATH - (n + 1)) (so.0 ++ at ∷ []) object.parent
 
     step : run k (here at >>= further) ≡ run k (containers o)
     unfolding upwards
-    step = let e : 65 - n ≡ suc (65 - (n + 1)) = omega arith in subst (λ m. run k (upwards m so.0 at) ≡ run k (containers o)) e so.2
+    step = let e : MOST_ON_PATH - n ≡ suc (MOST_ON_PATH - (n + 1)) = omega arith in subst (λ m. run k (upwards m so.0 at) ≡ run k (containers o)) e so.2
 
     pub stops_there : (halt : Option (Halt ℕ Fault)) → Told halt (run k (here at)) → (who : Who) → Told halt (run k (verdict_on who o permission))
     stops_there halt t = unfound o halt (subst (Told halt) step (run_passes k (here at) further halt t))
@@ -126,11 +127,11 @@ module _ (k : ℕ → Option (Seen Shape)) (permission : ℕ) where
       next = sym (run_goes k (here at) further object is) ∙ step
 
       pub arrives : true ≡ nat_eq at 0 → default_roles permission ≡ everyones ∷ managers ∷ [] → (who : Who) → run k (verdict_on who o permission) ≡ Ok (Granted everyones)
-      arrives t = unsaid_grants o (so.0 ++ at ∷ []) (sym next ∙ ap (λ b. run k (if b then Done (so.0 ++ at ∷ []) else upwards (65 - (n + 1)) (so.0 ++ at ∷ []) object.parent)) (sym t)) longer
+      arrives t = unsaid_grants o (so.0 ++ at ∷ []) (sym next ∙ ap (λ b. run k (if b then Done (so.0 ++ at ∷ []) else upwards (MOST_ON_PATH - (n + 1)) (so.0 ++ at ∷ []) object.parent)) (sym t)) longer
 
       pub climbs : false ≡ nat_eq at 0 → Climbs o (n + 1) object.parent
-      climbs t = (so.0 ++ at ∷ [], longer, ap (λ b. run k (if b then Done (so.0 ++ at ∷ []) else upwards (65 - (n + 1)) (so.0 ++ at ∷ []) object.parent)) t ∙ next)
+      climbs t = (so.0 ++ at ∷ [], longer, ap (λ b. run k (if b then Done (so.0 ++ at ∷ []) else upwards (MOST_ON_PATH - (n + 1)) (so.0 ++ at ∷ []) object.parent)) t ∙ next)
 
-  pub is_too_deep : (o n at : ℕ) → 65 ≤ n → Climbs o n at → (who : Who) → run k (verdict_on who o permission) ≡ Err (Cause TooDeep)
+  pub is_too_deep : (o n at : ℕ) → MOST_ON_PATH ≤ n → Climbs o n at → (who : Who) → run k (verdict_on who o permission) ≡ Err (Cause TooDeep)
   unfolding upwards
-  is_too_deep o n at many so = unfound o (Some (Cause TooDeep)) (let e : 65 - n ≡ 0 = omega arith in sym so.2 ∙ ap (λ m. run k (upwards m so.0 at)) e)
+  is_too_deep o n at many so = unfound o (Some (Cause TooDeep)) (let e : MOST_ON_PATH - n ≡ 0 = omega arith in sym so.2 ∙ ap (λ m. run k (upwards m so.0 at)) e)

@@ -10,6 +10,7 @@ use Rattle.zobject.specs.declared.object.Local.{Local}
 use Rattle.zknown.specs.Seen.{Shapes}
 use Rattle.acquisition.specs.Acquiring.{Fault, here}
 use Rattle.acquisition.specs.Acquiring as acquiring
+use Rattle.evaluator.specs.declared.permission.TheConstants.{ACCESS_CONTENTS_INFORMATION, VIEW}
 use Rattle.permissions.specs.declared.who.Who.{Who}
 use Rattle.permissions.specs.declared.who.Who.TheVariants.{Anonymous, Known}
 
@@ -20,7 +21,7 @@ Role = List ℕ
 
 -- `View` and `Access contents information` are everyone's, all others the managers'
 abbrev pub default_roles : ℕ → List Role
-default_roles permission = if (permission == 1) || (permission == 2) then codes "Anonymous" ∷ codes "Manager" ∷ [] else codes "Manager" ∷ []
+default_roles permission = if (permission == VIEW) || (permission == ACCESS_CONTENTS_INFORMATION) then codes "Anonymous" ∷ codes "Manager" ∷ [] else codes "Manager" ∷ []
 
 -- what an object says of a permission, if anything
 abbrev pub setting_of : ℕ → List Setting → Option Setting

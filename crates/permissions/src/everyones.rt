@@ -10,13 +10,11 @@ ghost use Rattle.permissions.specs.declared.who.Who.{Who as User};
 ghost use Rattle.permissions.specs.declared.who.Verdict.TheVariants as verdicts;
 
 use crate::roles::setting_of;
-use acquisition::{AqRefusal, here};
+use acquisition::{AqRefusal, MOST_ON_PATH, here};
+use evaluator::permission::{ACCESS_CONTENTS_INFORMATION, VIEW};
 use zbase::Oid;
 use zknown::Known;
 use zobject::Object;
-
-/// How many objects are asked for at most to come from an object to the root: it and 64 containers.
-const MOST_ON_PATH: usize = 65;
 
 // What one object tells of whether nothing on a path speaks of a permission: it isn't so where the object says something of
 // it, and it is so where the root says nothing; else nothing is told, and the container is asked.
@@ -69,7 +67,7 @@ pub(crate) fn is_everyones(
         → run (shapes known.now) (spec.verdict_on who oid permission) ≡ Ok (verdicts.Granted everyones)) }
     ensures stops { IfErr result (λ e. (who : User) → Told (acquiring.told e) (run (shapes known.now) (spec.verdict_on who oid permission))) }
 {
-    if permission == 1 || permission == 2 {
+    if permission == VIEW || permission == ACCESS_CONTENTS_INFORMATION {
         return is_unsaid(known, oid, object, permission);
     }
     Ok(false)

@@ -9,6 +9,7 @@ ghost use Rattle.permissions.specs.declared.who.Who.TheVariants as who;
 ghost use Rattle.permissions.specs.Roles as spec;
 
 use crate::who::Who;
+use evaluator::permission::{ACCESS_CONTENTS_INFORMATION, VIEW};
 use std::alloc::Global;
 use zbase::{Items, Memory, Oid, Text};
 use zknown::{Got, Known};
@@ -54,7 +55,7 @@ fn append(roles: &mut Roles, more: &[Text]) -> Result<(), Memory>
 pub(crate) fn copy_of(alloc: Global, roles: &[Text]) -> Result<Roles, Memory>
     ensures { IfOk result (λ copied. copied ≡ roles.now) }
 {
-    let mut copied = Items::new(alloc);
+    let mut copied = Items::from_vec(Vec::with_capacity(alloc, roles.len())?);
     append(&mut copied, roles)?;
     Ok(copied)
 }
@@ -70,7 +71,7 @@ fn append_word(alloc: Global, roles: &mut Roles, word: &str) -> Result<(), Memor
 fn append_default(alloc: Global, roles: &mut Roles, permission: u8) -> Result<(), Memory>
     ensures { OnOk result (roles.new ≡ roles.old ++ spec.default_roles permission) }
 {
-    if permission == 1 || permission == 2 {
+    if permission == VIEW || permission == ACCESS_CONTENTS_INFORMATION {
         append_word(alloc, roles, "Anonymous")?;
         append_word(alloc, roles, "Manager")?;
         return Ok(());

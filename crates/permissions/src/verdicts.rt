@@ -1,4 +1,4 @@
-ghost use Rattle.std.specs.Prelude.{◌≡◌, ◌<◌, [], length, get_or, IfOk, Ok, Some, if◌then◌else◌};
+ghost use Rattle.std.specs.Prelude.{◌≡◌, ◌<◌, [], length, get_or, IfOk, IfSome, Ok, Some, if◌then◌else◌};
 ghost use Rattle.std.specs.List.{AllByRecursion};
 ghost use Rattle.zbase.specs.Query.{run, Answers};
 ghost use Rattle.zobject.specs.Shapes.{shape_of};
@@ -40,7 +40,8 @@ fn is_before(roles: &[Text], best: Option<usize>, role: &Text) -> bool
 // The best place of this one and of those behind it.
 fn better(roles: &[Text], mine: &[Text], best: Option<usize>, place: usize) -> Option<usize>
     requires { place < length roles.now }
-    ensures { spec.at_place roles.now result ≡ spec.better_of mine.now (get_or roles.now place []) (spec.at_place roles.now best) }
+    ensures role { spec.at_place roles.now result ≡ spec.better_of mine.now (get_or roles.now place []) (spec.at_place roles.now best) }
+    ensures within { IfSome best (λ p. p < length roles.now) → IfSome result (λ p. p < length roles.now) }
 {
     let role = &roles[place];
     if is_among(mine, role) && !is_before(roles, best, role) {
@@ -52,7 +53,8 @@ fn better(roles: &[Text], mine: &[Text], best: Option<usize>, place: usize) -> O
 /// The place in `roles` of the role that is the least by bytes of those that are among `mine` too, if there is one. Takes
 /// no memory.
 pub fn allowed(roles: &Roles, mine: &Roles) -> Option<usize>
-    ensures { spec.at_place roles.now result ≡ spec.least_common mine.now roles.now }
+    ensures role { spec.at_place roles.now result ≡ spec.least_common mine.now roles.now }
+    ensures within { IfSome result (λ place. place < length roles.now) }
 {
     let roles = roles.as_slice();
     let mine = mine.as_slice();
