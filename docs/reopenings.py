@@ -184,17 +184,18 @@ def put_group(answers, content):
     print(f"again opened {last} {count}")
 
 
-def put_failing(title, content, script, seed, before):
+def put_failing(title, content, script, seed, before, before_seed=None):
     """Each call behind the one that fails anyway fails in turn: so many behind an opening of the file, 0 for none."""
     print(f"case {title}, seed {seed}")
     first = 0
     fixed = {}
     if before:
-        print(f"failing behind {before} {seed}")
+        before_seed = seed if before_seed is None else before_seed
+        print(f"failing behind {before} {before_seed}")
         opened = Disk(content, {})
         opening(opened, [])
         first = opened.calls + before
-        fixed = {first: (False, seed)}
+        fixed = {first: (False, before_seed)}
     print(f"failing each {seed}")
     put_disk("file", content)
     put_lines("script", script)
@@ -242,6 +243,12 @@ def main():
         put_failing("each device call behind a finish whose write failed fails in turn", TWO, ["open", VOTE, "finish", "load 1 9", *THEN], seed, 3)
         put_failing("each device call behind a finish whose sync failed fails in turn", TWO, ["open", VOTE, "finish", "load 1 9", *THEN], seed, 4)
         put_failing("each device call behind an abort whose cut failed fails in turn", TWO, ["open", VOTE, "abort", "load 1 9", *THEN], seed, 3)
+    # the first of these calls is the sync of the opening, and what it leaves decides the outcome
+    for before, part in ((3, "write"), (4, "sync")):
+        for before_seed in (1, 3):
+            for seed in (0, 1, 5):
+                title = f"each device call behind a finish whose {part} failed with seed {before_seed} fails in turn"
+                put_failing(title, TWO, ["open", VOTE, "finish", "load 1 9", "load 1 9", "last"], seed, before, before_seed)
     undone = put_plain("an undo, its redo and an undo of that point to the records that have the data", TWO, ["open", *UNDOS, "load 1 9", "load 1 10", "load 1 11", "last"])
     put_plain("a load of what was put back three times follows one back pointer", undone, ["open", "load 1 11"], 4)
     put_plain("a restore to none looks for nothing", TWO, ["open", "vote 3 9 restore 1 0 by bob", "finish"], 4)

@@ -9,9 +9,9 @@ and data/stops.cases of zope_cases.
 The reports are worked out by a small model of a run: the formats (`FORMATS.md`), what a disk in memory is left with by an
 armed entry and its seed (`stops.py`), the table of a worker's steps, and the device calls of a store:
 
-- An opening looks at the length, syncs, looks at the length again, and reads the magic, then of each transaction its head
-  and the whole of it, and at the end what is left: no byte, a rest of less than a head, or the head of a torn rest. A rest is
-  cut off, which is synced; of one that has a head the status is read before that.
+- An opening syncs, looks at the length twice, and reads the magic, then of each transaction its head and the whole of it, and
+  at the end what is left: no byte, a rest of less than a head, or the head of a torn rest. A rest is cut off, which is synced;
+  of one that has a head the status is read before that.
 - Loading an object reads the head of its newest record, and of each one before it up to the transaction that is asked for,
   and then that record's data. An object without a record takes no call.
 - A vote writes its record and syncs, a finish writes the status and syncs, an abort cuts the record off and syncs. A vote that
@@ -115,10 +115,9 @@ def transaction_at(content, place):
 
 def opening(disk):
     known = Known()
-    disk.read()
     disk.sync()
-    disk.read()
-    disk.read()
+    for _ in range(3):
+        disk.read()
     content = disk.content
     assert content[:4] == b"FS21"
     while True:
@@ -687,6 +686,21 @@ def four_workers():
     return table
 
 
+def undecided_openings(table, words):
+    """The first call of the opening behind a finish that failed is its sync: what that leaves decides the outcome."""
+    outcomes = set()
+    for call, part in ((3, "write"), (4, "sync")):
+        for first in (1, 3):
+            for then in (0, 1, 3, 5):
+                arms = [("fail", call, first), ("fail", 1, then)]
+                title = f"a finish whose {part} fails with seed {first}, and the sync of the opening behind it with seed {then}"
+                run = table.add(title, words.to_vote(0) + arms + steps(0, 2) + words.look(1) + words.look(2))
+                printed = b"".join(run.blocks)
+                assert b"unknown 0" in printed and b"diskfault 1" in printed and b"reply 2 read" in printed
+                outcomes.add((call, first, then, run.store.known.last() == T0 + 1))
+    assert {(3, 1, 0, False), (3, 1, 1, True), (4, 1, 0, False), (4, 1, 1, True)} <= outcomes
+
+
 def mixed(program):
     """Entries in a queue, votes of others, and ends."""
     words = Words(program)
@@ -708,6 +722,7 @@ def mixed(program):
         table.add(f"an undecided transaction is opened twice, seed {seed}", vote + [("fail", 2, seed), ("fail", 3, 0)] + steps(0, 1) + words.look(1) + words.look(2))
         table.add(f"an undecided transaction and a stop in its opening, seed {seed}", vote + [("fail", 1, seed), ("stop", 5, seed)] + steps(0, 1) + words.look(1) + words.look(2))
         table.add(f"two failures one behind the other, seed {seed}", words.to_vote(0) + [("fail", 1, seed), ("fail", 1, 1)] + steps(0, 1) + words.whole(words.write(1), 1) + words.whole(words.less(2), 2))
+    undecided_openings(table, words)
     table.add("an entry that is never reached", words.to_vote(0) + [("stop", 5, 0)] + steps(0, 2))
     table.add("an entry behind one that is never reached", [("fail", 1000, 0), ("stop", 1, 0)] + words.whole(words.write(0), 0) + words.look(0))
     table.add("an entry at the greatest number", [("stop", 2**64 - 1, 2**64 - 1)] + words.whole(words.write(0), 0))

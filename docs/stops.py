@@ -112,7 +112,6 @@ REST = transaction(9, b" ", b"eve", [record(3, 9, 0, len(TWO), b"lost")])[:60]
 
 def opening(disk, answers):
     try:
-        disk.read()
         disk.sync()
         disk.read()
         end, last, count = read_file(disk.content)

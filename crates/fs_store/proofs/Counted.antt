@@ -157,6 +157,7 @@ rows_counted t k w knows =
 -- what the store has then of the transaction that waited
 pub record Learnt (k k' : OpenFile) (w : Waiting) : Type 0 where
   pub numbers : (k'.end ≡ k.end + w.size) × (k'.last ≡ w.tid)
+  pub floor : k'.floor ≡ k.floor
   pub len : k'.len ≡ k.len
   pub next : (k'.next ≡ next_with k.next w.items) × (k'.next ≤ 2 ^ 64)
   pub count : k'.count ≡ min (k.count + 1) greatest_number
@@ -190,6 +191,7 @@ knows_counted t u k k' w knows stands writable size synced is learnt =
       within = omega (arith, end_counted t u k k' w knows size is learnt);
       file = subst (λ (f : Front). IsFile (file_at u k'.end) f) (sym front) (subst (λ (b : List ℕ). IsFile b (counted_front t k w)) (sym file) (file_counted t k w knows stands writable));
       last_is = learnt.numbers.1 ∙ sym (last_longer h x) ∙ sym (ap last history);
+      floor_is = learnt.floor ∙ knows.floor_is ∙ sym (ap (λ (g : History). g.floor) history);
       next_is = learnt.next.0 ∙ ap (λ (n : ℕ). next_with n w.items) knows.next_is ∙ sym (next_longer h (records_at t k.end) w.tid w.texts w.items) ∙ sym (ap next history);
       count_is = count_one (k'.count) k.count (length h.transactions) k.end (length (piece_of 99 k w)) learnt.count knows.count_is le writable.end (head_within (transaction k.end w.tid 99 w.texts w.items)) ∙ sym one_more ∙ sym (ap (λ (g : History). length g.transactions) history);
       newest = λ o.

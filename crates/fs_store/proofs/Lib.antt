@@ -5,6 +5,7 @@ pub mod Loadings
 pub mod MomentSteps
 pub mod PartSteps
 pub mod Files
+pub mod Fitting
 pub mod Images
 pub mod InOrder
 pub mod OpeningCosts

@@ -15,8 +15,8 @@ costs_begin (Some told) calls more le = record { blocks = []; begin = inl refl; 
 further : (bytes : List ℕ) (calls from now more : ℕ) → CostsScan bytes from now → from ≤ calls + 2 → more ≤ now + 5 → CostsOpening bytes calls more
 further bytes calls from now more c early late = record { blocks = c.blocks; begin = c.begin; within = omega (arith, c.within, early, late) }
 
--- behind the first sync the file was scanned
-pub costs_read : (old given synced : Option Told) (calls from now more : ℕ) → given ≡ old → Follows given synced Synced → IfSome synced (λ told. CostsScan (content told) from now) → from ≤ calls + 2 → more ≤ now + 5 → IfSome old (λ told. CostsOpening (content told) calls more)
-costs_read old given synced calls from now more same call costs early late =
+-- behind the sync the file was scanned
+pub costs_read : (old synced : Option Told) (calls from now more : ℕ) → Follows old synced Synced → IfSome synced (λ told. CostsScan (content told) from now) → from ≤ calls + 2 → more ≤ now + 5 → IfSome old (λ told. CostsOpening (content told) calls more)
+costs_read old synced calls from now more call costs early late =
     on_told old (λ told. CostsScan (content told) from now) (λ told. CostsOpening (content told) calls more) (λ told c. further (content told) calls from now more c early late)
-    (content_before (λ bytes. CostsScan bytes from now) old synced (subst (λ (d : Option Told). Follows d synced Synced) same call) costs)
+    (content_before (λ bytes. CostsScan bytes from now) old synced call costs)

@@ -14,7 +14,7 @@ use Rattle.fs_record.specs.Opening.{Cut, is_end, length_in, status_in}
 use Rattle.fs_record.specs.OpeningLaws.{one_cut}
 use Rattle.fs_store.specs.declared.opening.OpenRefusal.{OpenRefusal}
 use Rattle.fs_store.specs.Moments.{EachOpensTo, KeepsGiven, OpensTo}
-use Rattle.fs_store.specs.Opened.{CutOffFailed, CutsOff, LeavesDisk, Readies, Stays, StaysTorn, Synced, Tidies, TornStayed, waiting_from}
+use Rattle.fs_store.specs.Opened.{CutOffFailed, CutsOff, LeavesDisk, Readies, StaysTorn, Synced, Tidies, TornStayed, waiting_from}
 use Rattle.fs_store.specs.Stores.{most_length}
 use Rattle.fs_store.proofs.Counted.{set_behind}
 use Rattle.fs_store.proofs.Images.{opens_before, opens_rest, own_image, torn_is_end, torn_long, torn_off}
@@ -222,17 +222,17 @@ tidied_keeps o n end torn cut tidies h e each = go tidies.then
     go (inl s) = subst (Keeps (Says h e) o) (sym s.1) first
     go (inr s) = cut_keeps h e end o tidies.first n first (opened_first h e end o tidies.first each cut tidies.synced) s.1
 
-stays_keeps : (h : History) (e : ℕ) (o n : Option Told) → IfSome o (EachOpensTo h e) → Stays o n → Keeps (Says h e) o n
-stays_keeps h e o n each (inl same) = subst (Keeps (Says h e) o) (sym same) (begun (Says h e) o each)
-stays_keeps h e o n each (inr synced) = synced_step (Says h e) o o n (begun (Says h e) o each) synced
+synced_keeps : (h : History) (e : ℕ) (o n : Option Told) → IfSome o (EachOpensTo h e) → Follows o n Synced → Keeps (Says h e) o n
+synced_keeps h e o n each synced = synced_step (Says h e) o o n (begun (Says h e) o each) synced
 
 torn_keeps : (h : History) (e : ℕ) (o n : Option Told) → IfSome o (EachOpensTo h e) → TornStayed o n → Keeps (Says h e) o n
 torn_keeps h e o n each t = failed_keeps h e t.end o t.first n (synced_step (Says h e) o o t.first (begun (Says h e) o each) t.synced) (opened_first h e t.end o t.first each t.opens t.synced) t.failed
 
 pub refused_keeps : (o n : Option Told) (refusal : OpenRefusal) → LeavesDisk o n refusal → KeepsGiven o n
-refused_keeps o n (OpenRefusal.Damaged kind place) left h e each = stays_keeps h e o n each left
-refused_keeps o n OpenRefusal.Disk (inl left) h e each = stays_keeps h e o n each left
+refused_keeps o n (OpenRefusal.Damaged kind place) left h e each = synced_keeps h e o n each left
+refused_keeps o n OpenRefusal.Disk (inl synced) h e each = synced_keeps h e o n each synced
 refused_keeps o n OpenRefusal.Disk (inr (inl any)) h e each = unsynced_step (Says h e) o o n (begun (Says h e) o each) any
 refused_keeps o n OpenRefusal.Disk (inr (inr t)) h e each = torn_keeps h e o n each t
-refused_keeps o n (OpenRefusal.TooLong n_bytes) left h e each = stays_keeps h e o n each left
-refused_keeps o n OpenRefusal.Memory left h e each = stays_keeps h e o n each left
+refused_keeps o n (OpenRefusal.TooLong n_bytes) left h e each = synced_keeps h e o n each left
+refused_keeps o n OpenRefusal.Memory (inl same) h e each = subst (Keeps (Says h e) o) (sym same) (begun (Says h e) o each)
+refused_keeps o n OpenRefusal.Memory (inr synced) h e each = synced_keeps h e o n each synced

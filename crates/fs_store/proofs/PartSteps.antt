@@ -13,7 +13,7 @@ use Rattle.std.specs.Option.{option_map}
 use Rattle.zbase.specs.Values.{before, serial, transaction, upto, value}
 use Rattle.zbase.specs.HistoryLaws.{found_within}
 use Rattle.evaluator.specs.declared.fact.Part.{Part}
-use Rattle.evaluator.specs.Facts.{last_records, part_of, parts_of}
+use Rattle.evaluator.specs.Facts.{last_records, part_of, parts_of, unpacked_at}
 use Rattle.fs_scan.specs.declared.wholes.OidValue.{OidValue}
 use Rattle.fs_scan.specs.Wholes.{records_in}
 use Rattle.fs_store.specs.Parts.{records_of}
@@ -140,26 +140,31 @@ part_is h tid oid after v s positive value_is serial_is =
     let same = before_is_upto h tid positive in
     ap₂ (λ (v : Value) (s : ℕ). let p : Part = record { oid = oid; after = after; before = v; before_serial = s } in p) (value_is ∙ ap (λ (past : History). value past oid) same) (serial_is ∙ ap (λ (past : History). serial past oid) same)
 
-zero_by : (h : History) (found : Option Transaction) → IsHistory h → transaction h 0 ≡ found → found ≡ None
-zero_by h None good is = refl
-zero_by h (Some x) good is = absurd (omega (arith, found_tid h x 0 good is, found_positive h x 0 good is))
+not_found : (b : Bool) (f : Option Transaction) → f ≡ None → cond b f None ≡ None
+not_found true f none = none
+not_found false f none = refl
 
--- no transaction has the id 0
-pub transaction_zero : (h : History) → IsHistory h → transaction h 0 ≡ None
-transaction_zero h good = zero_by h (transaction h 0) good refl
+pub parts_none : (h : History) (tid at : ℕ) → transaction (upto h at) tid ≡ None → None ≡ option_map (parts_of (upto h at)) (unpacked_at (upto h at) tid)
+parts_none h tid at none = sym (ap (option_map (parts_of (upto h at))) (not_found (nat_lt h.floor tid) (transaction (upto h at) tid) none))
 
-pub parts_none : (h : History) (tid at : ℕ) → transaction (upto h at) tid ≡ None → None ≡ option_map (parts_of (upto h at)) (transaction (upto h at) tid)
-parts_none h tid at none = sym (ap (option_map (parts_of (upto h at))) none)
+-- a transaction up to the floor was packed
+pub parts_packed : (h : History) (tid at floor : ℕ) → floor ≡ h.floor → tid ≤ floor → None ≡ option_map (parts_of (upto h at)) (unpacked_at (upto h at) tid)
+parts_packed h tid at floor is le =
+    let below : nat_lt h.floor tid ≡ false = grind (arith, nat_tests) in
+    sym (ap (λ (b : Bool). option_map (parts_of (upto h at)) (cond b (transaction (upto h at) tid) None)) below)
 
 pub none_found : (f : Option Transaction) → None ≡ option_map records_of f → f ≡ None
 none_found None e = refl
 none_found (Some x) e = absurd cc
 
-pub parts_are : (h : History) (tid at : ℕ) (values shown : List OidValue) (parts : List Part) → IsHistory h → tid ≤ at → Some (records_in values) ≡ option_map records_of (transaction h tid) → shown ≡ values
-    → parts ≡ map (part_of (before h tid)) (last_records (records_in shown)) → Some parts ≡ option_map (parts_of (upto h at)) (transaction (upto h at) tid)
-parts_are h tid at values shown parts good le found same are = go (transaction h tid) refl found
+pub parts_are : (h : History) (tid at floor : ℕ) (values shown : List OidValue) (parts : List Part) → IsHistory h → floor ≡ h.floor → floor < tid → tid ≤ at → Some (records_in values) ≡ option_map records_of (transaction h tid) → shown ≡ values
+    → parts ≡ map (part_of (before h tid)) (last_records (records_in shown)) → Some parts ≡ option_map (parts_of (upto h at)) (unpacked_at (upto h at) tid)
+parts_are h tid at floor values shown parts good is_floor above le found same are = go (transaction h tid) refl found
   where
-    go : (f : Option Transaction) → transaction h tid ≡ f → Some (records_in values) ≡ option_map records_of f → Some parts ≡ option_map (parts_of (upto h at)) (transaction (upto h at) tid)
+    higher : nat_lt h.floor tid ≡ true
+    higher = grind (arith, nat_tests, is_floor, above)
+
+    go : (f : Option Transaction) → transaction h tid ≡ f → Some (records_in values) ≡ option_map records_of f → Some parts ≡ option_map (parts_of (upto h at)) (unpacked_at (upto h at) tid)
     go None is e = absurd cc
     go (Some x) is e =
         let said : records_in values ≡ x.records = cc in
@@ -169,4 +174,4 @@ parts_are h tid at values shown parts good le found same are = go (transaction h
         ∙ ap (λ (rs : List (ℕ × Value)). map (part_of (before h tid)) (last_records rs)) said
         ∙ ap (λ (t : ℕ). map (part_of (before h t)) (last_records x.records)) (sym own)
         ∙ sym (parts_within h x at (omega (arith, own, le))))
-        ∙ sym (ap (option_map (parts_of (upto h at))) (transaction_within h tid at le ∙ is))
+        ∙ sym (ap (λ (b : Bool). option_map (parts_of (upto h at)) (cond b (transaction (upto h at) tid) None)) higher ∙ ap (option_map (parts_of (upto h at))) (transaction_within h tid at le ∙ is))

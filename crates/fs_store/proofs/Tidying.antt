@@ -60,8 +60,18 @@ pub cut_not_synced : {T E : Type 0} (old readied between new : Option Told) (end
 cut_not_synced old readied between new end (Ok x) ready cut synced = tt
 cut_not_synced old readied between new end (Err e) ready cut synced = inr (inr (record { readied = readied; ready = ready; failed = not_synced (take end) readied between new cut synced }))
 
-pub synced_alone : (old given synced new : Option Told) (end torn : ℕ) → given ≡ old → Follows given synced Synced → new ≡ synced → torn ≡ 0 → Tidies old new end torn
-synced_alone old given synced new end torn same call still none = record { first = synced; synced = subst (λ (d : Option Told). Follows d synced Synced) same call; then = inl (none, still) }
+-- behind the sync nothing was changed
+pub synced_then : (old given synced after : Option Told) → given ≡ old → Follows given synced Synced → after ≡ synced → Follows old after Synced
+synced_then old given synced after same call still = subst (λ (d : Option Told). Follows old d Synced) (sym still) (subst (λ (d : Option Told). Follows d synced Synced) same call)
+
+pub synced_alone : (old synced new : Option Told) (end torn : ℕ) → Follows old synced Synced → new ≡ synced → torn ≡ 0 → Tidies old new end torn
+synced_alone old synced new end torn call still none = record { first = synced; synced = call; then = inl (none, still) }
+
+-- a refusal behind the sync
+pub left_synced : {U : Type 0} (old new : Option Told) (r : ScanRefusal) (result : Result U OpenRefusal) → Follows old new Synced → result ≡ Err (of_scan r) → IfErr result (LeavesDisk old new)
+left_synced old new (ScanRefusal.Damaged kind place) result call is = rw is call
+left_synced old new ScanRefusal.Disk result call is = rw is (inl call)
+left_synced old new ScanRefusal.Memory result call is = rw is (inr call)
 
 -- what is said of a file's content, said of the file before it was synced
 pub content_before : (P : List ℕ → Type 0) (old new : Option Told) → Follows old new Synced → IfSome new (λ told. P (content told)) → IfSome old (λ told. P (content told))
@@ -71,24 +81,23 @@ content_before P (Some o) None call p = absurd call
 content_before P (Some o) (Some t) call p = subst P (ap (λ (h : Held). h.now) call.0) p
 
 -- the refusal of the reading is the opening's
-pub refused_by : {T U : Type 0} (old given synced : Option Told) (len : ℕ) (r : ScanRefusal) (result : Result U OpenRefusal) → given ≡ old → Follows given synced Synced → IfSome old (λ told. len ≡ length (content told)) → len ≤ most_length → result ≡ Err (of_scan r)
+pub refused_by : {T U : Type 0} (old synced : Option Told) (len : ℕ) (r : ScanRefusal) (result : Result U OpenRefusal) → Follows old synced Synced → IfSome synced (λ told. len ≡ length (content told)) → len ≤ most_length → result ≡ Err (of_scan r)
     → ((kind : Kind) (place : ℕ) → IsErrOf {T = T} (Err r) (ScanRefusal.Damaged kind place) → IfSome synced (λ told. Damaged (content told) place kind)) → IfErr result (IsRefusedFor old)
-refused_by old given synced len (ScanRefusal.Damaged kind place) result same call long fits is damaged =
-    rw is (both old long (content_before (λ bytes. Damaged bytes place kind) old synced (subst (λ (d : Option Told). Follows d synced Synced) same call) (damaged kind place refl)))
+refused_by old synced len (ScanRefusal.Damaged kind place) result call long fits is damaged =
+    rw is (content_before (λ bytes. (length bytes ≤ most_length) × Damaged bytes place kind) old synced call (both synced long (damaged kind place refl)))
   where
     both : (d : Option Told) → IfSome d (λ told. len ≡ length (content told)) → IfSome d (λ told. Damaged (content told) place kind) → IfSome d (λ told. (length (content told) ≤ most_length) × Damaged (content told) place kind)
     both None l x = tt
     both (Some told) l x = (omega (arith, l, fits), x)
-refused_by old given synced len ScanRefusal.Disk result same call long fits is damaged = rw is tt
-refused_by old given synced len ScanRefusal.Memory result same call long fits is damaged = rw is tt
+refused_by old synced len ScanRefusal.Disk result call long fits is damaged = rw is tt
+refused_by old synced len ScanRefusal.Memory result call long fits is damaged = rw is tt
 
 -- ---- the rest stayed
 
 opens_before : (old synced : Option Told) (read : FileRead) → Follows old synced Synced → IfSome synced (λ told. Reads (content told) read) → IfSome old (λ told. (front : Front) × Cut (content told) front read.file.end)
 opens_before old synced read call reads = content_before (λ bytes. (front : Front) × Cut bytes front read.file.end) old synced call (on_told synced (λ told. Reads (content told) read) _ (λ told r. (r.front, r.cut)) reads)
 
-pub rest_stayed : {U : Type 0} (old given synced after new : Option Told) (read : FileRead) (result : Result U OpenRefusal) → given ≡ old → Follows given synced Synced → after ≡ synced → IfSome synced (λ told. Reads (content told) read) → CutOffFailed after new read.file.end → result ≡ Err OpenRefusal.Disk → IfErr result (LeavesDisk old new)
-rest_stayed old given synced after new read result same call still reads failed is =
-    let first = subst (λ (d : Option Told). Follows d synced Synced) same call in
-    let stayed : TornStayed old new = record { end = read.file.end; first = synced; synced = first; opens = opens_before old synced read first reads; failed = subst (λ (d : Option Told). CutOffFailed d new read.file.end) still failed } in
+pub rest_stayed : {U : Type 0} (old synced after new : Option Told) (read : FileRead) (result : Result U OpenRefusal) → Follows old synced Synced → after ≡ synced → IfSome synced (λ told. Reads (content told) read) → CutOffFailed after new read.file.end → result ≡ Err OpenRefusal.Disk → IfErr result (LeavesDisk old new)
+rest_stayed old synced after new read result call still reads failed is =
+    let stayed : TornStayed old new = record { end = read.file.end; first = synced; synced = call; opens = opens_before old synced read call reads; failed = subst (λ (d : Option Told). CutOffFailed d new read.file.end) still failed } in
     rw is (inr (inr stayed))

@@ -1,6 +1,6 @@
 -- A walk over the heads of a store's file: the transactions so far.
 use Rattle.std.proofs.Common.{◌≡◌, ℕ, ◌+◌, ◌<◌, ◌≤◌, ◌^◌, ◌==◌, Bool, true, false, cond, List, [], ◌∷◌, ◌++◌, map, filter, find, length, drop, Option, Some, None, refl, sym, ap, ap₂, subst, ◌∙◌, append_assoc, append-nil, arith, inl, inr}
-use Rattle.std.specs.Prelude.{◌⊎◌, nat_le}
+use Rattle.std.specs.Prelude.{◌⊎◌, ◌&&◌, nat_le, nat_lt}
 use Rattle.std.specs.List.{list_all}
 use Rattle.std.specs.Option.{option_map}
 use Rattle.std.proofs.lemmas.Bool.{false≢true}
@@ -10,7 +10,7 @@ use Rattle.zbase.specs.History.{Transaction}
 use Rattle.zbase.specs.Values.{last, transaction, upto}
 use Rattle.zbase.specs.declared.ids.Row.{Row}
 use Rattle.zdisk.specs.Disk.{Told, content}
-use Rattle.evaluator.specs.Facts.{log_row}
+use Rattle.evaluator.specs.Facts.{log_row, unpacked}
 use Rattle.evaluator.specs.declared.fact.LogRow.{LogRow}
 use Rattle.fs_record.specs.declared.damage.Damage.TheVariants.{BadTid, BadPrev, BadBack}
 use Rattle.fs_record.specs.declared.body.TxnTexts.{TxnTexts}
@@ -27,7 +27,7 @@ use Rattle.fs_scan.specs.Wholes.{records_in}
 use Rattle.fs_store.specs.declared.file.OpenFile.{OpenFile}
 use Rattle.fs_store.specs.Fronts.{file_at, history_at}
 use Rattle.fs_store.specs.Knowing.{Knows}
-use Rattle.fs_store.specs.Parts.{behind, counts_upto, is_with, records_of, row_of}
+use Rattle.fs_store.specs.Parts.{behind, is_logged, is_with, records_of, row_of}
 
 -- ---- the first of a file's blocks, which stand newest first
 
@@ -274,27 +274,37 @@ sought_here told known place tid head found s lt tells own gives =
 
 -- ---- the log
 
-abbrev pub rows_of : List Transaction → ℕ → List LogRow
-rows_of ts at = map log_row (filter (λ (x : Transaction). nat_le x.tid at) ts)
+abbrev between : List Transaction → ℕ → ℕ → List Transaction
+between ts floor at = filter (λ (x : Transaction). nat_lt floor x.tid) (filter (λ (x : Transaction). nat_le x.tid at) ts)
+
+abbrev pub rows_of : List Transaction → ℕ → ℕ → List LogRow
+rows_of ts floor at = map log_row (between ts floor at)
 
 pub record Logged (told : Told) (known : OpenFile) (place at : ℕ) (rows : List LogRow) : Type 0 where
   pub ts : List Transaction
   pub walked : WalkedTo told known place ts
-  pub rows_are : rows ≡ rows_of ts at
+  pub rows_are : rows ≡ rows_of ts known.floor at
 
 pub logged_none : (told : Told) (known : OpenFile) (at : ℕ) (rows : List LogRow) → Knows told known → rows ≡ [] → Logged told known 4 at rows
 logged_none told known at rows k none = record { ts = []; walked = walked_none told known k; rows_are = none }
 
-rows_more : (ts : List Transaction) (x : Transaction) (at : ℕ) → rows_of (ts ++ x ∷ []) at ≡ rows_of ts at ++ rows_of (x ∷ []) at
-rows_more ts x at = ap (map log_row) (filter-append (λ (y : Transaction). nat_le y.tid at) ts (x ∷ [])) ∙ map-append log_row (filter (λ (y : Transaction). nat_le y.tid at) ts) (filter (λ (y : Transaction). nat_le y.tid at) (x ∷ []))
+between_more : (ts : List Transaction) (x : Transaction) (floor at : ℕ) → between (ts ++ x ∷ []) floor at ≡ between ts floor at ++ between (x ∷ []) floor at
+between_more ts x floor at =
+    ap (λ (zs : List Transaction). filter (λ (y : Transaction). nat_lt floor y.tid) zs) (filter-append (λ (y : Transaction). nat_le y.tid at) ts (x ∷ []))
+    ∙ filter-append (λ (y : Transaction). nat_lt floor y.tid) (filter (λ (y : Transaction). nat_le y.tid at) ts) (filter (λ (y : Transaction). nat_le y.tid at) (x ∷ []))
 
-one_row : (x : Transaction) (b : Bool) → cond b (log_row x ∷ []) [] ≡ map log_row (cond b (x ∷ []) [])
-one_row x true = refl
-one_row x false = refl
+rows_more : (ts : List Transaction) (x : Transaction) (floor at : ℕ) → rows_of (ts ++ x ∷ []) floor at ≡ rows_of ts floor at ++ rows_of (x ∷ []) floor at
+rows_more ts x floor at = ap (map log_row) (between_more ts x floor at) ∙ map-append log_row (between ts floor at) (between (x ∷ []) floor at)
+
+one_row : (x : Transaction) (floor : ℕ) (b c : Bool) → nat_lt floor x.tid ≡ c → cond (c && b) (log_row x ∷ []) [] ≡ map log_row (filter (λ (y : Transaction). nat_lt floor y.tid) (cond b (x ∷ []) []))
+one_row x floor true true e = sym (ap (λ (c : Bool). map log_row (cond c (x ∷ []) [])) e)
+one_row x floor true false e = sym (ap (λ (c : Bool). map log_row (cond c (x ∷ []) [])) e)
+one_row x floor false true e = refl
+one_row x floor false false e = refl
 
 -- what is said of the rows behind a transaction
-abbrev pub AddsRow : Told → ℕ → TxnHead → ℕ → List LogRow → List LogRow → Type 0
-AddsRow told place head at old new = (b : Block) (more : List ℕ) → Stands b (drop place (content told)) more → head ≡ txn_head_of b → new ≡ old ++ cond (counts_upto at head) (row_of b ∷ []) []
+abbrev pub AddsRow : Told → ℕ → TxnHead → ℕ → ℕ → List LogRow → List LogRow → Type 0
+AddsRow told place head floor at old new = (b : Block) (more : List ℕ) → Stands b (drop place (content told)) more → head ≡ txn_head_of b → new ≡ old ++ cond (is_logged floor at head) (row_of b ∷ []) []
 
 pub adds_none : (rows : List LogRow) (u : Bool) (r : LogRow) → u ≡ false → rows ≡ rows ++ cond u (r ∷ []) []
 adds_none rows u r e = rw e (sym (append-nil rows))
@@ -310,21 +320,21 @@ the_row b head texts is e =
 pub no_texts : {X : Type 0} (b : Block) → None ≡ Some b.texts → X
 no_texts b e = absurd cc
 
-pub logged_more : (told : Told) (known : OpenFile) (place at next : ℕ) (rows more : List LogRow) (head : TxnHead) → known.end < 2 ^ 64 → Logged told known place at rows → place < known.end → Tells told place (Some head) → AddsRow told place head at rows more → next ≡ behind place head → Logged told known next at more
+pub logged_more : (told : Told) (known : OpenFile) (place at next : ℕ) (rows more : List LogRow) (head : TxnHead) → known.end < 2 ^ 64 → Logged told known place at rows → place < known.end → Tells told place (Some head) → AddsRow told place head known.floor at rows more → next ≡ behind place head → Logged told known next at more
 logged_more told known place at next rows more head lt64 l lt tells adds is =
     let n = next_is told known place l.ts l.walked lt in
     let b = n.1 in
     let there = stands told known place l.ts n.0 b n.2 in
     let h : head ≡ txn_head_of b = head_is b head (tells b (rest told known place l.ts n.0 b n.2) there) in
     let to : next ≡ place + (long_of b + 8) = is ∙ next_place told known place b head lt64 (ends told known place l.ts n.0 b n.2) h in
-    let added : more ≡ rows ++ cond (counts_upto at (txn_head_of b)) (row_of b ∷ []) [] = adds b (rest told known place l.ts n.0 b n.2) there h ∙ ap (λ (g : TxnHead). rows ++ cond (counts_upto at g) (row_of b ∷ []) []) h in
+    let added : more ≡ rows ++ cond (is_logged known.floor at (txn_head_of b)) (row_of b ∷ []) [] = adds b (rest told known place l.ts n.0 b n.2) there h ∙ ap (λ (g : TxnHead). rows ++ cond (is_logged known.floor at g) (row_of b ∷ []) []) h in
     go n.0 b n.2 to added (b.status == 117) refl
   where
-    go : (later : List Block) (b : Block) (n : NextIs told known place l.ts later b) → next ≡ place + (long_of b + 8) → more ≡ rows ++ cond (counts_upto at (txn_head_of b)) (row_of b ∷ []) [] → (t : Bool) → (b.status == 117) ≡ t → Logged told known next at more
+    go : (later : List Block) (b : Block) (n : NextIs told known place l.ts later b) → next ≡ place + (long_of b + 8) → more ≡ rows ++ cond (is_logged known.floor at (txn_head_of b)) (row_of b ∷ []) [] → (t : Bool) → (b.status == 117) ≡ t → Logged told known next at more
     go later b n to added true undone = record {
       ts = l.ts;
       walked = walked_on told known place l.ts later b n next l.ts to (skipped_said (front_of n.gone) b b.inside (rights told known place l.ts later b n).0.fits.inside undone ∙ n.said);
-      rows_are = added ∙ ap (λ (u : Bool). rows ++ cond (cond u false (nat_le b.tid at)) (row_of b ∷ []) []) undone ∙ append-nil rows ∙ l.rows_are;
+      rows_are = added ∙ ap (λ (u : Bool). rows ++ cond (cond u false (nat_lt known.floor b.tid && nat_le b.tid at)) (row_of b ∷ []) []) undone ∙ append-nil rows ∙ l.rows_are;
     }
     go later b n to added false counted =
         let c = counted_said (front_of n.gone) b b.inside (rights told known place l.ts later b n).0.fits.inside counted in
@@ -332,8 +342,9 @@ logged_more told known place at next rows more head lt64 l lt tells adds is =
         record {
           ts = l.ts ++ x ∷ [];
           walked = walked_on told known place l.ts later b n next (l.ts ++ x ∷ []) to (c.2 ∙ ap (λ (z : List Transaction). z ++ x ∷ []) n.said);
-          rows_are = added ∙ ap (λ (u : Bool). rows ++ cond (cond u false (nat_le b.tid at)) (row_of b ∷ []) []) counted ∙ ap₂ (λ (p q : List LogRow). p ++ q) l.rows_are (one_row x (nat_le b.tid at)) ∙ sym (rows_more l.ts x at);
+          rows_are = added ∙ ap (λ (u : Bool). rows ++ cond (cond u false (nat_lt known.floor b.tid && nat_le b.tid at)) (row_of b ∷ []) []) counted ∙ ap₂ (λ (p q : List LogRow). p ++ q) l.rows_are (one_row x known.floor (nat_le b.tid at) (nat_lt known.floor b.tid) refl) ∙ sym (rows_more l.ts x known.floor at);
         }
 
-pub logged_all : (told : Told) (known : OpenFile) (place at : ℕ) (rows : List LogRow) → Logged told known place at rows → known.end ≤ place → rows ≡ map log_row (upto (history_at told known.end) at).transactions
-logged_all told known place at rows l le = l.rows_are ∙ ap (λ (ts : List Transaction). rows_of ts at) (sym (walked_all told known place l.ts l.walked le))
+pub logged_all : (told : Told) (known : OpenFile) (place at : ℕ) (rows : List LogRow) → Knows told known → Logged told known place at rows → known.end ≤ place → rows ≡ map log_row (unpacked (upto (history_at told known.end) at))
+logged_all told known place at rows k l le =
+    l.rows_are ∙ ap (λ (ts : List Transaction). rows_of ts known.floor at) (sym (walked_all told known place l.ts l.walked le)) ∙ ap (λ (n : ℕ). rows_of (history_at told known.end).transactions n at) k.floor_is

@@ -20,6 +20,7 @@ pub record Reads (bytes : List ℕ) (read : FileRead) : Type 0 where
   pub cut : Cut bytes front read.file.end
   pub rest : read.file.end + read.torn ≡ length bytes
   pub last_is : read.file.last ≡ last front.history
+  pub floor_is : read.file.floor ≡ front.history.floor
   pub next_is : read.file.next ≡ next front.history
   pub count_is : read.file.count ≡ length front.history.transactions
   pub newest : (o : ℕ) → place_in (place_of read.file.index o) ≡ last_place o 0 (rows front.records)

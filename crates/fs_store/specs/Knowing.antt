@@ -15,6 +15,7 @@ pub record Knows (told : Told) (known : OpenFile) : Type 0 where
   pub within : known.end ≤ length (content told)
   pub file : IsFile (file_at told known.end) (front_at told known.end)
   pub last_is : known.last ≡ last (history_at told known.end)
+  pub floor_is : known.floor ≡ (history_at told known.end).floor
   pub next_is : known.next ≡ next (history_at told known.end)
   pub count_is : known.count ≡ length (history_at told known.end).transactions
   pub newest : (o : ℕ) → place_in (place_of known.index o) ≡ last_place o 0 (rows (records_at told known.end))

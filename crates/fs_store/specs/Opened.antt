@@ -61,7 +61,7 @@ pub record Tidies (old new : Option Told) (end torn : ℕ) : Type 0 where
 
 -- ---- what it costs
 
--- What it may cost to open the bytes: a scan, and seven calls. The length is looked at, and the file synced; the status of a
+-- What it may cost to open the bytes: a scan, and seven calls. The file is synced, and its length looked at; the status of a
 -- torn rest is read and set, and the file cut, and each of both synced.
 abbrev pub CostsOpening : List ℕ → ℕ → ℕ → Type 0
 CostsOpening bytes calls more = CostsScan bytes (calls + 7) more
@@ -130,11 +130,11 @@ pub record TornStayed (old new : Option Told) : Type 0 where
   pub opens : IfSome old (λ told. (front : Front) × Cut (content told) front end)
   pub failed : CutOffFailed first new end
 
--- nothing was changed, but that the file may be synced
-abbrev pub Stays : Option Told → Option Told → Type 0
-Stays old new = (new ≡ old) ⊎ Follows old new Synced
-
--- how a refused opening leaves the disk: as it was, but for what a call leaves that failed
+-- How a refused opening leaves the disk. The sync comes first, before the length is looked at and anything is read: so the
+-- file is as it was, but synced, or that sync failed, or a call that cuts the torn rest off. Only memory may have been
+-- wanting before the first call.
 abbrev pub LeavesDisk : Option Told → Option Told → OpenRefusal → Type 0
-LeavesDisk old new OpenRefusal.Disk = Stays old new ⊎ (Follows old new AnyImage ⊎ TornStayed old new)
-LeavesDisk old new _ = Stays old new
+LeavesDisk old new (OpenRefusal.Damaged kind place) = Follows old new Synced
+LeavesDisk old new OpenRefusal.Disk = Follows old new Synced ⊎ (Follows old new AnyImage ⊎ TornStayed old new)
+LeavesDisk old new (OpenRefusal.TooLong n) = Follows old new Synced
+LeavesDisk old new OpenRefusal.Memory = (new ≡ old) ⊎ Follows old new Synced

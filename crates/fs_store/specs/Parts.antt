@@ -2,7 +2,7 @@
 --
 -- FileStorage format notes: a transaction's length is written in its head and once more, in eight bytes, at its end. One
 -- undone in the old manner, of status `u`, doesn't count.
-use Rattle.std.specs.Prelude.{ℕ, ◌+◌, Bool, false, ◌==◌, List, min, nat_le, if◌then◌else◌}
+use Rattle.std.specs.Prelude.{ℕ, ◌+◌, Bool, false, ◌==◌, ◌&&◌, List, min, nat_le, nat_lt, if◌then◌else◌}
 use Rattle.zbase.specs.History.{Transaction, Value}
 use Rattle.zbase.specs.Limits.{greatest_number}
 use Rattle.evaluator.specs.declared.fact.LogRow.{LogRow}
@@ -17,9 +17,9 @@ behind place head = min (min (place + head.length) greatest_number + 8) greatest
 abbrev pub is_with : ℕ → TxnHead → Bool
 is_with tid head = if head.status == 117 then false else (head.tid == tid)
 
--- it counts, and is one up to this id
-abbrev pub counts_upto : ℕ → TxnHead → Bool
-counts_upto at head = if head.status == 117 then false else nat_le head.tid at
+-- it counts, and is one above the floor and up to this id
+abbrev pub is_logged : ℕ → ℕ → TxnHead → Bool
+is_logged floor at head = if head.status == 117 then false else (nat_lt floor head.tid && nat_le head.tid at)
 
 -- its row in the log
 abbrev pub row_of : Block → LogRow

@@ -12,6 +12,8 @@ pub(crate) struct OpenFile {
     pub(crate) len: u64,
     /// The id of the last transaction, 0 where there is none.
     pub(crate) last: Tid,
+    /// Up to this transaction the file was packed, 0 where nothing was.
+    pub(crate) floor: Tid,
     /// One more than the greatest object id, 0 where there is no record. It may be one more than a `u64` holds.
     pub(crate) next: u128,
     /// How many transactions there are.

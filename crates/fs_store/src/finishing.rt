@@ -90,6 +90,7 @@ impl OpenFile {
         requires waits { Knowable self.old waiting.now }
         ensures numbers { (self.new.end ≡ self.old.end + waiting.now.size) × (self.new.last ≡ waiting.now.tid) }
         ensures next { (self.new.next ≡ next_with self.old.next waiting.now.items) × (self.new.next ≤ 2 ^ 64) }
+        ensures floor { self.new.floor ≡ self.old.floor }
         ensures len { self.new.len ≡ self.old.len }
         ensures count { self.new.count ≡ min (self.old.count + 1) greatest_number }
         ensures index { (o : ℕ) → place_in (place_of self.new.index o)

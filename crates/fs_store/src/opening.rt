@@ -118,9 +118,9 @@ fn read_file<D: Disk>(alloc: Global, disk: &mut D) -> Result<FileRead, ScanRefus
         torn,
         greatest,
         last,
+        floor,
         count,
         rows,
-        ..
     } = scan(alloc, disk)?;
     let index = index_of(alloc, rows.as_slice())?;
     let next = above(greatest);
@@ -130,6 +130,7 @@ fn read_file<D: Disk>(alloc: Global, disk: &mut D) -> Result<FileRead, ScanRefus
             end,
             len: end,
             last,
+            floor,
             next,
             count,
         },
@@ -186,8 +187,8 @@ fn cut_off<D: Disk>(disk: &mut D, end: u64, torn: u64) -> Result<(), Failed>
     disk.sync()
 }
 
-/// Opens the disk's file: syncs it, reads it, and cuts off what stands behind its end. A stop at any moment leaves a file
-/// that opens to the same history.
+/// Opens the disk's file: syncs it before anything else is asked of it, reads it, and cuts off what stands behind its end. A
+/// stop at any moment leaves a file that opens to the same history.
 pub(crate) fn open_file<D: Disk>(alloc: Global, disk: &mut D) -> Result<FileRead, OpenRefusal>
     ensures reads { IfOk result (λ read. IfSome (D.told disk.old) (λ told. (length (content told) ≤ most_length) × Reads (content told) read)) }
     ensures bound { IfOk result (λ read. read.file.next ≤ 2 ^ 64) }
@@ -198,12 +199,12 @@ pub(crate) fn open_file<D: Disk>(alloc: Global, disk: &mut D) -> Result<FileRead
     ensures costs { IfSome (D.told disk.old) (λ told. CostsOpening (content told) (D.counter disk.old).calls (D.counter disk.new).calls) }
     ensures counts { Counts (D.counter disk.old) (D.counter disk.new) (IsErrOf result OpenRefusal.Disk) }
 {
+    disk.reserve(5, 1)?;
+    disk.sync()?;
     let len = disk.len()?;
     if len > MAX_LENGTH {
         return Err(OpenRefusal::TooLong(len));
     }
-    disk.reserve(5, 1)?;
-    disk.sync()?;
     let read = read_file(alloc, disk)?;
     if read.torn == 0 {
         return Ok(read);

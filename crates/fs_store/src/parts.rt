@@ -2,14 +2,14 @@ ghost use Rattle.std.specs.Prelude.{◌≡◌, ◌++◌, ◌∷◌, ◌<◌, [],
 ghost use Rattle.std.specs.Option.{ForSome, option_map};
 ghost use Rattle.zbase.specs.Values.{before, transaction, upto};
 ghost use Rattle.zdisk.specs.Disk.{content};
-ghost use Rattle.evaluator.specs.Facts.{last_records, log_row, part_of, parts_of};
+ghost use Rattle.evaluator.specs.Facts.{last_records, log_row, part_of, parts_of, unpacked, unpacked_at};
 ghost use Rattle.fs_record.specs.Opening.{Stands};
 ghost use Rattle.fs_record.specs.Spelling.{Block, txn_head_of};
 ghost use Rattle.fs_scan.specs.OnlyReads.{OnlyReads};
 ghost use Rattle.fs_scan.specs.Wholes.{records_in};
 ghost use Rattle.fs_store.specs.Fronts.{history_at};
 ghost use Rattle.fs_store.specs.Knowing.{IsKnown};
-ghost use Rattle.fs_store.specs.Parts.{behind, counts_upto, is_with, records_of, row_of};
+ghost use Rattle.fs_store.specs.Parts.{behind, is_logged, is_with, records_of, row_of};
 
 use crate::file::OpenFile;
 use crate::{LoadRefusal, Loaded};
@@ -50,14 +50,21 @@ fn is_with(head: &TxnHead, tid: u64) -> bool
     head.tid.0 == tid
 }
 
-// Whether the transaction counts and is one up to that id.
-fn counts_upto(head: &TxnHead, at: u64) -> bool
-    ensures { result ≡ counts_upto at head.now }
+// The transactions that a log shows: those above the floor and up to one.
+#[derive(Drop)]
+struct Span {
+    floor: Tid,
+    at: Tid,
+}
+
+// Whether the transaction counts and is one of the span.
+fn is_logged(head: &TxnHead, span: &Span) -> bool
+    ensures { result ≡ is_logged span.now.floor span.now.at head.now }
 {
     if head.status == STATUS_UNDONE {
         return false;
     }
-    head.tid.0 <= at
+    span.floor.0 < head.tid.0 && head.tid.0 <= span.at.0
 }
 
 impl OpenFile {
@@ -132,7 +139,7 @@ impl OpenFile {
             (λ told. parts ≡ map (part_of (before (history_at told self.now.end) tid)) (last_records (records_in values.now)))) }
         ensures only_reads { OnlyReads D.Disk disk.old disk.new (IsErrOf result LoadRefusal.Disk) }
     {
-        let mut parts = Vec::new(alloc);
+        let mut parts = Vec::with_capacity(alloc, values.len())?;
         let mut seen = BTreeSet::new(alloc);
         let mut left = values.len();
         while left > 0 {
@@ -146,8 +153,8 @@ impl OpenFile {
         Ok(Parts::from_vec(parts))
     }
 
-    /// What the transaction with this id did, where there is one up to another. Of the file's other transactions no value is
-    /// read, but those that the parts say.
+    /// What the transaction with this id did, where there is one above the floor and up to another. Of the file's other
+    /// transactions no value is read, but those that the parts say.
     pub(crate) fn transaction<D: Disk>(
         &self,
         alloc: Global,
@@ -157,14 +164,13 @@ impl OpenFile {
     ) -> Result<Option<Parts>, LoadRefusal>
         requires { IsKnown (D.told disk.old) self.now }
         ensures parts { IfOk result (λ parts. IfSome (D.told disk.old)
-            (λ told. parts ≡ option_map (parts_of (upto (history_at told self.now.end) at)) (transaction (upto (history_at told self.now.end) at) tid))) }
+            (λ told. parts ≡ option_map (parts_of (upto (history_at told self.now.end) at)) (unpacked_at (upto (history_at told self.now.end) at) tid))) }
         ensures only_reads { OnlyReads D.Disk disk.old disk.new (IsErrOf result LoadRefusal.Disk) }
     {
         if at < tid {
             return Ok(None);
         }
-        // no transaction has the id 0
-        if tid == 0 {
+        if tid <= self.floor.0 {
             return Ok(None);
         }
         match self.values_with(alloc, disk, tid)? {
@@ -174,23 +180,23 @@ impl OpenFile {
     }
 }
 
-// Adds the row of the transaction with this head at a place, where it counts up to that one.
+// Adds the row of the transaction with this head at a place, where it counts and is one of the span.
 fn add_row<D: Disk>(
     alloc: Global,
     disk: &mut D,
     len: u64,
     place: u64,
     head: &TxnHead,
-    at: u64,
+    span: &Span,
     rows: &mut LogRows,
 ) -> Result<(), LoadRefusal>
     requires { ForSome (D.told disk.old) (λ told. len ≡ length (content told)) }
     ensures added { OnOk result (IfSome (D.told disk.old)
         (λ told. (b : Block) (more : List ℕ) → Stands b (drop place (content told)) more → head.now ≡ txn_head_of b
-        → rows.new ≡ rows.old ++ (if counts_upto at head.now then row_of b ∷ [] else []))) }
+        → rows.new ≡ rows.old ++ (if is_logged span.now.floor span.now.at head.now then row_of b ∷ [] else []))) }
     ensures only_reads { OnlyReads D.Disk disk.old disk.new (IsErrOf result LoadRefusal.Disk) }
 {
-    if !counts_upto(head, at) {
+    if !is_logged(head, span) {
         return Ok(());
     }
     let Some(texts) = texts_at(alloc, disk, len, place, head)? else {
@@ -211,17 +217,21 @@ fn add_row<D: Disk>(
 }
 
 impl OpenFile {
-    /// The log of the transactions up to one, by their heads and texts: no value is read for it.
+    /// The log of the transactions above the floor and up to one, by their heads and texts: no value is read for it.
     pub(crate) fn log<D: Disk>(
         &self,
         alloc: Global,
         disk: &mut D,
-        at: u64,
+        at: Tid,
     ) -> Result<LogRows, LoadRefusal>
         requires { IsKnown (D.told disk.old) self.now }
-        ensures rows { IfOk result (λ rows. IfSome (D.told disk.old) (λ told. rows ≡ map log_row (upto (history_at told self.now.end) at).transactions)) }
+        ensures rows { IfOk result (λ rows. IfSome (D.told disk.old) (λ told. rows ≡ map log_row (unpacked (upto (history_at told self.now.end) at)))) }
         ensures only_reads { OnlyReads D.Disk disk.old disk.new (IsErrOf result LoadRefusal.Disk) }
     {
+        let span = Span {
+            floor: self.floor,
+            at,
+        };
         let mut rows = LogRows::new(alloc);
         let end = self.end;
         let mut place = MAGIC_LEN as u64;
@@ -230,7 +240,7 @@ impl OpenFile {
                 // only where the disk tells nothing
                 return Ok(rows);
             };
-            add_row(alloc, disk, self.len, place, &head, at, &mut rows)?;
+            add_row(alloc, disk, self.len, place, &head, &span, &mut rows)?;
             place = behind(place, &head);
         }
         Ok(rows)

@@ -19,11 +19,11 @@ ghost use Rattle.fs_store.specs.Settled.{AreOf, IsRight, IsSettled, SettlesAs, i
 use crate::LoadRefusal;
 use crate::file::OpenFile;
 use byteorder::{BigEndian, ByteOrder};
-use evaluator::{Draft, Entry, Hole, Name};
+use evaluator::{Draft, Entries, Entry, Hole, Name};
 use fs_record::{Body, Item, NUMBER_LEN, TxnTexts};
 use fs_scan::data_place;
 use std::alloc::Global;
-use zbase::{Bytes, Failed, Items, Memory, Oid, Tid};
+use zbase::{Bytes, Failed, Items, Memory, Oid, Text, Tid};
 use zdisk::Disk;
 
 /// What is written of a draft: its texts, and its data records by rising object ids.
@@ -41,18 +41,18 @@ fn put_id(bytes: &mut [u8], at: usize, id: u64)
     BigEndian::write_u64(&mut bytes[at..at + NUMBER_LEN], id);
 }
 
-// A copy of the bytes with the ids of the new objects in the holes; the first new object has the id `first`.
-fn filled(alloc: Global, bytes: &Bytes, holes: &[Hole], first: u128) -> Result<Bytes, Memory>
-    requires { AllByRecursion (FitsHole first (length bytes.now)) holes.now }
-    ensures filled { IfOk result (λ copy. copy ≡ filled first bytes.now holes.now) }
-    ensures long { IfOk result (λ copy. length copy ≡ length bytes.now) }
+// The bytes with the ids of the new objects in the holes; the first new object has the id `first`. Takes no memory.
+fn filled(bytes: Bytes, holes: &[Hole], first: u128) -> Bytes
+    requires { AllByRecursion (FitsHole first (length bytes)) holes.now }
+    ensures filled { result ≡ filled first bytes holes.now }
+    ensures long { length result ≡ length bytes }
 {
-    let mut copy = Vec::from_slice(alloc, bytes.as_slice())?;
+    let mut filled = bytes.into_vec();
     for hole in holes {
         let id = first + u128::from(hole.new);
-        put_id(copy.as_mut_slice(), hole.at as usize, id as u64);
+        put_id(filled.as_mut_slice(), hole.at as usize, id as u64);
     }
-    Ok(Bytes::from_vec(copy))
+    Bytes::from_vec(filled)
 }
 
 // The id of the object that a name names.
@@ -88,28 +88,24 @@ impl OpenFile {
         }
     }
 
-    // The data record of an entry. What is put back isn't written again: a back pointer leads to the record that has it.
-    fn item_of<D: Disk>(
-        &self,
-        alloc: Global,
-        disk: &mut D,
-        entry: &Entry,
-    ) -> Result<Item, LoadRefusal>
+    // The data record of an entry, to which its value is moved. What is put back isn't written again: a back pointer leads to
+    // the record that has it.
+    fn item_of<D: Disk>(&self, disk: &mut D, entry: Entry) -> Result<Item, Failed>
         requires known { IsKnown (D.told disk.old) self.now }
-        requires fits { FitsEntry self.now.next entry.now }
+        requires fits { FitsEntry self.now.next entry }
         ensures said { IfOk result (λ item. IfSome (D.told disk.old)
-            (λ told. says (records_at told self.now.end) item ≡ record_of (history_at told self.now.end) entry.now)) }
+            (λ told. says (records_at told self.now.end) item ≡ record_of (history_at told self.now.end) entry)) }
         ensures right { IfOk result (λ item. IfSome (D.told disk.old) (λ told. IsRight (records_at told self.now.end) item)) }
         ensures direct { IfOk result (λ item. IfSome (D.told disk.old) (λ told. IsDirect (content told) item.body)) }
         ensures body { IfOk result HasBody }
-        ensures size { IfOk result (λ item. record_size item ≡ size_of_entry entry.now) }
-        ensures calls { NeedsNoLook entry.now → (D.counter disk.new).calls ≡ (D.counter disk.old).calls }
-        ensures only_reads { OnlyReads D.Disk disk.old disk.new (IsErrOf result LoadRefusal.Disk) }
+        ensures size { IfOk result (λ item. record_size item ≡ size_of_entry entry) }
+        ensures calls { NeedsNoLook entry → (D.counter disk.new).calls ≡ (D.counter disk.old).calls }
+        ensures only_reads { OnlyReads D.Disk disk.old disk.new (IsErr result) }
     {
         match entry {
             Entry::Write { name, bytes, holes } => {
-                let oid = Oid(oid_of(*name, self.next));
-                let value = filled(alloc, bytes, holes.as_slice(), self.next)?;
+                let oid = Oid(oid_of(name, self.next));
+                let value = filled(bytes, holes.as_slice(), self.next);
                 Ok(Item {
                     oid,
                     prev: self.place(oid),
@@ -117,10 +113,10 @@ impl OpenFile {
                 })
             }
             Entry::Restore { oid, to } => {
-                let place = self.place_of(disk, *oid, *to)?;
+                let place = self.place_of(disk, oid, to)?;
                 Ok(Item {
-                    oid: *oid,
-                    prev: self.place(*oid),
+                    oid,
+                    prev: self.place(oid),
                     body: Body::Back(place),
                 })
             }
@@ -132,20 +128,21 @@ impl OpenFile {
         &self,
         alloc: Global,
         disk: &mut D,
-        entries: &[Entry],
+        entries: Entries,
     ) -> Result<Vec<Item>, LoadRefusal>
         requires known { IsKnown (D.told disk.old) self.now }
-        requires fits { FitsEntries self.now.next entries.now }
-        ensures are { IfOk result (λ items. IfSome (D.told disk.old) (λ told. AreOf told self.now.end entries.now items.items)) }
+        requires fits { FitsEntries self.now.next entries }
+        ensures are { IfOk result (λ items. IfSome (D.told disk.old) (λ told. AreOf told self.now.end entries items.items)) }
         ensures direct { IfOk result (λ items. IfSome (D.told disk.old) (λ told. All (λ item. IsDirect (content told) item.body) items.items)) }
         ensures bodies { IfOk result (λ items. All HasBody items.items) }
-        ensures size { IfOk result (λ items. records_size items.items ≡ sizes_of entries.now) }
-        ensures calls { AllByRecursion NeedsNoLook entries.now → (D.counter disk.new).calls ≡ (D.counter disk.old).calls }
+        ensures size { IfOk result (λ items. records_size items.items ≡ sizes_of entries) }
+        ensures calls { AllByRecursion NeedsNoLook entries → (D.counter disk.new).calls ≡ (D.counter disk.old).calls }
         ensures only_reads { OnlyReads D.Disk disk.old disk.new (IsErrOf result LoadRefusal.Disk) }
     {
-        let mut items = Vec::new(alloc);
-        for entry in entries {
-            items.push(self.item_of(alloc, disk, entry)?)?;
+        let mut items = Vec::with_capacity(alloc, entries.len())?;
+        for entry in entries.into_vec() {
+            let item = self.item_of(disk, entry)?;
+            items.push(item)?;
         }
         Ok(items)
     }
@@ -161,35 +158,40 @@ fn by_oid(items: Vec<Item>) -> Result<Vec<Item>, Memory>
     Ok(items)
 }
 
-// The draft's texts.
-fn texts_of(alloc: Global, draft: &Draft) -> Result<TxnTexts, Memory>
-    ensures { IfOk result (λ texts. texts ≡ record { user = draft.now.user; description = draft.now.description; extension = [] }) }
+// The texts of a transaction.
+fn texts_of(alloc: Global, user: &Text, description: &Text) -> Result<TxnTexts, Memory>
+    ensures { IfOk result (λ texts. texts ≡ record { user = user.now; description = description.now; extension = [] }) }
 {
     Ok(TxnTexts {
-        user: Bytes::from_slice(alloc, draft.user.as_bytes())?,
-        description: Bytes::from_slice(alloc, draft.description.as_bytes())?,
+        user: Bytes::from_slice(alloc, user.as_bytes())?,
+        description: Bytes::from_slice(alloc, description.as_bytes())?,
         extension: Bytes::new(alloc),
     })
 }
 
 impl OpenFile {
-    /// What is written of a draft behind the file. Only what is put back is looked for on the disk.
+    /// What is written of a draft behind the file: its values are moved there. Only what is put back is looked for on the disk.
     pub(crate) fn settle<D: Disk>(
         &self,
         alloc: Global,
         disk: &mut D,
-        draft: &Draft,
+        draft: Draft,
     ) -> Result<Settled, LoadRefusal>
         requires known { IsKnown (D.told disk.old) self.now }
-        requires fits { FitsEntries self.now.next draft.now.entries }
-        ensures settles { IfOk result (λ settled. IfSome (D.told disk.old) (λ told. SettlesAs told self.now.end draft.now settled)) }
-        ensures settled { IfOk result (λ settled. IsSettled draft.now settled) }
-        ensures calls { LooksForNothing draft.now → (D.counter disk.new).calls ≡ (D.counter disk.old).calls }
+        requires fits { FitsEntries self.now.next draft.entries }
+        ensures settles { IfOk result (λ settled. IfSome (D.told disk.old) (λ told. SettlesAs told self.now.end draft settled)) }
+        ensures settled { IfOk result (λ settled. IsSettled draft settled) }
+        ensures calls { LooksForNothing draft → (D.counter disk.new).calls ≡ (D.counter disk.old).calls }
         ensures only_reads { OnlyReads D.Disk disk.old disk.new (IsErrOf result LoadRefusal.Disk) }
     {
-        let items = self.items_of(alloc, disk, draft.entries.as_slice())?;
+        let Draft {
+            user,
+            description,
+            entries,
+        } = draft;
+        let items = self.items_of(alloc, disk, entries)?;
         let items = by_oid(items)?;
-        let texts = texts_of(alloc, draft)?;
+        let texts = texts_of(alloc, &user, &description)?;
         Ok(Settled {
             texts,
             items: Items::from_vec(items),

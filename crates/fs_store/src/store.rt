@@ -2,11 +2,11 @@ ghost use Rattle.std.specs.Prelude.{◌≡◌, ◌⊎◌, ◌<◌, ◌≤◌, Al
 ghost use Rattle.std.specs.Option.{option_map};
 ghost use Rattle.zbase.specs.Faults.{Counts, Twice};
 ghost use Rattle.zbase.specs.History.{IsHistory};
-ghost use Rattle.zbase.specs.Values.{last, serial, transaction, upto, value};
+ghost use Rattle.zbase.specs.Values.{last, serial, upto, value};
 ghost use Rattle.zdisk.specs.Crashes.{IsSynced};
 ghost use Rattle.zdisk.specs.Disk.{content, counted};
 ghost use Rattle.zdisk.specs.Images.{IsImage};
-ghost use Rattle.evaluator.specs.Facts.{log_row, parts_of};
+ghost use Rattle.evaluator.specs.Facts.{log_row, parts_of, unpacked, unpacked_at};
 ghost use Rattle.fs_store.specs.Drafts.{LooksForNothing};
 ghost use Rattle.fs_store.specs.Finding.{CostsLoad};
 ghost use Rattle.fs_store.specs.Moments.{IsWhole, KeepsGiven, KeepsOpening, OpensAsBefore, OpensAsKnown, OpensToEither};
@@ -23,6 +23,7 @@ ghost use Rattle.fs_store.specs.declared.refusal.VoteRefusal.{VoteRefusal};
 
 use crate::file::OpenFile;
 use crate::opening::{FileRead, open_file};
+use crate::voting::Ballot;
 use crate::waiting::Waiting;
 use crate::{
     AbortRefusal, FinishRefusal, LoadRefusal, Loaded, OpenRefusal, Seen, VoteRefusal, Voted,
@@ -208,11 +209,11 @@ impl<D: Disk + Drop> Store<D> {
         self.file.load(self.alloc, &mut self.disk, oid, at)
     }
 
-    /// What the transaction did, where there is one with this id up to the transaction `at`. A stale store is opened again
-    /// first.
+    /// What the transaction did, where there is one with this id above the floor and up to the transaction `at`. A stale
+    /// store is opened again first.
     pub fn transaction(&mut self, tid: Tid, at: Tid) -> Result<Option<Parts>, LoadRefusal>
         ensures parts { IfOk result (λ parts. IsTold self.new
-            → parts ≡ option_map (parts_of (upto self.new.history at)) (transaction (upto self.new.history at) tid)) }
+            → parts ≡ option_map (parts_of (upto self.new.history at)) (unpacked_at (upto self.new.history at) tid)) }
         ensures fresh { OnOk result (self.new.stale ≡ false) }
         ensures settled { OnOk result (IsTold self.old → Settles self.old self.new) }
         ensures stands { OnErr result (IsTold self.old → Stands self.old self.new) }
@@ -229,9 +230,9 @@ impl<D: Disk + Drop> Store<D> {
             .transaction(self.alloc, &mut self.disk, tid.0, at.0)
     }
 
-    /// Who did what, up to the transaction `at`. A stale store is opened again first.
+    /// Who did what, above the floor and up to the transaction `at`. A stale store is opened again first.
     pub fn log(&mut self, at: Tid) -> Result<LogRows, LoadRefusal>
-        ensures rows { IfOk result (λ rows. IsTold self.new → rows ≡ map log_row (upto self.new.history at).transactions) }
+        ensures rows { IfOk result (λ rows. IsTold self.new → rows ≡ map log_row (unpacked (upto self.new.history at))) }
         ensures fresh { OnOk result (self.new.stale ≡ false) }
         ensures settled { OnOk result (IsTold self.old → Settles self.old self.new) }
         ensures stands { OnErr result (IsTold self.old → Stands self.old self.new) }
@@ -244,22 +245,23 @@ impl<D: Disk + Drop> Store<D> {
         ensures counts { Counts self.old.disk.counter self.new.disk.counter (IsErrOf result LoadRefusal.Disk) }
     {
         self.refresh()?;
-        self.file.log(self.alloc, &mut self.disk, at.0)
+        self.file.log(self.alloc, &mut self.disk, at)
     }
 
     /// Votes for a draft that rests on these reads, for a worker, where no vote is out; a stale store is opened again
     /// first. With `Ok` the vote is out: its transaction stands behind the file, doesn't count yet, and counts once it is
     /// finished, and never if it is aborted. All memory that these two need is taken here. What is put back points to the
-    /// record that has the data, or to none. With `Err` the draft comes back; where the disk failed the store is stale.
-    /// The record is written and synced by exactly two device calls, behind those that open a stale store and those that
-    /// find what is put back.
+    /// record that has the data, or to none. The draft's values are moved to the record and not copied: with `Err` the draft
+    /// comes back, but where memory was wanting or the disk failed once nothing spoke against it. Where the disk failed the
+    /// store is stale. The record is written and synced by exactly two device calls, behind those that open a stale store and
+    /// those that find what is put back.
     pub fn vote(
         &mut self,
         holder: u32,
         draft: Draft,
         reads: &[Seen],
         now: Tid,
-    ) -> Result<Voted, (VoteRefusal, Draft)>
+    ) -> Result<Voted, (VoteRefusal, Option<Draft>)>
         requires rules { IsDraft draft }
         requires seen { All (IsSeen self.old) reads.now }
         ensures settled { IfOk result (λ _. IsTold self.old → Settles self.old (idle self.new)) }
@@ -277,7 +279,8 @@ impl<D: Disk + Drop> Store<D> {
         ensures busy_with { IfErr result (λ (refusal, _). (o : Out) → self.old.out ≡ Some o → (refusal ≡ VoteRefusal.Busy o.holder) × (self.new ≡ self.old)) }
         ensures busy_by { IfErr result (λ (refusal, _). (w : ℕ) → refusal ≡ VoteRefusal.Busy w → (o : Out) × (self.old.out ≡ Some o) × (o.holder ≡ w)) }
         ensures still { IfErr result (λ _. self.new.out ≡ self.old.out) }
-        ensures back { IfErr result (λ (_, back). back ≡ draft) }
+        ensures back { IfErr result (λ (refusal, back). (back ≡ Some draft)
+            ⊎ ((back ≡ None) × ((refusal ≡ VoteRefusal.Memory) ⊎ (refusal ≡ VoteRefusal.Disk)))) }
         ensures stands { IfErr result (λ (refusal, _). (refusal ≡ VoteRefusal.Disk → ⊥) → IsTold self.old → Stands self.old self.new) }
         ensures stays { IfErr result (λ (refusal, _). (refusal ≡ VoteRefusal.Disk → ⊥) → self.old.stale ≡ false
             → (self.new ≡ on_disk self.old self.new.disk) × (self.new.disk.told ≡ self.old.disk.told)) }
@@ -294,31 +297,26 @@ impl<D: Disk + Drop> Store<D> {
         ensures fault { IfErr result (λ (refusal, _). Counts self.old.disk.counter self.new.disk.counter (refusal ≡ VoteRefusal.Disk)) }
     {
         if let Some(waiting) = &self.out {
-            return Err((VoteRefusal::Busy(waiting.holder), draft));
+            return Err((VoteRefusal::Busy(waiting.holder), Some(draft)));
         }
         match self.refresh() {
             Ok(()) => {}
-            Err(LoadRefusal::Disk) => return Err((VoteRefusal::Disk, draft)),
-            Err(LoadRefusal::Memory) => return Err((VoteRefusal::Memory, draft)),
+            Err(LoadRefusal::Disk) => return Err((VoteRefusal::Disk, Some(draft))),
+            Err(LoadRefusal::Memory) => return Err((VoteRefusal::Memory, Some(draft))),
         }
-        let voted = self.file.vote_on(
-            self.alloc,
-            &mut self.disk,
-            self.limit,
-            holder,
-            &draft,
-            reads,
-            now,
-        );
+        let ballot = Ballot { holder, draft, now };
+        let voted = self
+            .file
+            .vote_on(self.alloc, &mut self.disk, self.limit, ballot, reads);
         match voted {
             Ok(waiting) => {
                 let tid = waiting.tid;
                 self.out = Some(waiting);
                 Ok(Voted::new(tid))
             }
-            Err(refusal) => {
+            Err((refusal, back)) => {
                 self.stale = refusal == VoteRefusal::Disk;
-                Err((refusal, draft))
+                Err((refusal, back))
             }
         }
     }

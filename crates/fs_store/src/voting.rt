@@ -1,4 +1,4 @@
-ghost use Rattle.std.specs.Prelude.{◌≡◌, ◌⊎◌, ◌++◌, ◌+◌, ◌<◌, ◌≤◌, ◌^◌, All, ℕ, None, Some, length, IfErr, IfOk, IfSome, OnOk, OnErr, IsErrOf};
+ghost use Rattle.std.specs.Prelude.{◌≡◌, ◌⊎◌, ◌++◌, ◌+◌, ◌<◌, ◌≤◌, ◌^◌, All, ℕ, None, Some, length, IfErr, IfOk, IfSome, OnOk, OnErr, IsErrAnd, IsErrOf};
 ghost use Rattle.std.specs.Option.{ForSome};
 ghost use Rattle.zbase.specs.Faults.{Counts, Twice};
 ghost use Rattle.zdisk.specs.Crashes.{Becomes, IsSynced, IsTorn, LeavesFrom};
@@ -76,34 +76,42 @@ fn write_behind<D: Disk>(
     Ok(())
 }
 
+/// A draft that a worker votes for, at this stamp of the clock.
+#[derive(Drop)]
+pub(crate) struct Ballot {
+    pub(crate) holder: u32,
+    pub(crate) draft: Draft,
+    pub(crate) now: Tid,
+}
+
 impl OpenFile {
     /// Votes for a draft where no other vote is out: refuses it, or lets it wait behind the file with all that it needs to be
-    /// finished or aborted.
+    /// finished or aborted. What is judged comes back; behind that the draft is moved to the record.
     pub(crate) fn vote_on<D: Disk>(
         &mut self,
         alloc: Global,
         disk: &mut D,
         limit: u64,
-        holder: u32,
-        draft: &Draft,
+        ballot: Ballot,
         reads: &[Seen],
-        now: Tid,
-    ) -> Result<Waiting, VoteRefusal>
+    ) -> Result<Waiting, (VoteRefusal, Option<Draft>)>
         requires limit { limit ≤ most_length }
         requires kept { IsKept (D.told disk.old) self.old limit None (D.spare_calls disk.old) (D.spare_bytes disk.old) }
-        requires rules { IsDraft draft.now }
+        requires rules { IsDraft ballot.draft }
         requires seen { All (SeenOn (D.told disk.old) self.old.end) reads.now }
         ensures kept { IfOk result (λ w. IsKept (D.told disk.new) self.new limit (Some w) (D.spare_calls disk.new) (D.spare_bytes disk.new)) }
-        ensures holder { IfOk result (λ w. w.holder ≡ holder) }
+        ensures holder { IfOk result (λ w. w.holder ≡ ballot.holder) }
         ensures direct { OnOk result (IfSome (D.told disk.new) (λ told. PointsToData (content told) self.new.end)) }
         ensures voted { IfOk result (λ w. IfSome (D.told disk.old)
-            (λ told. IsVoted (D.told disk.new) (history_at told self.old.end) self.new limit holder draft.now reads.now now w)) }
-        ensures refused { IfErr result (λ refusal. IfSome (D.told disk.old)
+            (λ told. IsVoted (D.told disk.new) (history_at told self.old.end) self.new limit ballot.holder ballot.draft reads.now ballot.now w)) }
+        ensures refused { IfErr result (λ (refusal, _). IfSome (D.told disk.old)
             (λ told. (refusal ≡ VoteRefusal.Memory)
-            ⊎ ((refusal ≡ VoteRefusal.Disk) ⊎ (validation_at (history_at told self.old.end) self.old.end limit draft.now
+            ⊎ ((refusal ≡ VoteRefusal.Disk) ⊎ (validation_at (history_at told self.old.end) self.old.end limit ballot.draft
             (clash_among (history_at told self.old.end) reads.now) ≡ Some refusal)))) }
-        ensures own { IfErr result (λ refusal. (w : ℕ) → refusal ≡ VoteRefusal.Busy w → ⊥) }
-        ensures stays { IfErr result (λ refusal. (refusal ≡ VoteRefusal.Disk → ⊥)
+        ensures own { IfErr result (λ (refusal, _). (w : ℕ) → refusal ≡ VoteRefusal.Busy w → ⊥) }
+        ensures back { IfErr result (λ (refusal, back). (back ≡ Some ballot.draft)
+            ⊎ ((back ≡ None) × ((refusal ≡ VoteRefusal.Memory) ⊎ (refusal ≡ VoteRefusal.Disk)))) }
+        ensures stays { IfErr result (λ (refusal, _). (refusal ≡ VoteRefusal.Disk → ⊥)
             → IsKept (D.told disk.new) self.new limit None (D.spare_calls disk.new) (D.spare_bytes disk.new) × (D.told disk.new ≡ D.told disk.old)) }
         ensures unsettled { OnErr result (IfSome (D.told disk.new) (IsUnsettled self.new.end None)) }
         ensures end { self.new.end ≡ self.old.end }
@@ -111,20 +119,21 @@ impl OpenFile {
         ensures seen { (s : Seen) → SeenOn (D.told disk.old) self.old.end s → SeenOn (D.told disk.new) self.old.end s }
         ensures any_moment { LeavesFrom (D.told disk.old) (D.told disk.new)
             (λ file image. OpensTo image (history_where (D.told disk.old) self.old.end) self.old.end) }
-        ensures calls { OnOk result (LooksForNothing draft.now → (D.counter disk.new).calls ≡ counted (counted (D.counter disk.old).calls)) }
+        ensures calls { OnOk result (LooksForNothing ballot.draft → (D.counter disk.new).calls ≡ counted (counted (D.counter disk.old).calls)) }
         ensures twice { OnOk result (Twice (D.counter disk.old) (D.counter disk.new)) }
-        ensures counts { Counts (D.counter disk.old) (D.counter disk.new) (IsErrOf result VoteRefusal.Disk) }
+        ensures counts { Counts (D.counter disk.old) (D.counter disk.new) (IsErrAnd result (λ (refusal, _). refusal ≡ VoteRefusal.Disk)) }
     {
-        match self.refusal(disk, limit, draft, reads) {
+        let Ballot { holder, draft, now } = ballot;
+        match self.refusal(disk, limit, &draft, reads) {
             Ok(None) => {}
-            Ok(Some(refusal)) => return Err(refusal),
-            Err(_) => return Err(VoteRefusal::Disk),
+            Ok(Some(refusal)) => return Err((refusal, Some(draft))),
+            Err(_) => return Err((VoteRefusal::Disk, Some(draft))),
         }
         let tid = tid_after(self.last, now);
         match self.wait_on(alloc, disk, limit, holder, draft, tid) {
             Ok(waiting) => Ok(waiting),
-            Err(LoadRefusal::Disk) => Err(VoteRefusal::Disk),
-            Err(LoadRefusal::Memory) => Err(VoteRefusal::Memory),
+            Err(LoadRefusal::Disk) => Err((VoteRefusal::Disk, None)),
+            Err(LoadRefusal::Memory) => Err((VoteRefusal::Memory, None)),
         }
     }
 
@@ -135,20 +144,20 @@ impl OpenFile {
         disk: &mut D,
         limit: u64,
         holder: u32,
-        draft: &Draft,
+        draft: Draft,
         tid: Tid,
     ) -> Result<Waiting, LoadRefusal>
         requires limit { limit ≤ most_length }
         requires kept { IsKept (D.told disk.old) self.old limit None (D.spare_calls disk.old) (D.spare_bytes disk.old) }
-        requires rules { IsDraft draft.now }
-        requires free { IsFree self.old.last self.old.next self.old.end limit draft.now }
+        requires rules { IsDraft draft }
+        requires free { IsFree self.old.last self.old.next self.old.end limit draft }
         requires later { self.old.last < tid }
         ensures kept { IfOk result (λ w. IsKept (D.told disk.new) self.new limit (Some w) (D.spare_calls disk.new) (D.spare_bytes disk.new)) }
         ensures holder { IfOk result (λ w. w.holder ≡ holder) }
         ensures direct { OnOk result (IfSome (D.told disk.new) (λ told. PointsToData (content told) self.new.end)) }
         ensures waits { IfOk result (λ w. IfSome (D.told disk.old)
             (λ told. out_of (D.told disk.new) self.new.end w
-            ≡ record { holder = holder; transaction = settle (history_at told self.old.end) draft.now tid; size = size draft.now })) }
+            ≡ record { holder = holder; transaction = settle (history_at told self.old.end) draft tid; size = size draft })) }
         ensures stays { IsErrOf result LoadRefusal.Memory
             → IsKept (D.told disk.new) self.new limit None (D.spare_calls disk.new) (D.spare_bytes disk.new) × (D.told disk.new ≡ D.told disk.old) }
         ensures unsettled { OnErr result (IfSome (D.told disk.new) (IsUnsettled self.new.end None)) }
@@ -157,14 +166,14 @@ impl OpenFile {
         ensures seen { (s : Seen) → SeenOn (D.told disk.old) self.old.end s → SeenOn (D.told disk.new) self.old.end s }
         ensures any_moment { LeavesFrom (D.told disk.old) (D.told disk.new)
             (λ file image. OpensTo image (history_where (D.told disk.old) self.old.end) self.old.end) }
-        ensures calls { OnOk result (LooksForNothing draft.now → (D.counter disk.new).calls ≡ counted (counted (D.counter disk.old).calls)) }
+        ensures calls { OnOk result (LooksForNothing draft → (D.counter disk.new).calls ≡ counted (counted (D.counter disk.old).calls)) }
         ensures twice { OnOk result (Twice (D.counter disk.old) (D.counter disk.new)) }
         ensures counts { Counts (D.counter disk.old) (D.counter disk.new) (IsErrOf result LoadRefusal.Disk) }
     {
+        let size = size_of(&draft);
         let Settled { texts, items } = self.settle(alloc, disk, draft)?;
         reserve_all(&mut self.index, items.as_slice())?;
         write_behind(alloc, disk, self.end, tid, &texts, items.as_slice())?;
-        let size = size_of(draft);
         self.len = self.end.saturating_add(size);
         Ok(Waiting {
             holder,

@@ -7,7 +7,7 @@ use Rattle.fs_store.proofs.settling.filled.Given as goal
 -- the holes that are left are to be filled, and fit
 abbrev pub invariant-loop-hole : goal.invariant-loop-hole
 invariant-loop-hole l = record {
-  same : filled l.first l.copy.items (drop l.hole-index l.holes) ≡ filled l.first l.bytes l.holes;
-  long : length l.copy.items ≡ length l.bytes;
-  fits : AllByRecursion (FitsHole l.first (length l.bytes)) (drop l.hole-index l.holes);
+  same : filled l.first l.filled.items (drop l.hole-index l.holes) ≡ filled l.first l.fn.bytes l.holes;
+  long : length l.filled.items ≡ length l.fn.bytes;
+  fits : AllByRecursion (FitsHole l.first (length l.fn.bytes)) (drop l.hole-index l.holes);
 }

@@ -18,15 +18,15 @@ know-requires g c = record { waits = knowable _ c.args.self.now c.args.waiting.n
 
 pub returns-clause-kept : goal.returns-clause-kept
 returns-clause-kept g c = kept_counted (g.D.Disk.told c.args.disk.now) (g.D.Disk.told c.overwrite_and_sync.new.disk) c.args.self.now c.know.new.self c.args.waiting.now c.args.limit _ _ _ _ c.requires.kept c.in_ok-overwrite_and_sync.ensures.written
-    (record { numbers = c.know.ensures.numbers; len = c.know.ensures.len; next = c.know.ensures.next; count = c.know.ensures.count; index = c.know.ensures.index })
+    (record { numbers = c.know.ensures.numbers; floor = c.know.ensures.floor; len = c.know.ensures.len; next = c.know.ensures.next; count = c.know.ensures.count; index = c.know.ensures.index })
 
 pub returns-clause-stands : goal.returns-clause-stands
 returns-clause-stands g c = stands_counted (g.D.Disk.told c.args.disk.now) (g.D.Disk.told c.overwrite_and_sync.new.disk) c.args.self.now c.know.new.self c.args.waiting.now c.args.limit _ _ c.requires.kept c.in_ok-overwrite_and_sync.ensures.written
-    (record { numbers = c.know.ensures.numbers; len = c.know.ensures.len; next = c.know.ensures.next; count = c.know.ensures.count; index = c.know.ensures.index })
+    (record { numbers = c.know.ensures.numbers; floor = c.know.ensures.floor; len = c.know.ensures.len; next = c.know.ensures.next; count = c.know.ensures.count; index = c.know.ensures.index })
 
 pub returns-clause-seen : goal.returns-clause-seen
 returns-clause-seen g c = λ s seen. seen_counted (g.D.Disk.told c.args.disk.now) (g.D.Disk.told c.overwrite_and_sync.new.disk) c.args.self.now c.know.new.self c.args.waiting.now c.args.limit _ _ s c.requires.kept c.in_ok-overwrite_and_sync.ensures.written
-    (record { numbers = c.know.ensures.numbers; len = c.know.ensures.len; next = c.know.ensures.next; count = c.know.ensures.count; index = c.know.ensures.index }) seen
+    (record { numbers = c.know.ensures.numbers; floor = c.know.ensures.floor; len = c.know.ensures.len; next = c.know.ensures.next; count = c.know.ensures.count; index = c.know.ensures.index }) seen
 
 on_err : {T E : Type 0} (r : Result T E) (P : Type 0) → P → OnErr r P
 on_err (Ok x) P p = tt

@@ -24,7 +24,7 @@ each-preserved g c =
     let e = c.in_ok-head.ensures in
     let a = c.in_ok-add_row.ensures in
     record {
-      logged = on_four o _ (λ told. Logged told c.args.self.now c.each.place c.args.at c.each.rows) (λ told. Tells told c.each.place (Some c.in-Some.head)) (λ told. AddsRow told c.each.place c.in-Some.head c.args.at c.each.rows c.add_row.new.rows) (λ told. Logged told c.args.self.now c.behind-place.result c.args.at c.add_row.new.rows)
+      logged = on_four o _ (λ told. Logged told c.args.self.now c.each.place c.args.at c.each.rows) (λ told. Tells told c.each.place (Some c.in-Some.head)) (λ told. AddsRow told c.each.place c.in-Some.head c.args.self.now.floor c.args.at c.each.rows c.add_row.new.rows) (λ told. Logged told c.args.self.now c.behind-place.result c.args.at c.add_row.new.rows)
           (λ told k l t s. logged_more told c.args.self.now c.each.place c.args.at c.behind-place.result c.each.rows c.add_row.new.rows c.in-Some.head (omega (arith, k.1, k.0.within)) l c.each-test.true t s c.behind-place.ensures) c.requires i.logged (moved _ o _ (sym i.only.same) (rw c.in-Some.is at e.head))
           (moved _ o _ (sym (e.only_reads.same ∙ i.only.same)) a.added);
       only = reads_then i.only (λ none. none) (reads_then (reads_as e.only_reads (λ x. cc) (λ none. absurd none)) (λ none. none) (reads_as a.only_reads (λ x. cc) (λ none. absurd none)));
@@ -32,4 +32,4 @@ each-preserved g c =
 
 pub returns-clause-rows : goal.returns-clause-rows
 returns-clause-rows g c =
-    on_told (g.D.Disk.told c.args.disk.now) (λ told. Logged told c.args.self.now c.each.place c.args.at c.each.rows) _ (λ told l. logged_all told c.args.self.now c.each.place c.args.at c.each.rows l c.each-test.false) c.each.invariant.logged
+    on_both (g.D.Disk.told c.args.disk.now) _ (λ told. Logged told c.args.self.now c.each.place c.args.at c.each.rows) _ (λ told k l. logged_all told c.args.self.now c.each.place c.args.at c.each.rows k.0 l c.each-test.false) c.requires c.each.invariant.logged

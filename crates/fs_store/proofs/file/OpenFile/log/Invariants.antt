@@ -6,7 +6,7 @@ use Rattle.fs_store.proofs.file.OpenFile.log.Given as goal
 -- the transactions before the place were logged, and nothing was changed
 abbrev pub invariant-each : goal.invariant-each
 invariant-each g l = record {
-  logged : IfSome (g.D.Disk.told l.fn.disk) (λ told. Logged told l.self l.place l.at l.rows);
+  logged : IfSome (g.D.Disk.told l.fn.disk) (λ told. Logged told l.self l.place l.fn.at l.rows);
   only : OnlyReads g.D.Disk l.fn.disk l.disk ⊥;
 }
 

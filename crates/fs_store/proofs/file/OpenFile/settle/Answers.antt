@@ -1,11 +1,8 @@
-use Rattle.std.proofs.Common.{◌≡◌, List, IfSome, sym, ap₂, subst, ◌∙◌}
-use Rattle.evaluator.specs.declared.draft.Entry.{Entry}
+use Rattle.std.proofs.Common.{List, IfSome, sym, ap₂, subst, ◌∙◌}
 use Rattle.fs_record.specs.declared.body.Item.{Item}
 use Rattle.fs_record.specs.declared.body.TxnTexts.{TxnTexts}
-use Rattle.fs_record.specs.Sizes.{records_size}
 use Rattle.fs_store.specs.declared.settling.Settled.{Settled}
-use Rattle.fs_store.specs.Drafts.{sizes_of}
-use Rattle.fs_store.specs.Settled.{AreOf, IsSettled, SettlesAs}
+use Rattle.fs_store.specs.Settled.{IsSettled, SettlesAs}
 use Rattle.fs_store.proofs.InOrder.{is_settled, settles}
 use Rattle.fs_store.proofs.Tellings.{on_both}
 use Rattle.fs_store.proofs.file.OpenFile.settle.Goals as goal
@@ -16,15 +13,13 @@ with texts items = record { texts = texts; items = items }
 pub returns-clause-settles : goal.returns-clause-settles
 returns-clause-settles g c =
     let o = g.D.Disk.told c.args.disk.now in
-    let d = c.args.draft.now in
+    let d = c.args.draft in
     let same = ap₂ with c.in_ok-texts.ensures (c.from_vec.ensures ∙ c.in_ok-items-2.ensures) in
-    let are = subst (λ (es : List Entry). IfSome o (λ told. AreOf told c.args.self.now.end es c.in_ok-items.items.items)) c.as_slice.ensures c.in_ok-items.ensures.are in
     subst (λ (s : Settled). IfSome o (λ told. SettlesAs told c.args.self.now.end d s)) (sym same)
-    (on_both o _ _ _ (λ told a direct. settles told c.args.self.now.end d c.in_ok-items.items.items a direct) are c.in_ok-items.ensures.direct)
+    (on_both o _ _ _ (λ told a direct. settles told c.args.self.now.end d c.in_ok-items.items.items a direct) c.in_ok-items.ensures.are c.in_ok-items.ensures.direct)
 
 pub returns-clause-settled : goal.returns-clause-settled
 returns-clause-settled g c =
-    let d = c.args.draft.now in
+    let d = c.args.draft in
     let same = ap₂ with c.in_ok-texts.ensures (c.from_vec.ensures ∙ c.in_ok-items-2.ensures) in
-    let size = subst (λ (es : List Entry). records_size c.in_ok-items.items.items ≡ sizes_of es) c.as_slice.ensures c.in_ok-items.ensures.size in
-    subst (IsSettled d) (sym same) (is_settled d c.in_ok-items.items.items c.in_ok-items.ensures.bodies size)
+    subst (IsSettled d) (sym same) (is_settled d c.in_ok-items.items.items c.in_ok-items.ensures.bodies c.in_ok-items.ensures.size)

@@ -15,9 +15,13 @@ use Rattle.fs_store.specs.Settled.{IsSettled}
 use Rattle.fs_store.specs.Stores.{most_length}
 use Rattle.fs_store.specs.Verdicts.{IsFree}
 use Rattle.fs_store.proofs.Files.{fits_limit, long_settled, piece_fits, still_opens, torn_history, torn_opens, torn_seen, voted_kept, voted_out_is}
+use Rattle.fs_store.proofs.Fitting.{fits_draft}
 use Rattle.fs_store.proofs.PutBack.{voted_direct}
 use Rattle.fs_store.proofs.Unsettling.{still_unsettled, torn_unsettled}
 use Rattle.fs_store.proofs.file.OpenFile.wait_on.Goals as goal
+
+pub settle-requires-clause-fits : goal.settle-requires-clause-fits
+settle-requires-clause-fits g c = fits_draft c.args.self.now.last c.args.self.now.next c.args.self.now.end c.args.limit c.args.draft c.requires.rules c.requires.free
 
 pub returns-in_err-texts-clause-any_moment : goal.returns-in_err-texts-clause-any_moment
 returns-in_err-texts-clause-any_moment g c = still_opens _ _ c.args.self.now _ _ _ c.in_err-texts.ensures.only_reads.same c.requires.kept
@@ -27,8 +31,8 @@ returns-in_err-reserve_all-clause-any_moment g c = still_opens _ _ c.args.self.n
 
 pub write_behind-requires-clause-fits : goal.write_behind-requires-clause-fits
 write_behind-requires-clause-fits g c =
-    let within = fits_limit c.args.self.now c.args.limit c.args.draft.now c.requires.limit c.requires.free in
-    let long = ap (λ (is : List Item). length (block_spelling (transaction c.args.self.now.end c.args.tid 99 c.in_ok-texts.field-0.texts is))) c.as_slice-2.ensures ∙ long_settled c.args.self.now.end c.args.tid 99 c.args.draft.now c.in_ok-texts.field-0 c.in_ok-texts.ensures.settled in
+    let within = fits_limit c.args.self.now c.args.limit c.args.draft c.requires.limit c.requires.free in
+    let long = ap (λ (is : List Item). length (block_spelling (transaction c.args.self.now.end c.args.tid 99 c.in_ok-texts.field-0.texts is))) c.as_slice-2.ensures ∙ long_settled c.args.self.now.end c.args.tid 99 c.args.draft c.in_ok-texts.field-0 c.in_ok-texts.ensures.settled in
     omega (arith, within, long, c.requires.limit)
 
 -- with the record that is written the file isn't longer than a file may be
@@ -53,12 +57,18 @@ returns-in_err-write_behind-clause-seen g c = λ s seen. torn_seen _ _ c.args.se
 pub returns-in_err-write_behind-clause-any_moment : goal.returns-in_err-write_behind-clause-any_moment
 returns-in_err-write_behind-clause-any_moment g c =
     torn_opens _ _ c.args.self.now _ _ _ _ (status_at c.args.self.now.end c.args.tid 99 c.in_ok-texts.field-0.texts c.as_slice-2.result.now)
-    (fits_too c.args.self.now c.args.limit c.args.tid c.args.draft.now c.in_ok-texts.field-0 c.as_slice-2.result.now c.as_slice-2.ensures c.requires.limit c.requires.free c.in_ok-texts.ensures.settled) c.requires.kept (moved _ _ _ _ c.in_ok-texts.ensures.only_reads.same c.in_err-write_behind.ensures.any_moment)
+    (fits_too c.args.self.now c.args.limit c.args.tid c.args.draft c.in_ok-texts.field-0 c.as_slice-2.result.now c.as_slice-2.ensures c.requires.limit c.requires.free c.in_ok-texts.ensures.settled) c.requires.kept (moved _ _ _ _ c.in_ok-texts.ensures.only_reads.same c.in_err-write_behind.ensures.any_moment)
 
 pub returns-clause-any_moment : goal.returns-clause-any_moment
 returns-clause-any_moment g c =
     torn_opens _ _ c.args.self.now _ _ _ _ (status_at c.args.self.now.end c.args.tid 99 c.in_ok-texts.field-0.texts c.as_slice-2.result.now)
-    (fits_too c.args.self.now c.args.limit c.args.tid c.args.draft.now c.in_ok-texts.field-0 c.as_slice-2.result.now c.as_slice-2.ensures c.requires.limit c.requires.free c.in_ok-texts.ensures.settled) c.requires.kept (moved _ _ _ _ c.in_ok-texts.ensures.only_reads.same c.in_ok-write_behind.ensures.any_moment)
+    (fits_too c.args.self.now c.args.limit c.args.tid c.args.draft c.in_ok-texts.field-0 c.as_slice-2.result.now c.as_slice-2.ensures c.requires.limit c.requires.free c.in_ok-texts.ensures.settled) c.requires.kept (moved _ _ _ _ c.in_ok-texts.ensures.only_reads.same c.in_ok-write_behind.ensures.any_moment)
+
+pub returns-clause-history : goal.returns-clause-history
+returns-clause-history g c = torn_history _ _ c.args.self.now _ _ _ _ c.requires.kept (moved _ _ _ _ c.in_ok-texts.ensures.only_reads.same c.in_ok-write_behind.ensures.any_moment)
+
+pub returns-clause-seen : goal.returns-clause-seen
+returns-clause-seen g c = λ s seen. torn_seen _ _ c.args.self.now _ _ _ _ s c.requires.kept (moved _ _ _ _ c.in_ok-texts.ensures.only_reads.same c.in_ok-write_behind.ensures.any_moment) seen
 
 pub returns-clause-kept : goal.returns-clause-kept
 returns-clause-kept g c =
@@ -68,7 +78,7 @@ returns-clause-kept g c =
     let w = c.in_ok-write_behind.ensures in
     let room = subst (λ (is : List Item). All (λ item. HasRoom c.reserve_all.new.index item.oid) is) c.as_slice.ensures c.in_ok-reserve_all.ensures.room in
     let writable = subst (λ (is : List Item). IsWritable k.end c.args.tid 99 s.texts is) c.as_slice-2.ensures w.writable in
-    voted_kept (g.D.Disk.told c.args.disk.now) (g.D.Disk.told c.write_behind.new.disk) k c.reserve_all.new.index c.saturating_add-self.result c.args.limit _ _ _ _ c.args.holder c.args.tid c.size_of-size.result c.args.draft.now s
+    voted_kept (g.D.Disk.told c.args.disk.now) (g.D.Disk.told c.write_behind.new.disk) k c.reserve_all.new.index c.saturating_add-self.result c.args.limit _ _ _ _ c.args.holder c.args.tid c.size_of-size.result c.args.draft s
     c.requires.limit c.requires.kept c.requires.free c.requires.later e.settles e.settled c.in_ok-reserve_all.ensures.places room writable c.size_of-size.ensures c.saturating_add-self.ensures w.spare.0 w.spare.1
     (became _ _ _ k.end c.args.tid s.texts c.as_slice-2.result.now s.items e.only_reads.same c.as_slice-2.ensures w.written)
 
@@ -77,7 +87,7 @@ returns-clause-waits g c =
     let k = c.args.self.now in
     let s = c.in_ok-texts.field-0 in
     let e = c.in_ok-texts.ensures in
-    voted_out_is (g.D.Disk.told c.args.disk.now) (g.D.Disk.told c.write_behind.new.disk) k c.args.limit _ _ c.args.holder c.args.tid c.size_of-size.result c.args.draft.now s
+    voted_out_is (g.D.Disk.told c.args.disk.now) (g.D.Disk.told c.write_behind.new.disk) k c.args.limit _ _ c.args.holder c.args.tid c.size_of-size.result c.args.draft s
     c.requires.limit c.requires.kept c.requires.free e.settles c.size_of-size.ensures
     (became _ _ _ k.end c.args.tid s.texts c.as_slice-2.result.now s.items e.only_reads.same c.as_slice-2.ensures c.in_ok-write_behind.ensures.written)
 
@@ -94,12 +104,12 @@ returns-in_err-reserve_all-clause-unsettled g c = on_err c.from_residual-in_err-
 pub returns-in_err-write_behind-clause-unsettled : goal.returns-in_err-write_behind-clause-unsettled
 returns-in_err-write_behind-clause-unsettled g c =
     on_err c.from_residual-in_err-write_behind.result _ (torn_unsettled _ _ c.args.self.now _ _ _ _ (status_at c.args.self.now.end c.args.tid 99 c.in_ok-texts.field-0.texts c.as_slice-2.result.now)
-    (fits_too c.args.self.now c.args.limit c.args.tid c.args.draft.now c.in_ok-texts.field-0 c.as_slice-2.result.now c.as_slice-2.ensures c.requires.limit c.requires.free c.in_ok-texts.ensures.settled) c.requires.kept (moved _ _ _ _ c.in_ok-texts.ensures.only_reads.same c.in_err-write_behind.ensures.any_moment))
+    (fits_too c.args.self.now c.args.limit c.args.tid c.args.draft c.in_ok-texts.field-0 c.as_slice-2.result.now c.as_slice-2.ensures c.requires.limit c.requires.free c.in_ok-texts.ensures.settled) c.requires.kept (moved _ _ _ _ c.in_ok-texts.ensures.only_reads.same c.in_err-write_behind.ensures.any_moment))
 
 pub returns-clause-direct : goal.returns-clause-direct
 returns-clause-direct g c =
     let k = c.args.self.now in
     let s = c.in_ok-texts.field-0 in
     let e = c.in_ok-texts.ensures in
-    voted_direct (g.D.Disk.told c.args.disk.now) (g.D.Disk.told c.write_behind.new.disk) k _ _ _ c.args.tid c.args.draft.now s c.requires.kept e.settles
+    voted_direct (g.D.Disk.told c.args.disk.now) (g.D.Disk.told c.write_behind.new.disk) k _ _ _ c.args.tid c.args.draft s c.requires.kept e.settles
     (became _ _ _ k.end c.args.tid s.texts c.as_slice-2.result.now s.items e.only_reads.same c.as_slice-2.ensures c.in_ok-write_behind.ensures.written)
