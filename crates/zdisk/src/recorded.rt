@@ -20,7 +20,8 @@ pub struct RecordedFile {
     pub(crate) spare: usize,
     /// How many calls may fail. Each may cover the whole buffer.
     pub(crate) faults: usize,
-    ghost fits: { FitsBack (record { bytes = bytes.items; len = len; covered = covered.items }) (reverse entries.items) } by { FitsBack-prop (record { bytes = bytes.items; len = len; covered = covered.items }) (reverse entries.items) },
+    ghost fits: { FitsBack (record { bytes = bytes.items; len = len; covered = covered.items })
+        (reverse entries.items) } by { FitsBack-prop (record { bytes = bytes.items; len = len; covered = covered.items }) (reverse entries.items) },
     ghost entry_room: { vec_len entries + calls ≤ vec_capacity entries },
     ghost room: { vec_len bytes + spare ≤ vec_capacity bytes },
     ghost kept: { vec_len covered + spare + room_for faults (vec_len bytes + spare) ≤ vec_capacity covered },
