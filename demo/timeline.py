@@ -62,6 +62,7 @@ class Row:
     def __init__(self, number, kind, content, worker=None, states=(), band=""):
         self.number, self.kind, self.content, self.worker = number, kind, content, worker
         self.states, self.band, self.count, self.edge = dict(states), band, 1, ""
+        self.idles = collections.Counter()  # how often each worker was stepped without a request
 
 
 class Picture:
@@ -146,7 +147,9 @@ class Picture:
                 self.put(number, "conflict", content, worker).edge = " end"
                 self.counts["conflict"] += 1
             case ["idle", worker]:
-                self.repeated(number, worker, "idle", '<span class="dim">no request</span>')
+                row = self.again("idle", None) or self.put(number, "idle", '<span class="dim">no request</span>')
+                row.idles[worker] += 1
+                self.workers.add(worker)
             case ["reply", worker, *more] if sent is not None:
                 self.reply(number, worker, more, sent)
             case ["shown" | "denied" as word, worker, oid, *more]:
@@ -216,8 +219,9 @@ def lanes(picture):
             continue
         cells = []
         for name in workers:
-            content = row.content.replace("%s</details>", "</details>") if name == row.worker else ""
-            times = f" ({row.count} times)" if content and row.count > 1 else ""
+            content = row.content.replace("%s</details>", "</details>") if name == row.worker or row.idles[name] else ""
+            count = row.idles[name] or row.count
+            times = f" ({count} times)" if content and count > 1 else ""
             edge = row.edge if content else ""
             cells.append(f'<td class="{row.states.get(name, "")}{edge}">{content}{times}</td>')
         yield f"<tr>{number}{''.join(cells)}</tr>"
