@@ -1,0 +1,10 @@
+mod Several
+mod Windows
+mod Current
+mod Checked
+mod Whole
+mod Lines
+mod Planned
+mod Joined
+mod RowLines
+mod OneIndex
