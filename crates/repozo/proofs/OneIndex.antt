@@ -7,8 +7,9 @@ use Rattle.std.proofs.lemmas.List.{append_cancel_left}
 use Rattle.hex.proofs.HexLemmas.{decode_of-encode_lower, decode_of-same}
 use Rattle.hex.specs.Hex.{decode_of, encode_lower}
 use Rattle.repozo.specs.declared.index.PieceRow.{PieceRow}
+use Rattle.repozo.specs.declared.index.TheConstants.{MAX_PIECES}
 use Rattle.repozo.specs.BadLines.{IsBadAt, IsBadLine, RunsOver}
-use Rattle.repozo.specs.Index.{AreRows, Chained, HasLine, IsDigest, IsIndex, Lacks, end_line, end_of, most_pieces, row_text}
+use Rattle.repozo.specs.Index.{AreRows, Chained, HasLine, IsDigest, IsIndex, Lacks, end_line, end_of, row_text}
 use Rattle.repozo.proofs.Whole.{end_more}
 use Rattle.repozo.proofs.Lines.{decimal_lacks, digest_lacks, has_byte, line_lacks, line_of, one_front, parts_of, regroup, start_small}
 
@@ -71,7 +72,7 @@ abbrev Behind : List PieceRow → List ℕ → ℕ → Type 0
 Behind rows rest k = ((k ≡ 1) × IsBadLine rows rest) ⊎ ((k ≡ 2) × RunsOver rows rest)
 
 -- a row goes on there, so there is no bad line, and no end
-row_is_no_stop : (rows : List PieceRow) (x : PieceRow) (others rest : List ℕ) (k : ℕ) → length rows + 1 ≤ most_pieces → HasLine x → x.start ≡ end_of rows → rest ≡ row_text x ++ others → Behind rows rest k → ⊥
+row_is_no_stop : (rows : List PieceRow) (x : PieceRow) (others rest : List ℕ) (k : ℕ) → length rows + 1 ≤ MAX_PIECES → HasLine x → x.start ≡ end_of rows → rest ≡ row_text x ++ others → Behind rows rest k → ⊥
 row_is_no_stop rows x others rest k few line start e (inl bad) =
     bad.1.no_row (record { room = omega (arith, few); row = x; line = line; start = start; rest = others; text = e })
 row_is_no_stop rows x others rest k few line start e (inr over) = not_end x others over.1.more line (sym e ∙ over.1.text)
@@ -101,7 +102,7 @@ behind_on done x xs r k stop = subst (λ rows. Behind rows r k) (sym (append_ass
 record GoOn (done rows : List PieceRow) : Type 0 where
   lines : AllByRecursion HasLine rows
   chained : Chained (end_of done) rows
-  few : length done + length rows ≤ most_pieces
+  few : length done + length rows ≤ MAX_PIECES
 
 go_on : (done : List PieceRow) (x : PieceRow) (xs : List PieceRow) → GoOn done (x ∷ xs) → GoOn (done ++ x ∷ []) xs
 go_on done x xs g = record {

@@ -6,9 +6,10 @@ use Rattle.std.proofs.lemmas.List.Folds.{concat-append}
 use Rattle.std.proofs.lemmas.Slice.Eq.{bytes_eq-Decides}
 use Rattle.md5.specs.Md5.{md5}
 use Rattle.repozo.specs.declared.index.PieceRow.{PieceRow}
+use Rattle.repozo.specs.declared.index.TheConstants.{MAX_PIECES}
 use Rattle.repozo.specs.declared.planning.BackupPlan.{BackupPlan}
 use Rattle.repozo.specs.declared.planning.BackupPlan.TheVariants as plans
-use Rattle.repozo.specs.Index.{AreRows, Chained, HasLine, end_from, end_of, most_pieces}
+use Rattle.repozo.specs.Index.{AreRows, Chained, HasLine, end_from, end_of}
 use Rattle.repozo.specs.Pieces.{are_current, first_bad, is_right, part, plan_of, size_of}
 use Rattle.repozo.specs.Whole.{AreDigests, IsBackup}
 
@@ -87,7 +88,7 @@ pub end_more : (at : ℕ) (rows : List PieceRow) (row : PieceRow) → end_from a
 end_more at [] row = refl
 end_more at (r ∷ rs) row = end_more r.end rs row
 
-pub rows_more : (rows : List PieceRow) (row : PieceRow) → AreRows rows → HasLine row → row.start ≡ end_of rows → length rows < most_pieces → AreRows (rows ++ row ∷ [])
+pub rows_more : (rows : List PieceRow) (row : PieceRow) → AreRows rows → HasLine row → row.start ≡ end_of rows → length rows < MAX_PIECES → AreRows (rows ++ row ∷ [])
 rows_more rows row rules line start few = record {
   few = omega (arith, few, length-append rows (row ∷ []));
   lines = lines_more rows row rules.lines line;
@@ -126,7 +127,7 @@ not_either false y e = e
 
 pub nothing : (full : Bool) (rows : List PieceRow) (held : List (List ℕ)) (file : List ℕ) (n : ℕ) → AreRows rows → AreDigests rows held → plan_of full rows held file n ≡ plans.Nothing → IsBackup rows held file n
 nothing full rows held file n rules digests plan =
-    let tests = is_nothing (not (full || (length rows == 0)) && are_current rows held file) (end_of rows == n) (nat_lt (end_of rows) n) (nat_lt (length rows) most_pieces) (end_of rows) n plan in
+    let tests = is_nothing (not (full || (length rows == 0)) && are_current rows held file) (end_of rows == n) (nat_lt (end_of rows) n) (nat_lt (length rows) MAX_PIECES) (end_of rows) n plan in
     let both = both_true (not (full || (length rows == 0))) (are_current rows held file) tests.0 in
     let is = held_of rows held file both.1 in
     let end : end_of rows ≡ n = eqb-true (end_of rows) n tests.1 in
@@ -142,11 +143,11 @@ nothing full rows held file n rules digests plan =
 pub more : (full : Bool) (rows : List PieceRow) (held : List (List ℕ)) (file : List ℕ) (n s e : ℕ) (row : PieceRow) → AreRows rows → AreDigests rows held → plan_of full rows held file n ≡ plans.More s e → n ≤ length file
     → HasLine row → row.start ≡ s → row.end ≡ e → row.md5 ≡ md5 (part s (e - s) file) → IsBackup (rows ++ row ∷ []) (held ++ part s (e - s) file ∷ []) file n
 more full rows held file n s e row rules digests plan long line start end digest =
-    let tests = is_more (not (full || (length rows == 0)) && are_current rows held file) (end_of rows == n) (nat_lt (end_of rows) n) (nat_lt (length rows) most_pieces) (end_of rows) n s e plan in
+    let tests = is_more (not (full || (length rows == 0)) && are_current rows held file) (end_of rows == n) (nat_lt (end_of rows) n) (nat_lt (length rows) MAX_PIECES) (end_of rows) n s e plan in
     let both = both_true (not (full || (length rows == 0))) (are_current rows held file) tests.0 in
     let is = held_of rows held file both.1 in
     let lt : end_of rows < n = ltb-true (end_of rows) n tests.1 in
-    let few : length rows < most_pieces = ltb-true (length rows) most_pieces tests.2 in
+    let few : length rows < MAX_PIECES = ltb-true (length rows) MAX_PIECES tests.2 in
     let from : end_of rows ≡ s = tests.3 in
     let to : n ≡ e = tests.4 in
     let size : length (part s (e - s) file) ≡ e - s = length_part s (e - s) file (omega (arith, lt, from, to, long)) in
@@ -164,7 +165,7 @@ more full rows held file n s e row rules digests plan long line start end digest
 pub anew : (full : Bool) (rows : List PieceRow) (held : List (List ℕ)) (file : List ℕ) (n e : ℕ) (row : PieceRow) → plan_of full rows held file n ≡ plans.Full e → n ≤ length file
     → HasLine row → row.start ≡ 0 → row.end ≡ e → row.md5 ≡ md5 (part 0 e file) → IsBackup (row ∷ []) (part 0 e file ∷ []) file n
 anew full rows held file n e row plan long line start end digest =
-    let to : n ≡ e = is_full (not (full || (length rows == 0)) && are_current rows held file) (end_of rows == n) (nat_lt (end_of rows) n) (nat_lt (length rows) most_pieces) (end_of rows) n e plan in
+    let to : n ≡ e = is_full (not (full || (length rows == 0)) && are_current rows held file) (end_of rows == n) (nat_lt (end_of rows) n) (nat_lt (length rows) MAX_PIECES) (end_of rows) n e plan in
     let size : length (part 0 e file) ≡ e = length_part 0 e file (omega (arith, to, long)) in
     record {
       rules = record { few = omega arith; lines = (line, tt); chained = (start, tt) };

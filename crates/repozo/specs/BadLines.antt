@@ -5,11 +5,12 @@
 -- 100 at line 101.
 use Rattle.std.specs.Prelude.{◌≡◌, ◌≢◌, ◌⊎◌, ℕ, ◌+◌, ◌<◌, List, [], ◌++◌, length, flat_map}
 use Rattle.repozo.specs.declared.index.PieceRow.{PieceRow}
-use Rattle.repozo.specs.Index.{AreRows, HasLine, end_line, end_of, most_pieces, row_text}
+use Rattle.repozo.specs.declared.index.TheConstants.{MAX_PIECES}
+use Rattle.repozo.specs.Index.{AreRows, HasLine, end_line, end_of, row_text}
 
 -- the line of a row begins here that may stand behind these rows
 pub record GoesOn (rows : List PieceRow) (bytes : List ℕ) : Type 0 where
-  pub room : length rows < most_pieces
+  pub room : length rows < MAX_PIECES
   pub row : PieceRow
   pub line : HasLine row
   pub start : row.start ≡ end_of rows

@@ -7,6 +7,7 @@ use Rattle.std.specs.List.{AllByRecursion}
 use Rattle.std.specs.Str.{IsUtf8}
 use Rattle.hex.specs.Hex.{IsBytes, encode_lower}
 use Rattle.repozo.specs.declared.index.PieceRow.{PieceRow}
+use Rattle.repozo.specs.declared.index.TheConstants.{MAX_PIECES}
 
 -- ---- the text
 
@@ -20,10 +21,6 @@ abbrev pub index_text : List PieceRow → List ℕ
 index_text rows = flat_map row_text rows ++ end_line
 
 -- ---- the rules
-
--- the most pieces of a backup
-abbrev pub most_pieces : ℕ
-most_pieces = 100
 
 -- no byte of the text is this one
 abbrev pub Lacks : ℕ → List ℕ → Type 0
@@ -59,7 +56,7 @@ end_of rows = end_from 0 rows
 
 -- rows as an index has them, or none
 pub record AreRows (rows : List PieceRow) : Type 0 where
-  pub few : length rows ≤ most_pieces
+  pub few : length rows ≤ MAX_PIECES
   pub lines : AllByRecursion HasLine rows
   pub chained : Chained 0 rows
 

@@ -4,3 +4,4 @@ pub mod Pieces
 pub mod Disks
 pub mod Whole
 pub mod Refusals
+pub mod Worked

@@ -6,9 +6,10 @@ use Rattle.md5.specs.Md5.{md5}
 use Rattle.fs_record.specs.File.{Front}
 use Rattle.fs_record.specs.Opening.{Cut}
 use Rattle.repozo.specs.declared.index.PieceRow.{PieceRow}
+use Rattle.repozo.specs.declared.index.TheConstants.{MAX_PIECES}
 use Rattle.repozo.specs.declared.planning.BackupPlan.{BackupPlan}
 use Rattle.repozo.specs.declared.planning.BackupPlan.TheVariants as plans
-use Rattle.repozo.specs.Index.{end_of, most_pieces}
+use Rattle.repozo.specs.Index.{end_of}
 
 -- how many bytes a piece has
 abbrev pub size_of : PieceRow → ℕ
@@ -45,7 +46,7 @@ are_current rows pieces file = bytes_eq (map length pieces) (map size_of rows) &
 abbrev pub due : Bool → List PieceRow → ℕ → BackupPlan
 due current rows n =
     if current && (end_of rows == n) then plans.Nothing
-    else if current && (nat_lt (end_of rows) n && nat_lt (length rows) most_pieces) then plans.More (end_of rows) n
+    else if current && (nat_lt (end_of rows) n && nat_lt (length rows) MAX_PIECES) then plans.More (end_of rows) n
     else plans.Full n
 
 abbrev pub plan_of : Bool → List PieceRow → List (List ℕ) → List ℕ → ℕ → BackupPlan

@@ -2,6 +2,7 @@ use Rattle.std.proofs.Common.{rules, ◌≡◌, ◌<◌, ◌++◌, ◌∷◌, []
 use Rattle.std.specs.Prelude.{flat_map}
 use Rattle.repozo.specs.BadLines.{GoesOn}
 use Rattle.repozo.specs.Index.{AreRows, HasLine, end_of, row_text}
+use Rattle.repozo.specs.declared.index.TheConstants.{MAX_PIECES}
 use Rattle.repozo.proofs.RowLines.{line_long, texts_more}
 use Rattle.repozo.proofs.Whole.{rows_more}
 use Rattle.repozo.proofs.reading.read_index.Goals as goal
@@ -11,7 +12,7 @@ reading-preserved c =
     let next : c.reading.rest.now ≡ row_text c.in-Ok.row ++ c.in-Ok.others.now = search rules in
     let line : HasLine c.in-Ok.row = search rules in
     let start : c.in-Ok.row.start ≡ end_of c.reading.rows = search rules in
-    let room : length c.reading.rows < 100 = search rules in
+    let room : length c.reading.rows < MAX_PIECES = search rules in
     let pushed : c.push.new.self ≡ c.reading.rows ++ c.in-Ok.row ∷ [] = search rules in
     let long = ap length pushed ∙ length-append c.reading.rows (c.in-Ok.row ∷ []) in
     let shorter = line_long c.in-Ok.row c.reading.rest.now c.in-Ok.others.now next in
