@@ -8,7 +8,7 @@ use Rattle.http_in.specs.Ends.{empty_line, from, head_end, lf_behind, or_later}
 use Rattle.http_in.specs.EndLaws.{passes_text}
 use Rattle.http_in.specs.Inside.{IsPassed, IsQuiet, IsShort}
 use Rattle.http_in.specs.MessageLaws.{none_yet}
-use Rattle.http_in.specs.Messages.{asked}
+use Rattle.http_in.specs.Messages.{asked, most_head}
 
 none_asked : (bytes : List ℕ) → length bytes ≤ 0 → asked bytes ≡ None
 unfolding asked
@@ -74,7 +74,7 @@ none_more (b ∷ bytes) more none all = more_at b bytes more (λ e. none_more by
 -- in a head that may go on, until it is too long
 pub quiet_head : (rest : List ℕ) → head_end rest ≡ None → IsQuiet 16383 rest
 quiet_head rest none more all few =
-    none_yet (rest ++ more) (ap head_end (take_all 16384 (rest ++ more) (omega (arith, few))) ∙ none_more rest more none all) (omega (arith, few))
+    none_yet (rest ++ more) (ap head_end (take_all most_head (rest ++ more) (omega (arith, few))) ∙ none_more rest more none all) (omega (arith, few))
 
 -- before the message's last byte
 pub quiet_short : (rest : List ℕ) (wanted : ℕ) → 0 < wanted → IsShort wanted rest → IsQuiet (wanted - 1) rest

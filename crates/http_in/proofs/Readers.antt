@@ -4,7 +4,7 @@ use Rattle.std.specs.Prelude.{OnOk, OnErr}
 use Rattle.std.proofs.lemmas.List.{drop-append-le, drop-drop, take-append-le}
 use Rattle.http_in.specs.EndLaws.{passes_none}
 use Rattle.http_in.specs.Inside.{IsPassed, IsQuiet, IsShort, Keeps}
-use Rattle.http_in.specs.Messages.{asked}
+use Rattle.http_in.specs.Messages.{asked, most_message}
 use Rattle.http_in.specs.SizeLaws.{long_enough}
 use Rattle.http_in.proofs.Quiet.{quiet_less, quiet_none, quiet_byte}
 
@@ -34,7 +34,7 @@ rest_moved bytes piece last to ordered within =
     drop-append-le last (drop (to - last) bytes) piece (omega (arith, within, ordered, length-drop (to - last) bytes))
     ∙ ap (λ (l : List ℕ). l ++ piece) (drop-drop last (to - last) bytes ∙ ap (λ n. drop n bytes) front)
 
-pub keeps_next : (bytes : List ℕ) (last to clean wanted quiet room n : ℕ) → Keeps bytes last to clean wanted quiet room → n ≤ length (drop to bytes) → n ≤ 1064960 → Keeps bytes n (to + n) 0 0 0 room
+pub keeps_next : (bytes : List ℕ) (last to clean wanted quiet room n : ℕ) → Keeps bytes last to clean wanted quiet room → n ≤ length (drop to bytes) → n ≤ most_message → Keeps bytes n (to + n) 0 0 0 room
 keeps_next bytes last to clean wanted quiet room n kept within small = record {
   ordered = omega arith;
   within = omega (arith, within, length-drop to bytes, kept.within);
@@ -118,7 +118,7 @@ rest_fed (Err e) bytes piece new last to ordered within ok = tt
 
 -- ---- how much is kept
 
-pub most_byte : (bytes : List ℕ) (last to b size : ℕ) → to ≤ last → to ≤ length bytes → 0 < size → asked (drop to bytes) ≡ None → last ≤ to → length (bytes ++ b ∷ []) < length (take last (drop (to - last) (bytes ++ b ∷ []))) + 1064960 + size
+pub most_byte : (bytes : List ℕ) (last to b size : ℕ) → to ≤ last → to ≤ length bytes → 0 < size → asked (drop to bytes) ≡ None → last ≤ to → length (bytes ++ b ∷ []) < length (take last (drop (to - last) (bytes ++ b ∷ []))) + most_message + size
 most_byte bytes last to b size front within some none ordered =
     let new = bytes ++ b ∷ [] in
     let long = length-append bytes (b ∷ []) in

@@ -10,7 +10,7 @@ use Rattle.http_in.specs.declared.message.Request.{Request}
 use Rattle.http_in.specs.Ends.{head_end, from}
 use Rattle.http_in.specs.Inside.{IsPassed}
 use Rattle.http_in.specs.EndLaws.{end_stands, end_goes_on, end_in_front}
-use Rattle.http_in.specs.Messages.{asked, asked_at, judged, message_behind, with_body}
+use Rattle.http_in.specs.Messages.{asked, asked_at, judged, message_behind, most_head, with_body}
 
 abbrev length_of : Option (Message × ℕ) → ℕ
 length_of None = 0
@@ -31,15 +31,15 @@ front_more n bytes more = go (ltb (length bytes) n) refl
         let long : n ≤ length bytes = grind (arith, nat_tests) in
         ([], take-append-le n bytes more long ∙ sym (append-nil (take n bytes)))
 
-pub head_same : (bytes more : List ℕ) (end : ℕ) → head_end (take 16384 bytes) ≡ Some end → head_end (take 16384 (bytes ++ more)) ≡ Some end
+pub head_same : (bytes more : List ℕ) (end : ℕ) → head_end (take most_head bytes) ≡ Some end → head_end (take most_head (bytes ++ more)) ≡ Some end
 head_same bytes more end is =
-    let x = front_more 16384 bytes more in
-    ap head_end x.1 ∙ end_goes_on (take 16384 bytes) x.0 end is
+    let x = front_more most_head bytes more in
+    ap head_end x.1 ∙ end_goes_on (take most_head bytes) x.0 end is
 
-pub head_fits : (bytes : List ℕ) (end : ℕ) → head_end (take 16384 bytes) ≡ Some end → (2 ≤ end) × (end ≤ 16384) × (end ≤ length bytes)
+pub head_fits : (bytes : List ℕ) (end : ℕ) → head_end (take most_head bytes) ≡ Some end → (2 ≤ end) × (end ≤ most_head) × (end ≤ length bytes)
 head_fits bytes end is =
-    let e = end_stands (take 16384 bytes) end is in
-    let n = length-take 16384 bytes in
+    let e = end_stands (take most_head bytes) end is in
+    let n = length-take most_head bytes in
     (e.least, omega (arith, e.within, n), omega (arith, e.within, n))
 
 behind_stays : (end : ℕ) (bytes more : List ℕ) (r : Result (Request × ℕ) HttpRefusal) (x : Message × ℕ) → end ≤ length bytes → message_behind end bytes r ≡ Some x → message_behind end (bytes ++ more) r ≡ Some x
@@ -57,17 +57,17 @@ behind_stays end bytes more (Ok y) x within is = go (nat_lt (length bytes) (end 
 
 pub asked_stays : (bytes more : List ℕ) (x : Message × ℕ) → asked bytes ≡ Some x → asked (bytes ++ more) ≡ Some x
 unfolding asked
-asked_stays bytes more x is = go (head_end (take 16384 bytes)) refl is
+asked_stays bytes more x is = go (head_end (take most_head bytes)) refl is
   where
-    far : (t : Bool) → nat_lt (length bytes) 16384 ≡ t → head_end (take 16384 bytes) ≡ None → (if t then None else Some (Message.Refused HttpRefusal.HeadTooLarge, 16384)) ≡ Some x → asked_at (bytes ++ more) (head_end (take 16384 (bytes ++ more))) ≡ Some x
+    far : (t : Bool) → nat_lt (length bytes) most_head ≡ t → head_end (take most_head bytes) ≡ None → (if t then None else Some (Message.Refused HttpRefusal.HeadTooLarge, most_head)) ≡ Some x → asked_at (bytes ++ more) (head_end (take most_head (bytes ++ more))) ≡ Some x
     far true t none e = cc
     far false t none e =
-        let room : 16384 ≤ length bytes = grind (arith, nat_tests) in
-        let long : nat_lt (length (bytes ++ more)) 16384 ≡ false = rw (length-append bytes more) (grind (arith, nat_tests)) in
-        rw (take-append-le 16384 bytes more room, none, long) e
+        let room : most_head ≤ length bytes = grind (arith, nat_tests) in
+        let long : nat_lt (length (bytes ++ more)) most_head ≡ false = rw (length-append bytes more) (grind (arith, nat_tests)) in
+        rw (take-append-le most_head bytes more room, none, long) e
 
-    go : (o : Option ℕ) → head_end (take 16384 bytes) ≡ o → asked_at bytes o ≡ Some x → asked_at (bytes ++ more) (head_end (take 16384 (bytes ++ more))) ≡ Some x
-    go None none e = far (nat_lt (length bytes) 16384) refl none e
+    go : (o : Option ℕ) → head_end (take most_head bytes) ≡ o → asked_at bytes o ≡ Some x → asked_at (bytes ++ more) (head_end (take most_head (bytes ++ more))) ≡ Some x
+    go None none e = far (nat_lt (length bytes) most_head) refl none e
     go (Some end) found e =
         let within = head_fits bytes end found in
         rw (head_same bytes more end found, take-append-le end bytes more within.2) (behind_stays end bytes more (judged (take end bytes)) x within.2 e)
@@ -89,40 +89,40 @@ behind_within end bytes (Ok y) x least within is = go (nat_lt (length bytes) (en
 
 pub asked_within : (bytes : List ℕ) (x : Message × ℕ) → asked bytes ≡ Some x → (0 < x.1) × (x.1 ≤ length bytes)
 unfolding asked
-asked_within bytes x is = go (head_end (take 16384 bytes)) refl is
+asked_within bytes x is = go (head_end (take most_head bytes)) refl is
   where
-    far : (t : Bool) → nat_lt (length bytes) 16384 ≡ t → (if t then None else Some (Message.Refused HttpRefusal.HeadTooLarge, 16384)) ≡ Some x → (0 < x.1) × (x.1 ≤ length bytes)
+    far : (t : Bool) → nat_lt (length bytes) most_head ≡ t → (if t then None else Some (Message.Refused HttpRefusal.HeadTooLarge, most_head)) ≡ Some x → (0 < x.1) × (x.1 ≤ length bytes)
     far true t e = cc
     far false t e =
-        let room : 16384 ≤ length bytes = grind (arith, nat_tests) in
-        let same : 16384 ≡ x.1 = ap (λ (o : Option (Message × ℕ)). length_of o) e in
+        let room : most_head ≤ length bytes = grind (arith, nat_tests) in
+        let same : most_head ≡ x.1 = ap (λ (o : Option (Message × ℕ)). length_of o) e in
         (omega (arith, same), omega (arith, same, room))
 
-    go : (o : Option ℕ) → head_end (take 16384 bytes) ≡ o → asked_at bytes o ≡ Some x → (0 < x.1) × (x.1 ≤ length bytes)
-    go None none e = far (nat_lt (length bytes) 16384) refl e
+    go : (o : Option ℕ) → head_end (take most_head bytes) ≡ o → asked_at bytes o ≡ Some x → (0 < x.1) × (x.1 ≤ length bytes)
+    go None none e = far (nat_lt (length bytes) most_head) refl e
     go (Some end) found e =
         let w = head_fits bytes end found in
         behind_within end bytes (judged (take end bytes)) x w.0 w.2 e
 
 -- ---- what stands behind a head
 
-pub refused_behind : (bytes : List ℕ) (end : ℕ) (cause : HttpRefusal) → head_end (take 16384 bytes) ≡ Some end → judged (take end bytes) ≡ Err cause → asked bytes ≡ Some (Message.Refused cause, end)
+pub refused_behind : (bytes : List ℕ) (end : ℕ) (cause : HttpRefusal) → head_end (take most_head bytes) ≡ Some end → judged (take end bytes) ≡ Err cause → asked bytes ≡ Some (Message.Refused cause, end)
 unfolding asked
 refused_behind bytes end cause found is = rw (found, is) refl
 
-pub whole_behind : (bytes : List ℕ) (end size : ℕ) (q : Request) → head_end (take 16384 bytes) ≡ Some end → judged (take end bytes) ≡ Ok (q, size) → end + size ≤ length bytes → asked bytes ≡ Some (Message.Whole (with_body q (take size (drop end bytes))), end + size)
+pub whole_behind : (bytes : List ℕ) (end size : ℕ) (q : Request) → head_end (take most_head bytes) ≡ Some end → judged (take end bytes) ≡ Ok (q, size) → end + size ≤ length bytes → asked bytes ≡ Some (Message.Whole (with_body q (take size (drop end bytes))), end + size)
 unfolding asked
 whole_behind bytes end size q found is room =
     let long : nat_lt (length bytes) (end + size) ≡ false = grind (arith, nat_tests) in
     rw (found, is, long) refl
 
-pub waits_behind : (bytes : List ℕ) (end size : ℕ) (q : Request) → head_end (take 16384 bytes) ≡ Some end → judged (take end bytes) ≡ Ok (q, size) → length bytes < end + size → asked bytes ≡ None
+pub waits_behind : (bytes : List ℕ) (end size : ℕ) (q : Request) → head_end (take most_head bytes) ≡ Some end → judged (take end bytes) ≡ Ok (q, size) → length bytes < end + size → asked bytes ≡ None
 unfolding asked
 waits_behind bytes end size q found is short =
     let long : nat_lt (length bytes) (end + size) ≡ true = grind (arith, nat_tests) in
     rw (found, is, long) refl
 
-pub short_behind : (bytes : List ℕ) (end size : ℕ) (q : Request) → head_end (take 16384 bytes) ≡ Some end → judged (take end bytes) ≡ Ok (q, size) → (more : List ℕ) → length (bytes ++ more) < end + size → asked (bytes ++ more) ≡ None
+pub short_behind : (bytes : List ℕ) (end size : ℕ) (q : Request) → head_end (take most_head bytes) ≡ Some end → judged (take end bytes) ≡ Ok (q, size) → (more : List ℕ) → length (bytes ++ more) < end + size → asked (bytes ++ more) ≡ None
 short_behind bytes end size q found is more short =
     let w = head_fits bytes end found in
     let same : judged (take end (bytes ++ more)) ≡ Ok (q, size) = ap judged (take-append-le end bytes more w.2) ∙ is in
@@ -130,50 +130,50 @@ short_behind bytes end size q found is more short =
 
 -- ---- no end of a head
 
-pub none_yet : (bytes : List ℕ) → head_end (take 16384 bytes) ≡ None → length bytes < 16384 → asked bytes ≡ None
+pub none_yet : (bytes : List ℕ) → head_end (take most_head bytes) ≡ None → length bytes < most_head → asked bytes ≡ None
 unfolding asked
 none_yet bytes none short =
-    let few : nat_lt (length bytes) 16384 ≡ true = grind (arith, nat_tests) in
+    let few : nat_lt (length bytes) most_head ≡ true = grind (arith, nat_tests) in
     rw (none, few) refl
 
-pub too_large : (bytes : List ℕ) → head_end (take 16384 bytes) ≡ None → 16384 ≤ length bytes → asked bytes ≡ Some (Message.Refused HttpRefusal.HeadTooLarge, 16384)
+pub too_large : (bytes : List ℕ) → head_end (take most_head bytes) ≡ None → most_head ≤ length bytes → asked bytes ≡ Some (Message.Refused HttpRefusal.HeadTooLarge, most_head)
 unfolding asked
 too_large bytes none long =
-    let many : nat_lt (length bytes) 16384 ≡ false = grind (arith, nat_tests) in
+    let many : nat_lt (length bytes) most_head ≡ false = grind (arith, nat_tests) in
     rw (none, many) refl
 
 -- ---- a search that goes on behind bytes that are passed
 
 abbrev window : List ℕ → List ℕ
-window bytes = take 16384 bytes
+window bytes = take most_head bytes
 
-passed_front : (bytes : List ℕ) (clean : ℕ) → clean ≤ 16384 → clean ≤ length bytes → IsPassed (take clean bytes) → head_end (window bytes) ≡ from clean (head_end (drop clean (window bytes)))
+passed_front : (bytes : List ℕ) (clean : ℕ) → clean ≤ most_head → clean ≤ length bytes → IsPassed (take clean bytes) → head_end (window bytes) ≡ from clean (head_end (drop clean (window bytes)))
 passed_front bytes clean most within passed =
-    let front : take clean (window bytes) ≡ take clean bytes = take-take clean 16384 bytes most in
+    let front : take clean (window bytes) ≡ take clean bytes = take-take clean most_head bytes most in
     let split : window bytes ≡ take clean bytes ++ drop clean (window bytes) = sym (take-append-drop clean (window bytes)) ∙ ap (λ (f : List ℕ). f ++ drop clean (window bytes)) front in
     ap head_end split ∙ passed (drop clean (window bytes)) ∙ ap (λ n. from n (head_end (drop clean (window bytes)))) (length-take-le clean bytes within)
 
-pub end_behind : (bytes : List ℕ) (clean end : ℕ) → clean ≤ 16384 → clean ≤ length bytes → IsPassed (take clean bytes) → head_end (drop clean (take 16384 bytes)) ≡ Some end → head_end (take 16384 bytes) ≡ Some (clean + end)
+pub end_behind : (bytes : List ℕ) (clean end : ℕ) → clean ≤ most_head → clean ≤ length bytes → IsPassed (take clean bytes) → head_end (drop clean (take most_head bytes)) ≡ Some end → head_end (take most_head bytes) ≡ Some (clean + end)
 end_behind bytes clean end most within passed found = passed_front bytes clean most within passed ∙ ap (from clean) found
 
-pub none_behind : (bytes : List ℕ) (clean : ℕ) → clean ≤ 16384 → clean ≤ length bytes → IsPassed (take clean bytes) → head_end (drop clean (take 16384 bytes)) ≡ None → head_end (take 16384 bytes) ≡ None
+pub none_behind : (bytes : List ℕ) (clean : ℕ) → clean ≤ most_head → clean ≤ length bytes → IsPassed (take clean bytes) → head_end (drop clean (take most_head bytes)) ≡ None → head_end (take most_head bytes) ≡ None
 none_behind bytes clean most within passed found = passed_front bytes clean most within passed ∙ ap (from clean) found
 
 -- ---- a message is that one, with nothing behind it
 
-cut_window : (bytes : List ℕ) (end n : ℕ) → head_end (take 16384 bytes) ≡ Some end → end ≤ n → head_end (take 16384 (take n bytes)) ≡ Some end
-cut_window bytes end n found within = go (ltb 16384 n) refl
+cut_window : (bytes : List ℕ) (end n : ℕ) → head_end (take most_head bytes) ≡ Some end → end ≤ n → head_end (take most_head (take n bytes)) ≡ Some end
+cut_window bytes end n found within = go (ltb most_head n) refl
   where
-    go : (t : Bool) → ltb 16384 n ≡ t → head_end (take 16384 (take n bytes)) ≡ Some end
+    go : (t : Bool) → ltb most_head n ≡ t → head_end (take most_head (take n bytes)) ≡ Some end
     go true is =
-        let more : 16384 ≤ n = grind (arith, nat_tests) in
-        ap head_end (take-take 16384 n bytes more) ∙ found
+        let more : most_head ≤ n = grind (arith, nat_tests) in
+        ap head_end (take-take most_head n bytes more) ∙ found
     go false is =
-        let few : n ≤ 16384 = grind (arith, nat_tests) in
-        let small : length (take n bytes) ≤ 16384 = omega (arith, length-take n bytes, few) in
-        ap head_end (take_all 16384 (take n bytes) small ∙ sym (take-take n 16384 bytes few)) ∙ end_in_front (take 16384 bytes) end n found within
+        let few : n ≤ most_head = grind (arith, nat_tests) in
+        let small : length (take n bytes) ≤ most_head = omega (arith, length-take n bytes, few) in
+        ap head_end (take_all most_head (take n bytes) small ∙ sym (take-take n most_head bytes few)) ∙ end_in_front (take most_head bytes) end n found within
 
-exact_behind : (bytes : List ℕ) (end : ℕ) (r : Result (Request × ℕ) HttpRefusal) (x : Message × ℕ) → head_end (take 16384 bytes) ≡ Some end → end ≤ length bytes → judged (take end bytes) ≡ r → message_behind end bytes r ≡ Some x → asked (take x.1 bytes) ≡ Some x
+exact_behind : (bytes : List ℕ) (end : ℕ) (r : Result (Request × ℕ) HttpRefusal) (x : Message × ℕ) → head_end (take most_head bytes) ≡ Some end → end ≤ length bytes → judged (take end bytes) ≡ r → message_behind end bytes r ≡ Some x → asked (take x.1 bytes) ≡ Some x
 exact_behind bytes end (Err cause) x found within is e =
     let same : end ≡ x.1 = ap (λ (o : Option (Message × ℕ)). length_of o) e in
     let again : asked (take end bytes) ≡ Some (Message.Refused cause, end) = refused_behind (take end bytes) end cause (cut_window bytes end end found (omega arith)) (ap judged (take-take end end bytes (omega arith)) ∙ is) in
@@ -192,17 +192,17 @@ exact_behind bytes end (Ok y) x found within is e = go (nat_lt (length bytes) (e
 
 pub asked_exact : (bytes : List ℕ) (x : Message × ℕ) → asked bytes ≡ Some x → asked (take x.1 bytes) ≡ Some x
 unfolding asked
-asked_exact bytes x is = go (head_end (take 16384 bytes)) refl is
+asked_exact bytes x is = go (head_end (take most_head bytes)) refl is
   where
-    far : (t : Bool) → nat_lt (length bytes) 16384 ≡ t → head_end (take 16384 bytes) ≡ None → (if t then None else Some (Message.Refused HttpRefusal.HeadTooLarge, 16384)) ≡ Some x → asked (take x.1 bytes) ≡ Some x
+    far : (t : Bool) → nat_lt (length bytes) most_head ≡ t → head_end (take most_head bytes) ≡ None → (if t then None else Some (Message.Refused HttpRefusal.HeadTooLarge, most_head)) ≡ Some x → asked (take x.1 bytes) ≡ Some x
     far true t none e = cc
     far false t none e =
-        let room : 16384 ≤ length bytes = grind (arith, nat_tests) in
-        let same : 16384 ≡ x.1 = ap (λ (o : Option (Message × ℕ)). length_of o) e in
-        let size : 16384 ≤ length (take 16384 bytes) = omega (arith, length-take-le 16384 bytes room) in
-        let again : asked (take 16384 bytes) ≡ Some (Message.Refused HttpRefusal.HeadTooLarge, 16384) = too_large (take 16384 bytes) (ap head_end (take-take 16384 16384 bytes (omega arith)) ∙ none) size in
+        let room : most_head ≤ length bytes = grind (arith, nat_tests) in
+        let same : most_head ≡ x.1 = ap (λ (o : Option (Message × ℕ)). length_of o) e in
+        let size : most_head ≤ length (take most_head bytes) = omega (arith, length-take-le most_head bytes room) in
+        let again : asked (take most_head bytes) ≡ Some (Message.Refused HttpRefusal.HeadTooLarge, most_head) = too_large (take most_head bytes) (ap head_end (take-take most_head most_head bytes (omega arith)) ∙ none) size in
         ap (λ n. asked (take n bytes)) (sym same) ∙ again ∙ e
 
-    go : (o : Option ℕ) → head_end (take 16384 bytes) ≡ o → asked_at bytes o ≡ Some x → asked (take x.1 bytes) ≡ Some x
-    go None none e = far (nat_lt (length bytes) 16384) refl none e
+    go : (o : Option ℕ) → head_end (take most_head bytes) ≡ o → asked_at bytes o ≡ Some x → asked (take x.1 bytes) ≡ Some x
+    go None none e = far (nat_lt (length bytes) most_head) refl none e
     go (Some end) found e = exact_behind bytes end (judged (take end bytes)) x found (head_fits bytes end found).2 refl e

@@ -32,11 +32,11 @@ fn count_lines(head: &[u8]) -> usize
 
 /// Where the parts of a head are, none where the bytes are no head, or one of too many lines.
 fn parts_of(head: &[u8], spans: &mut [HeaderSpan]) -> Option<RequestSpans>
-    requires { length spans.old ≡ 64 }
+    requires { length spans.old ≡ messages.most_lines }
     ensures within { IfSome result (IsRequestWithin head.now spans.new) }
     ensures some { IfSome result (HasParts head.now spans.new) }
-    ensures few { IfSome result (λ found. begins_with_text head.now ≡ true → header_lines head.now ≤ 64) }
-    ensures none { IfNone result (header_lines head.now ≤ 64 → head_of head.now ≡ None) }
+    ensures few { IfSome result (λ found. begins_with_text head.now ≡ true → header_lines head.now ≤ messages.most_lines) }
+    ensures none { IfNone result (header_lines head.now ≤ messages.most_lines → head_of head.now ≡ None) }
 {
     match parse_request(head, spans) {
         Ok(Status::Complete(found)) => {
@@ -63,8 +63,8 @@ fn begins_with_text(head: &[u8]) -> bool
 /// Where its parts were found it has a line for each header, and one for each empty line before it. So the lines are
 /// counted only where there are such lines, or no parts.
 fn has_many_lines(head: &[u8], found: Option<RequestSpans>) -> bool
-    requires { IfSome found (λ parts. begins_with_text head.now ≡ true → header_lines head.now ≤ 64) }
-    ensures { result ≡ nat_lt 64 (header_lines head.now) }
+    requires { IfSome found (λ parts. begins_with_text head.now ≡ true → header_lines head.now ≤ messages.most_lines) }
+    ensures { result ≡ nat_lt messages.most_lines (header_lines head.now) }
 {
     if found.is_some() && begins_with_text(head) {
         false
@@ -138,7 +138,7 @@ fn request_of(
     headers: Headers,
 ) -> Result<(Request, usize), HeadError>
     ensures is { Gives result (messages.request_of method.now target.now headers) }
-    ensures small { IfOk result (λ x. x.1 ≤ 1048576) }
+    ensures small { IfOk result (λ x. x.1 ≤ messages.most_body) }
 {
     let Some(path) = path_in(alloc, target)? else {
         return Err(HeadError::Refused(HttpRefusal::BadHead));
@@ -179,7 +179,7 @@ fn request_of(
 #[tactic(auto, unfolding(crate::specs::Messages::judged))]
 pub(crate) fn judge(alloc: Global, head: &[u8]) -> Result<(Request, usize), HeadError>
     ensures is { Gives result (messages.judged head.now) }
-    ensures small { IfOk result (λ x. x.1 ≤ 1048576) }
+    ensures small { IfOk result (λ x. x.1 ≤ messages.most_body) }
 {
     let mut spans = [EMPTY_HEADER_SPAN; MOST_LINES];
     let found = parts_of(head, spans.as_mut_slice());

@@ -25,8 +25,8 @@ pub(crate) enum Looked {
 /// A request whose head ends at this place, with its body.
 fn with_body(request: Request, bytes: &[u8], end: usize, size: usize) -> Result<Looked, Memory>
     requires within { end ≤ length bytes.now }
-    requires fits { end + size ≤ 1064960 }
-    requires end { head_end (take 16384 bytes.now) ≡ Some end }
+    requires fits { end + size ≤ messages.most_message }
+    requires end { head_end (take messages.most_head bytes.now) ≡ Some end }
     requires judged { messages.judged (take end bytes.now) ≡ Ok (request, size) }
     ensures { IfOk result (λ look. IsLook bytes.now (looked_by look)) }
 {
@@ -42,7 +42,7 @@ fn with_body(request: Request, bytes: &[u8], end: usize, size: usize) -> Result<
 
 /// The message whose head ends at this place.
 fn behind_head(alloc: Global, bytes: &[u8], end: usize) -> Result<Looked, Memory>
-    requires end { head_end (take 16384 bytes.now) ≡ Some end }
+    requires end { head_end (take messages.most_head bytes.now) ≡ Some end }
     ensures { IfOk result (λ look. IsLook bytes.now (looked_by look)) }
 {
     match judge(alloc, bytes.split_at(end).0) {
@@ -54,7 +54,7 @@ fn behind_head(alloc: Global, bytes: &[u8], end: usize) -> Result<Looked, Memory
 
 /// The bytes in which a head must end.
 fn window_of(bytes: &[u8]) -> &[u8]
-    ensures { result.now ≡ take 16384 bytes.now }
+    ensures { result.now ≡ take messages.most_head bytes.now }
 {
     if bytes.len() > MOST_HEAD {
         bytes.split_at(MOST_HEAD).0
@@ -76,7 +76,7 @@ pub(crate) fn look(
     wanted: usize,
 ) -> Result<Looked, Memory>
     requires within { clean ≤ length bytes.now }
-    requires most { clean ≤ 16384 }
+    requires most { clean ≤ messages.most_head }
     requires passed { IsPassed (take clean bytes.now) }
     requires short { IsShort wanted bytes.now }
     ensures { IfOk result (λ look. IsLook bytes.now (looked_by look)) }

@@ -5,6 +5,7 @@ use Rattle.http_in.specs.Inside.{IsPassed}
 use Rattle.http_in.specs.EndLaws.{end_stands, passed_on}
 use Rattle.http_in.specs.MessageLaws.{end_behind, none_behind, none_yet, too_large}
 use Rattle.http_in.proofs.Quiet.{quiet_head}
+use Rattle.http_in.specs.Messages.{most_head}
 use Rattle.http_in.proofs.look.look.Goals as goal
 
 pub overflow_add-clean : goal.overflow_add-clean
@@ -12,15 +13,15 @@ overflow_add-clean c = omega (arith, (end_stands c.split_at.result.1.now c.in-En
 
 pub behind_head-requires : goal.behind_head-requires
 behind_head-requires c =
-    let found : head_end (drop c.args.clean (take 16384 c.args.bytes.now)) ≡ Some c.in-Ends.end = ap head_end (sym (c.split_at.ensures.back ∙ ap (drop c.args.clean) c.window_of-window.ensures)) ∙ c.in-Ends.ensures in
+    let found : head_end (drop c.args.clean (take most_head c.args.bytes.now)) ≡ Some c.in-Ends.end = ap head_end (sym (c.split_at.ensures.back ∙ ap (drop c.args.clean) c.window_of-window.ensures)) ∙ c.in-Ends.ensures in
     record { end = end_behind c.args.bytes.now c.args.clean c.in-Ends.end c.requires.most c.requires.within c.requires.passed found }
 
 pub returns-then-bytes-lt-MOST_HEAD : goal.returns-then-bytes-lt-MOST_HEAD
 returns-then-bytes-lt-MOST_HEAD c =
-    let all : take 16384 c.args.bytes.now ≡ c.args.bytes.now = take_all 16384 c.args.bytes.now (omega arith) in
+    let all : take most_head c.args.bytes.now ≡ c.args.bytes.now = take_all most_head c.args.bytes.now (omega arith) in
     let window : c.window_of-window.result.now ≡ c.args.bytes.now = c.window_of-window.ensures ∙ all in
     let back : c.split_at.result.1.now ≡ drop c.args.clean c.args.bytes.now = c.split_at.ensures.back ∙ ap (drop c.args.clean) window in
-    let found : head_end (drop c.args.clean (take 16384 c.args.bytes.now)) ≡ None = ap head_end (sym (c.split_at.ensures.back ∙ ap (drop c.args.clean) c.window_of-window.ensures)) ∙ c.in-Goes.ensures.0 in
+    let found : head_end (drop c.args.clean (take most_head c.args.bytes.now)) ≡ None = ap head_end (sym (c.split_at.ensures.back ∙ ap (drop c.args.clean) c.window_of-window.ensures)) ∙ c.in-Goes.ensures.0 in
     let size : c.in-Goes.more ≤ length (drop c.args.clean c.args.bytes.now) = rw (← back) c.in-Goes.ensures.1 in
     let sum = length-drop c.args.clean c.args.bytes.now in (
       none_yet c.args.bytes.now (none_behind c.args.bytes.now c.args.clean c.requires.most c.requires.within c.requires.passed found) c.if-bytes-lt-MOST_HEAD.true,
@@ -32,8 +33,8 @@ returns-then-bytes-lt-MOST_HEAD c =
 
 pub returns-else-bytes-lt-MOST_HEAD : goal.returns-else-bytes-lt-MOST_HEAD
 returns-else-bytes-lt-MOST_HEAD c =
-    let found : head_end (drop c.args.clean (take 16384 c.args.bytes.now)) ≡ None = ap head_end (sym (c.split_at.ensures.back ∙ ap (drop c.args.clean) c.window_of-window.ensures)) ∙ c.in-Goes.ensures.0 in
+    let found : head_end (drop c.args.clean (take most_head c.args.bytes.now)) ≡ None = ap head_end (sym (c.split_at.ensures.back ∙ ap (drop c.args.clean) c.window_of-window.ensures)) ∙ c.in-Goes.ensures.0 in
     too_large c.args.bytes.now (none_behind c.args.bytes.now c.args.clean c.requires.most c.requires.within c.requires.passed found) c.if-bytes-lt-MOST_HEAD.false
 
 pub split_at-requires : goal.split_at-requires
-split_at-requires c = rw c.window_of-window.ensures (omega (arith, length-take 16384 c.args.bytes.now, c.requires.within, c.requires.most))
+split_at-requires c = rw c.window_of-window.ensures (omega (arith, length-take most_head c.args.bytes.now, c.requires.within, c.requires.most))
