@@ -1,12 +1,10 @@
 -- An edited object keeps the rules of objects.
-use Rattle.std.proofs.Common.{◌≡◌, ◌∙◌, ℕ, ◌≤◌, ◌<◌, ◌&&◌, Bool, true, false, List, [], ◌∷◌, ◌++◌, length, Option, Some, None, Result, Ok, Err, refl, sym, subst, ap, arith, nat_lt, nat_le, if◌then◌else◌}
-use Rattle.std.specs.Str.{is_utf8}
+use Rattle.std.proofs.Common.{◌≡◌, ℕ, ◌≤◌, ◌<◌, Bool, true, false, List, length, Option, Some, None, Result, Ok, Err, refl, sym, subst, arith, nat_lt, if◌then◌else◌}
 use Rattle.std.proofs.lemmas.Bool.Decides.{nat_tests}
 use Rattle.dtml_lex.specs.declared.refusal.DtmlRefusal.{DtmlRefusal}
 use Rattle.dtml_parse.specs.TreeReading.{template}
 use Rattle.form_fields.specs.declared.field.Field.{Field}
 use Rattle.form_fields.specs.declared.field.FieldValue.{FieldValue}
-use Rattle.form_fields.specs.declared.field.FieldValue.TheVariants as values
 use Rattle.zobject.specs.declared.object.Object.{Object}
 use Rattle.zobject.specs.declared.object.Part2.{Part2}
 use Rattle.zobject.specs.declared.object.Part2.TheVariants as parts
@@ -16,20 +14,16 @@ use Rattle.zobject.specs.Changes.{with_part, with_title}
 use Rattle.zobject.specs.Rules.{IsObject, Keeps}
 use Rattle.zobject.specs.Texts.{keeps}
 use Rattle.zcodec.specs.Record.{Spells, record_text}
-use Rattle.evaluator.specs.declared.draft.Entry.{Entry}
-use Rattle.evaluator.specs.declared.draft.Name.{Name}
-use Rattle.manage.specs.declared.call.Call.{Call}
 use Rattle.manage.specs.declared.call.Call.TheVariants as call
 use Rattle.manage.specs.declared.changes.Change.{Change}
+use Rattle.manage.specs.declared.editing.Page.TheVariants as pages
 use Rattle.manage.specs.declared.editing.PageEdit.{PageEdit}
 use Rattle.manage.specs.declared.refusal.FieldName.{FieldName}
 use Rattle.manage.specs.declared.refusal.FieldName.TheVariants as names
-use Rattle.manage.specs.declared.refusal.ManageRefusal.{ManageRefusal}
 use Rattle.manage.specs.declared.refusal.ManageRefusal.TheVariants as refusals
 use Rattle.manage.specs.declared.rule.FieldRule.{FieldRule}
 use Rattle.manage.specs.declared.rule.FieldRule.TheVariants as rule
-use Rattle.manage.specs.Changing.{changed}
-use Rattle.manage.specs.Edits.{edit_written, edited, edited_part, page_edit, title_or, where_read, written}
+use Rattle.manage.specs.Edits.{edit_written, edited, edited_page, edited_part, page_edit, page_part, title_or, where_read, written}
 use Rattle.manage.specs.Fields.{Checked, ◌>>=◌, if_there, lawful_text, most_bytes, is_like, of_object, one_text, optional, required, value_of, where_kept, where_there}
 use Rattle.manage.specs.Laws.{EditsKeepRules, WriteRecords, WritesRecord}
 
@@ -119,15 +113,15 @@ module _ (titles : (o : Object) (title : List ℕ) → IsObject o → Keeps Titl
   titled o (Some title) is keeps = titles o title is keeps
 
   page : (o new : Object) (part : List ℕ → Part2) (fields : List Field) → ((source : List ℕ) → Keeps Source source → IsObject (with_part (part source) o))
-      → (page_edit fields >>= λ edit. Ok (with_title (title_or o.title edit.title) (with_part (part edit.source) o))) ≡ Ok new → IsObject new
+      → edited_page part o fields ≡ Ok new → IsObject new
   page o new part fields sourced e =
       let t = two (page_edit fields) _ new e in
       let edit = page_is fields t.0 t.1 in
       subst IsObject (ok_is t.2) (titled (with_part (part t.0.source) o) t.0.title (sourced t.0.source edit.0) edit.1)
 
   of_part : (o new : Object) (part : Part2) (fields : List Field) → IsObject o → o.part ≡ part → edited_part part o fields ≡ Ok new → IsObject new
-  of_part o new (parts.Method source proxy) fields is has e = page o new (λ s. parts.Method s proxy) fields (λ s keeps. methods o source s proxy is has keeps) e
-  of_part o new (parts.Document source proxy) fields is has e = page o new (λ s. parts.Document s proxy) fields (λ s keeps. documents o source s proxy is has keeps) e
+  of_part o new (parts.Method source proxy) fields is has e = page o new (page_part pages.Method proxy) fields (λ s keeps. methods o source s proxy is has keeps) e
+  of_part o new (parts.Document source proxy) fields is has e = page o new (page_part pages.Document proxy) fields (λ s keeps. documents o source s proxy is has keeps) e
   of_part o new (parts.Folder children) fields is has e =
       let t = two (required names.Title rule.Title fields) _ new e in
       let keeps = there names.Title rule.Title (value_of names.Title fields) t.0 t.1 in

@@ -1,5 +1,5 @@
 -- A source that is a template, and one that is none.
-use Rattle.std.proofs.Common.{◌≡◌, ◌≤◌, ℕ, List, length, Ok, Err, refl, arith}
+use Rattle.std.proofs.Common.{◌≡◌, ℕ, List, length, Ok, Err, refl, arith}
 use Rattle.std.specs.Str.{IsUtf8}
 use Rattle.dtml_lex.specs.declared.refusal.DtmlRefusal.{DtmlRefusal}
 use Rattle.dtml_lex.specs.declared.refusal.DtmlRefusal.TheVariants.{Memory}

@@ -4,6 +4,7 @@
 use Rattle.std.specs.Prelude.{ℕ, ◌==◌, ◌&&◌, ◌||◌, Bool, true, false, not, List, [], ◌∷◌, Option, Some, None, codes, if◌then◌else◌}
 use Rattle.std.specs.List.{find}
 use Rattle.std.specs.Str.{bytes_eq}
+use Rattle.evaluator.specs.declared.permission.TheConstants.{ADD_DOCUMENTS_IMAGES_AND_FILES, ADD_FOLDERS, ADD_USER_FOLDERS, CHANGE_DTML_DOCUMENTS, CHANGE_DTML_METHODS, CHANGE_PERMISSIONS, CHANGE_PROXY_ROLES, DELETE_OBJECTS, MANAGE_PROPERTIES, MANAGE_USERS, UNDO_CHANGES}
 use Rattle.http_in.specs.declared.message.Verb.{Verb}
 use Rattle.http_in.specs.declared.message.Verb.TheVariants as verb
 use Rattle.zobject.specs.declared.version.Kind.{Kind}
@@ -75,29 +76,29 @@ on_user_folders permission kind.Document = None
 on_user_folders permission kind.UserFolder = Some permission
 
 abbrev pub edit_needs : Kind → Option ℕ
-edit_needs kind.Folder = Some 8
-edit_needs kind.Method = Some 5
-edit_needs kind.Document = Some 6
+edit_needs kind.Folder = Some MANAGE_PROPERTIES
+edit_needs kind.Method = Some CHANGE_DTML_METHODS
+edit_needs kind.Document = Some CHANGE_DTML_DOCUMENTS
 edit_needs kind.UserFolder = None
 
 -- the permission that a call needs on an object of a kind, where it is a call on one
 abbrev pub row : Call → Kind → Option ℕ
-row call.AddFolder k = on_folders 3 k
-row call.AddMethod k = on_folders 4 k
-row call.AddDocument k = on_folders 4 k
-row call.AddUserFolder k = on_folders 11 k
+row call.AddFolder k = on_folders ADD_FOLDERS k
+row call.AddMethod k = on_folders ADD_DOCUMENTS_IMAGES_AND_FILES k
+row call.AddDocument k = on_folders ADD_DOCUMENTS_IMAGES_AND_FILES k
+row call.AddUserFolder k = on_folders ADD_USER_FOLDERS k
 row call.Edit k = edit_needs k
-row call.DeleteObjects k = on_folders 7 k
-row call.RenameObject k = on_folders 7 k
-row call.SetPermission k = Some 9
-row call.SetLocalRoles k = Some 9
-row call.DeleteLocalRoles k = Some 9
-row call.AddProperty k = on_holders 8 k
-row call.DeleteProperties k = on_holders 8 k
-row call.SetProxyRoles k = on_pages 13 k
-row call.AddUser k = on_user_folders 10 k
-row call.UndoTransactions k = on_folders 12 k
-row call.ListTransactions k = on_folders 12 k
+row call.DeleteObjects k = on_folders DELETE_OBJECTS k
+row call.RenameObject k = on_folders DELETE_OBJECTS k
+row call.SetPermission k = Some CHANGE_PERMISSIONS
+row call.SetLocalRoles k = Some CHANGE_PERMISSIONS
+row call.DeleteLocalRoles k = Some CHANGE_PERMISSIONS
+row call.AddProperty k = on_holders MANAGE_PROPERTIES k
+row call.DeleteProperties k = on_holders MANAGE_PROPERTIES k
+row call.SetProxyRoles k = on_pages CHANGE_PROXY_ROLES k
+row call.AddUser k = on_user_folders MANAGE_USERS k
+row call.UndoTransactions k = on_folders UNDO_CHANGES k
+row call.ListTransactions k = on_folders UNDO_CHANGES k
 
 -- ---- where it is a call
 

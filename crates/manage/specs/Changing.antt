@@ -1,5 +1,5 @@
 -- What a call writes, as a question over objects.
-use Rattle.std.specs.Prelude.{ℕ, ◌≡◌, List, Option, Some, Result, Ok, Err}
+use Rattle.std.specs.Prelude.{ℕ, ◌≡◌, List, Option, Some, Ok, Err}
 use Rattle.zbase.specs.Query.{Query, Done, Stops, ◌>>=◌}
 use Rattle.zobject.specs.declared.object.Object.{Object}
 use Rattle.zobject.specs.Rules.{IsObject}

@@ -17,9 +17,10 @@ use Rattle.evaluator.specs.declared.draft.Entry.{Entry}
 use Rattle.evaluator.specs.declared.draft.Name.{Name}
 use Rattle.manage.specs.declared.call.Call.TheVariants as call
 use Rattle.manage.specs.declared.changes.Change.{Change}
+use Rattle.manage.specs.declared.editing.Page.{Page}
+use Rattle.manage.specs.declared.editing.Page.TheVariants as page
 use Rattle.manage.specs.declared.editing.PageEdit.{PageEdit}
 use Rattle.manage.specs.declared.refusal.FieldName.TheVariants as names
-use Rattle.manage.specs.declared.refusal.ManageRefusal.{ManageRefusal}
 use Rattle.manage.specs.declared.refusal.ManageRefusal.TheVariants as refusals
 use Rattle.manage.specs.declared.rule.FieldRule.TheVariants as rule
 use Rattle.manage.specs.Fields.{Checked, ◌>>=◌, required, optional}
@@ -41,15 +42,15 @@ abbrev pub title_or : List ℕ → Option (List ℕ) → List ℕ
 title_or old None = old
 title_or old (Some new) = new
 
-abbrev pub edited_method : List (List ℕ) → Object → List Field → Checked Object
-edited_method proxy object fields = do
-  edit ← page_edit fields
-  Ok (with_title (title_or object.title edit.title) (with_part (parts.Method edit.source proxy) object))
+-- the part of a method or document with another source
+abbrev pub page_part : Page → List (List ℕ) → List ℕ → Part2
+page_part page.Method proxy source = parts.Method source proxy
+page_part page.Document proxy source = parts.Document source proxy
 
-abbrev pub edited_document : List (List ℕ) → Object → List Field → Checked Object
-edited_document proxy object fields = do
+abbrev pub edited_page : (List ℕ → Part2) → Object → List Field → Checked Object
+edited_page part object fields = do
   edit ← page_edit fields
-  Ok (with_title (title_or object.title edit.title) (with_part (parts.Document edit.source proxy) object))
+  Ok (with_title (title_or object.title edit.title) (with_part (part edit.source) object))
 
 abbrev pub edited_folder : List Child → Object → List Field → Checked Object
 edited_folder children object fields = do
@@ -57,8 +58,8 @@ edited_folder children object fields = do
   Ok (with_title title (with_part (parts.Folder children) object))
 
 abbrev pub edited_part : Part2 → Object → List Field → Checked Object
-edited_part (parts.Method source proxy) object fields = edited_method proxy object fields
-edited_part (parts.Document source proxy) object fields = edited_document proxy object fields
+edited_part (parts.Method source proxy) object fields = edited_page (page_part page.Method proxy) object fields
+edited_part (parts.Document source proxy) object fields = edited_page (page_part page.Document proxy) object fields
 edited_part (parts.Folder children) object fields = edited_folder children object fields
 edited_part (parts.UserFolder users) object fields = Err (refusals.NotFound call.Edit)
 

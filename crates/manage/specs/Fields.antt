@@ -2,7 +2,7 @@
 --
 -- Each field is refused where it is absent and has to be there, then where it is no lawful text in another way than by
 -- too many bytes, then where it has too many. Fields that a call doesn't have count for nothing.
-use Rattle.std.specs.Prelude.{ℕ, ◌≡◌, Bool, true, false, List, [], ◌∷◌, length, Option, Some, None, option_map, Result, Ok, Err, nat_lt, codes, if◌then◌else◌}
+use Rattle.std.specs.Prelude.{ℕ, ◌≡◌, Bool, List, length, Option, Some, None, option_map, Result, Ok, Err, nat_lt, if◌then◌else◌}
 use Rattle.std.specs.Fmt.{signed_decimal}
 use Rattle.std.specs.List.{find}
 use Rattle.std.specs.Str.{bytes_eq, is_utf8}
@@ -11,6 +11,8 @@ use Rattle.form_fields.specs.declared.field.FieldValue.{FieldValue}
 use Rattle.form_fields.specs.declared.field.FieldValue.TheVariants as values
 use Rattle.form_fields.specs.declared.field.Scalar.{Scalar}
 use Rattle.form_fields.specs.declared.field.Scalar.TheVariants as scalars
+use Rattle.zbase.specs.declared.limits.TheConstants.{MOST_SOURCE}
+use Rattle.zobject.specs.declared.limits.TheConstants.{MOST_TITLE}
 use Rattle.zobject.specs.declared.version.Rule.{Rule}
 use Rattle.zobject.specs.declared.version.Rule.TheVariants as rules
 use Rattle.manage.specs.declared.refusal.FieldName.{FieldName}
@@ -51,8 +53,8 @@ one_text field (values.List scalars) = Err (refusals.BadField field)
 -- ---- rules
 
 abbrev pub most_bytes : FieldRule → ℕ
-most_bytes rule.Title = 1000
-most_bytes rule.Source = 262144
+most_bytes rule.Title = MOST_TITLE
+most_bytes rule.Source = MOST_SOURCE
 
 -- the text keeps its rule but for too many bytes
 abbrev pub is_like : FieldRule → List ℕ → Bool

@@ -1,11 +1,12 @@
 -- What is true of every call and every change.
-use Rattle.std.specs.Prelude.{ℕ, ◌≡◌, ◌≤◌, ◌<◌, List, [], ◌∷◌, length, Some, Ok}
+use Rattle.std.specs.Prelude.{ℕ, ◌≡◌, ◌<◌, List, [], ◌∷◌, length, Some, Ok}
 use Rattle.zobject.specs.declared.object.Object.{Object}
 use Rattle.zobject.specs.declared.version.Kind.{Kind}
 use Rattle.zobject.specs.Rules.{IsObject}
 use Rattle.zcodec.specs.Record.{Spells}
 use Rattle.evaluator.specs.declared.draft.Entry.{Entry}
 use Rattle.evaluator.specs.declared.draft.Name.{Name}
+use Rattle.evaluator.specs.Change.{IsPermission}
 use Rattle.form_fields.specs.declared.field.Field.{Field}
 use Rattle.http_in.specs.declared.message.Verb.{Verb}
 use Rattle.manage.specs.declared.call.Call.{Call}
@@ -14,9 +15,9 @@ use Rattle.manage.specs.Calls.{permission_for}
 use Rattle.manage.specs.Changing.{changed}
 use Rattle.manage.specs.Edits.{edited}
 
--- permissions are numbered from 1 to 13
+-- a call needs one of the permissions
 abbrev pub AreNumbered : Type 0
-AreNumbered = (c : Call) (verb : Verb) (o : ℕ) (kind : Kind) (permission : ℕ) → permission_for c verb o kind ≡ Some permission → (1 ≤ permission) × (permission ≤ 13)
+AreNumbered = (c : Call) (verb : Verb) (o : ℕ) (kind : Kind) (permission : ℕ) → permission_for c verb o kind ≡ Some permission → IsPermission permission
 
 -- an object that keeps the rules keeps them when it is edited
 abbrev pub EditsKeepRules : Type 0

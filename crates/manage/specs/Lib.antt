@@ -4,4 +4,5 @@ pub mod Fields
 pub mod Edits
 pub mod Changing
 pub mod Laws
+pub mod CallLaws
 pub mod Worked

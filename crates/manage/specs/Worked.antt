@@ -1,7 +1,7 @@
 -- Worked rows: which call a name is, what it needs, and fields.
 use lib.Utf8.{encode}
-use Rattle.std.proofs.Common.{◌≡◌, ℕ, List, [], ◌∷◌, map, Option, Some, None, Result, Ok, Err, refl, codes, nat_eq, if◌then◌else◌}
-use Rattle.std.specs.Prelude.{pos, negsuc}
+use Rattle.std.proofs.Common.{◌≡◌, ℕ, List, [], ◌∷◌, map, Option, Some, None, Ok, Err, refl, codes, nat_eq, if◌then◌else◌}
+use Rattle.std.specs.Prelude.{negsuc}
 use Rattle.std.specs.Fmt.{digits}
 use Rattle.std.specs.Str.{is_utf8, chars}
 use Rattle.zbase.specs.Query.{run, Need, Cause}
@@ -9,13 +9,14 @@ use Rattle.zobject.specs.declared.version.Kind.TheVariants.{Folder, Method, Docu
 use Rattle.zobject.specs.Shapes.{Shape, Form}
 use Rattle.zobject.specs.Shapes as form
 use Rattle.zknown.specs.Seen.{Seen, Here, Absent, Unreadable}
+use Rattle.evaluator.specs.declared.permission.TheConstants.{CHANGE_DTML_DOCUMENTS, CHANGE_DTML_METHODS, MANAGE_PROPERTIES, UNDO_CHANGES}
 use Rattle.form_fields.specs.declared.field.Field.{Field}
 use Rattle.form_fields.specs.declared.field.FieldValue.{FieldValue}
 use Rattle.form_fields.specs.declared.field.Scalar.{Scalar}
 use Rattle.http_in.specs.declared.message.Verb.TheVariants.{Get, Head, Post}
 use Rattle.manage.specs.declared.call.Call.TheVariants as call
 use Rattle.manage.specs.declared.refusal.FieldName.TheVariants.{Data, Title}
-use Rattle.manage.specs.declared.refusal.ManageRefusal.TheVariants.{Missing, BadField, TooLong, NotFound, NotYet, Broken}
+use Rattle.manage.specs.declared.refusal.ManageRefusal.TheVariants.{Missing, BadField, NotFound, NotYet, Broken}
 use Rattle.manage.specs.declared.rule.FieldRule.TheVariants as rule
 use Rattle.manage.specs.Calls.{call_named, permission_for}
 use Rattle.manage.specs.Calling.{permission_at}
@@ -29,7 +30,7 @@ names = refl
 -- ---- permissions
 
 -- an edit needs another permission of each kind, and is no call on a user folder
-edits : map (permission_for call.Edit Post 7) (Method ∷ Document ∷ Folder ∷ UserFolder ∷ []) ≡ Some 5 ∷ Some 6 ∷ Some 8 ∷ None ∷ []
+edits : map (permission_for call.Edit Post 7) (Method ∷ Document ∷ Folder ∷ UserFolder ∷ []) ≡ Some CHANGE_DTML_METHODS ∷ Some CHANGE_DTML_DOCUMENTS ∷ Some MANAGE_PROPERTIES ∷ None ∷ []
 edits = refl
 
 -- by HEAD nothing is changed
@@ -37,13 +38,13 @@ no_edits : map (permission_for call.Edit Head 7) (Method ∷ Document ∷ Folder
 no_edits = refl
 
 -- transactions are undone on the root alone, and shown there by HEAD too
-on_the_root : map (λ c. permission_for c Get 0 Folder) (call.UndoTransactions ∷ call.ListTransactions ∷ []) ≡ Some 12 ∷ Some 12 ∷ []
+on_the_root : map (λ c. permission_for c Get 0 Folder) (call.UndoTransactions ∷ call.ListTransactions ∷ []) ≡ Some UNDO_CHANGES ∷ Some UNDO_CHANGES ∷ []
 on_the_root = refl
 
 elsewhere : map (λ c. permission_for c Get 1 Folder) (call.UndoTransactions ∷ call.ListTransactions ∷ []) ≡ None ∷ None ∷ []
 elsewhere = refl
 
-by_head : map (λ c. permission_for c Head 0 Folder) (call.UndoTransactions ∷ call.ListTransactions ∷ []) ≡ None ∷ Some 12 ∷ []
+by_head : map (λ c. permission_for c Head 0 Folder) (call.UndoTransactions ∷ call.ListTransactions ∷ []) ≡ None ∷ Some UNDO_CHANGES ∷ []
 by_head = refl
 
 -- ---- the object called on
@@ -61,7 +62,7 @@ site o =
     else None
 
 edited_where : map (λ (o : ℕ). run site (permission_at call.Edit Post o)) (0 ∷ 1 ∷ 2 ∷ 3 ∷ 4 ∷ 5 ∷ [])
-    ≡ Ok 8 ∷ Ok 6 ∷ Err (Cause (NotFound call.Edit)) ∷ Err (Cause (Broken 3)) ∷ Err (Cause (Broken 4)) ∷ Err (Need 5) ∷ []
+    ≡ Ok MANAGE_PROPERTIES ∷ Ok CHANGE_DTML_DOCUMENTS ∷ Err (Cause (NotFound call.Edit)) ∷ Err (Cause (Broken 3)) ∷ Err (Cause (Broken 4)) ∷ Err (Need 5) ∷ []
 unfolding permission_at site held
 edited_where = refl
 

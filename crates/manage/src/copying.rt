@@ -14,7 +14,7 @@ trait Copied: Drop {
 fn copy_items<T: Copied>(alloc: Global, items: &Items<T>) -> Result<Items<T>, Memory>
     ensures { IfOk result (λ copies. copies ≡ items.now) }
 {
-    let mut copies = Items::new(alloc);
+    let mut copies = Items::from_vec(Vec::with_capacity(alloc, items.len())?);
     for item in items.as_slice() {
         copies.push(item.copied(alloc)?)?;
     }

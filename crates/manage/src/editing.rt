@@ -15,6 +15,15 @@ use std::alloc::Global;
 use zbase::{Memory, Text};
 use zobject::{Children, Object, Part2, Roles};
 
+/// What has a source.
+#[derive(Clone, Copy, Debug, PartialEq, Eq)]
+pub(crate) enum Page {
+    /// A method.
+    Method,
+    /// A document.
+    Document,
+}
+
 /// What a form says of a method or document.
 #[derive(Debug, Drop)]
 pub(crate) struct PageEdit {
@@ -57,41 +66,29 @@ fn title_or(old: &Text, new: Option<Text>) -> Result<Text, Memory>
     }
 }
 
-#[tactic(auto, using(crate::proofs::Steps::stops))]
-fn edited_method(
-    alloc: Global,
-    object: &Object,
-    proxy: &Roles,
-    fields: &Fields,
-) -> Result<Object, ManageRefusal>
-    ensures { Gives (λ o. o) result (edits.edited_method proxy.now object.now fields.now) }
+fn page_part(page: Page, source: Text, proxy: Roles) -> Part2
+    ensures { result ≡ edits.page_part page proxy source }
 {
-    let edit = page_edit(alloc, fields)?;
-    let title = title_or(&object.title, edit.title)?;
-    let proxy = copy_roles(alloc, proxy)?;
-    let part = Part2::Method {
-        source: edit.source,
-        proxy,
-    };
-    Ok(copy_with(alloc, object, title, part)?)
+    match page {
+        Page::Method => Part2::Method { source, proxy },
+        Page::Document => Part2::Document { source, proxy },
+    }
 }
 
 #[tactic(auto, using(crate::proofs::Steps::stops))]
-fn edited_document(
+fn edited_page(
     alloc: Global,
+    page: Page,
     object: &Object,
     proxy: &Roles,
     fields: &Fields,
 ) -> Result<Object, ManageRefusal>
-    ensures { Gives (λ o. o) result (edits.edited_document proxy.now object.now fields.now) }
+    ensures { Gives (λ o. o) result (edits.edited_page (edits.page_part page proxy.now) object.now fields.now) }
 {
     let edit = page_edit(alloc, fields)?;
     let title = title_or(&object.title, edit.title)?;
     let proxy = copy_roles(alloc, proxy)?;
-    let part = Part2::Document {
-        source: edit.source,
-        proxy,
-    };
+    let part = page_part(page, edit.source, proxy);
     Ok(copy_with(alloc, object, title, part)?)
 }
 
@@ -119,8 +116,8 @@ pub(crate) fn edited(
     ensures { Gives (λ o. o) result (edits.edited object.now fields.now) }
 {
     match &object.part {
-        Part2::Method { proxy, .. } => edited_method(alloc, object, proxy, fields),
-        Part2::Document { proxy, .. } => edited_document(alloc, object, proxy, fields),
+        Part2::Method { proxy, .. } => edited_page(alloc, Page::Method, object, proxy, fields),
+        Part2::Document { proxy, .. } => edited_page(alloc, Page::Document, object, proxy, fields),
         Part2::Folder(children) => edited_folder(alloc, object, children, fields),
         Part2::UserFolder(_) => Err(ManageRefusal::NotFound(Call::Edit)),
     }

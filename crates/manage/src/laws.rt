@@ -17,7 +17,7 @@ pub fn calls_are_those_of_traversal()
         → (call : Call) × (call_named name ≡ Some call) × (name ≡ name_of call) }
 {}
 
-/// A call needs one of the thirteen permissions.
+/// A call needs one of the permissions.
 pub fn permissions_are_numbered()
     ensures { AreNumbered }
 {}

@@ -1,6 +1,9 @@
 ghost use Rattle.std.specs.Prelude.{◌≡◌};
 ghost use Rattle.manage.specs.Fields as fields;
 
+use zbase::MOST_SOURCE;
+use zobject::limits::MOST_TITLE;
+
 /// What the text of a field has to be.
 #[derive(Clone, Copy, Debug, PartialEq, Eq)]
 pub(crate) enum FieldRule {
@@ -15,8 +18,8 @@ pub(crate) fn most_bytes(rule: FieldRule) -> usize
     ensures { result ≡ fields.most_bytes rule }
 {
     match rule {
-        FieldRule::Title => 1000,
-        FieldRule::Source => 262_144,
+        FieldRule::Title => MOST_TITLE,
+        FieldRule::Source => MOST_SOURCE,
     }
 }
 

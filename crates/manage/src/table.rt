@@ -2,6 +2,11 @@ ghost use Rattle.std.specs.Prelude.{◌≡◌};
 ghost use Rattle.manage.specs.Calls as calls;
 
 use crate::call::Call;
+use evaluator::permission::{
+    ADD_DOCUMENTS_IMAGES_AND_FILES, ADD_FOLDERS, ADD_USER_FOLDERS, CHANGE_DTML_DOCUMENTS,
+    CHANGE_DTML_METHODS, CHANGE_PERMISSIONS, CHANGE_PROXY_ROLES, DELETE_OBJECTS, MANAGE_PROPERTIES,
+    MANAGE_USERS, UNDO_CHANGES,
+};
 use http_in::Verb;
 use zbase::Oid;
 use zobject::Kind;
@@ -48,9 +53,9 @@ fn edit_needs(kind: Kind) -> Option<u8>
     ensures { result ≡ calls.edit_needs kind }
 {
     match kind {
-        Kind::Method => Some(5),
-        Kind::Document => Some(6),
-        Kind::Folder => Some(8),
+        Kind::Method => Some(CHANGE_DTML_METHODS),
+        Kind::Document => Some(CHANGE_DTML_DOCUMENTS),
+        Kind::Folder => Some(MANAGE_PROPERTIES),
         Kind::UserFolder => None,
     }
 }
@@ -60,16 +65,18 @@ fn row(call: Call, kind: Kind) -> Option<u8>
     ensures { result ≡ calls.row call kind }
 {
     match call {
-        Call::AddFolder => on_folders(kind, 3),
-        Call::AddMethod | Call::AddDocument => on_folders(kind, 4),
-        Call::AddUserFolder => on_folders(kind, 11),
+        Call::AddFolder => on_folders(kind, ADD_FOLDERS),
+        Call::AddMethod | Call::AddDocument => on_folders(kind, ADD_DOCUMENTS_IMAGES_AND_FILES),
+        Call::AddUserFolder => on_folders(kind, ADD_USER_FOLDERS),
         Call::Edit => edit_needs(kind),
-        Call::DeleteObjects | Call::RenameObject => on_folders(kind, 7),
-        Call::SetPermission | Call::SetLocalRoles | Call::DeleteLocalRoles => Some(9),
-        Call::AddProperty | Call::DeleteProperties => on_holders(kind, 8),
-        Call::SetProxyRoles => on_pages(kind, 13),
-        Call::AddUser => on_user_folders(kind, 10),
-        Call::UndoTransactions | Call::ListTransactions => on_folders(kind, 12),
+        Call::DeleteObjects | Call::RenameObject => on_folders(kind, DELETE_OBJECTS),
+        Call::SetPermission | Call::SetLocalRoles | Call::DeleteLocalRoles => Some(
+            CHANGE_PERMISSIONS,
+        ),
+        Call::AddProperty | Call::DeleteProperties => on_holders(kind, MANAGE_PROPERTIES),
+        Call::SetProxyRoles => on_pages(kind, CHANGE_PROXY_ROLES),
+        Call::AddUser => on_user_folders(kind, MANAGE_USERS),
+        Call::UndoTransactions | Call::ListTransactions => on_folders(kind, UNDO_CHANGES),
     }
 }
 
@@ -94,7 +101,7 @@ fn is_at(call: Call, oid: Oid) -> bool
     !is_of_root(call) || oid.0 == 0
 }
 
-/// The permission that a call needs, by its number, on an object of that id and kind; none where it is no call there, or
+/// The permission that a call needs on an object of that id and kind; none where it is no call there, or
 /// not by that method: such a name leads to nothing. Takes no memory.
 ///
 /// Zope Book, "Users and Security": the permissions of management.

@@ -1,4 +1,4 @@
-use Rattle.manage.proofs.Calls.{numbered}
+use Rattle.manage.specs.CallLaws.{numbered}
 use Rattle.manage.proofs.laws.permissions_are_numbered.Goals as goal
 
 pub returns : goal.returns
