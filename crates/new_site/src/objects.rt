@@ -48,29 +48,28 @@ fn child(alloc: Global, name: &str, oid: Oid) -> Result<Child, Memory>
 fn root(alloc: Global) -> Result<Object, Memory>
     ensures { IfOk result (λ o. o ≡ site.root) }
 {
-    let mut children = Children::new(alloc);
-    children.push(child(alloc, "acl_users", USERS)?)?;
-    children.push(child(alloc, "index_html", START_PAGE)?)?;
+    let users = child(alloc, "acl_users", USERS)?;
+    let page = child(alloc, "index_html", START_PAGE)?;
+    let children = Children::from_vec(vec![in alloc; users, page]?);
     new_object(alloc, "", "Zope", Part2::Folder(children))
 }
 
 fn manager(alloc: Global, name: &str, password: &str) -> Result<User, Memory>
     ensures { IfOk result (λ u. u ≡ site.manager name.now password.now) }
 {
-    let mut roles = Roles::new(alloc);
-    roles.push(Text::from_str(alloc, "Manager")?)?;
+    let role = Text::from_str(alloc, "Manager")?;
     Ok(User {
         name: Text::from_str(alloc, name)?,
         password: keep(alloc, password)?,
-        roles,
+        roles: Roles::from_vec(vec![in alloc; role]?),
     })
 }
 
 fn user_folder(alloc: Global, name: &str, password: &str) -> Result<Object, Memory>
     ensures { IfOk result (λ o. o ≡ site.user_folder name.now password.now) }
 {
-    let mut users = Users::new(alloc);
-    users.push(manager(alloc, name, password)?)?;
+    let manager = manager(alloc, name, password)?;
+    let users = Users::from_vec(vec![in alloc; manager]?);
     new_object(alloc, "acl_users", "", Part2::UserFolder(users))
 }
 
@@ -102,9 +101,8 @@ pub(crate) fn first_items(alloc: Global, name: &str, password: &str) -> Result<I
     requires name { Keeps UserName name.now }
     ensures { IfOk result (λ items. items ≡ site.items name.now password.now) }
 {
-    let mut items = Items::new(alloc);
-    items.push(first_item(alloc, ROOT, &root(alloc)?)?)?;
-    items.push(first_item(alloc, USERS, &user_folder(alloc, name, password)?)?)?;
-    items.push(first_item(alloc, START_PAGE, &start_page(alloc)?)?)?;
-    Ok(items)
+    let root = first_item(alloc, ROOT, &root(alloc)?)?;
+    let users = first_item(alloc, USERS, &user_folder(alloc, name, password)?)?;
+    let page = first_item(alloc, START_PAGE, &start_page(alloc)?)?;
+    Ok(Items::from_vec(vec![in alloc; root, users, page]?))
 }
