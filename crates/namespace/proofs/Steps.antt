@@ -2,6 +2,7 @@
 use Rattle.std.proofs.Common.{ℕ, ◌≡◌, ◌∙◌, sym, ap, subst, List, Option, Some, None, option_map, Result, Ok, Err}
 use Rattle.zbase.specs.Query.{run, go_on, or_else, Told, Halt, Cause, ◌>>=◌ as ◌>>>◌}
 use Rattle.zbase.specs.QueryLaws.{run_goes, run_passes, or_else_goes}
+use Rattle.evaluator.specs.declared.permission.TheConstants.{VIEW}
 use Rattle.evaluator.specs.declared.reply.Shown.{Shown}
 use Rattle.zobject.specs.declared.object.Object.{Object}
 use Rattle.zobject.specs.Shapes.{Shape, shape_of}
@@ -16,7 +17,7 @@ use Rattle.permissions.specs.Roles.{Role}
 use Rattle.permissions.specs.Verdicts.{verdict_on}
 use Rattle.permissions.specs.declared.who.Who.{Who}
 use Rattle.permissions.specs.declared.who.Verdict.TheVariants as verdicts
-use Rattle.namespace.specs.Looks.{Looks, Done, Fault, Unauthorized, fault_of, view, outlined, viewed, through, taken, looked, ◌>>=◌}
+use Rattle.namespace.specs.Looks.{Looks, Done, Fault, Unauthorized, fault_of, outlined, viewed, through, taken, looked, ◌>>=◌}
 use Rattle.namespace.specs.LookLaws.{run_outlined, run_reworded, reworded, veiled_rows, looked_goes, looked_passes}
 use Rattle.namespace.specs.Names.{seeing, reaching, viewing}
 use Rattle.namespace.specs.Told.{told, of_acquisition, Shows}
@@ -52,7 +53,7 @@ unfolding verdict_on containers upwards
 unseen_stops rows who o permission halt t = run_passes (shapes rows) (containers o) _ halt (run_passes (shapes rows) (here o) _ halt t)
 
 pub viewing_unseen : (rows : List (ℕ × Kept)) (who : Who) (o : ℕ) (a : AqRefusal) (shown : List Shown) → Told (acquiring.told a) (run (shapes rows) (here o)) → Told (told (of_acquisition a)) (looked (objects rows) shown (viewing who o))
-viewing_unseen rows who o a shown t = run_passes (objects rows) (outlined (verdict_on who o view)) _ (told (of_acquisition a)) (outlined_stops rows (verdict_on who o view) a (unseen_stops rows who o view (acquiring.told a) t))
+viewing_unseen rows who o a shown t = run_passes (objects rows) (outlined (verdict_on who o VIEW)) _ (told (of_acquisition a)) (outlined_stops rows (verdict_on who o VIEW) a (unseen_stops rows who o VIEW (acquiring.told a) t))
 
 -- ---- one question after another
 
@@ -87,25 +88,25 @@ here_stops k o f a t =
     run_passes k (or_else fault_of (here o)) f (told (of_acquisition a)) (subst (Told (told (of_acquisition a))) (sym (run_reworded k (here o))) (reworded_stops (run k (here o)) a t))
 
 -- a view is granted, and the object is there
-pub viewing_is : (k : ℕ → Option (Seen Object)) (who : Who) (o : ℕ) (role : Role) (object : Object) (shown : List Shown) → run k (outlined (verdict_on who o view)) ≡ Ok (verdicts.Granted role) → run k (here o) ≡ Ok object →
+pub viewing_is : (k : ℕ → Option (Seen Object)) (who : Who) (o : ℕ) (role : Role) (object : Object) (shown : List Shown) → run k (outlined (verdict_on who o VIEW)) ≡ Ok (verdicts.Granted role) → run k (here o) ≡ Ok object →
     looked k shown (viewing who o) ≡ Ok (object, taken who o role shown)
 viewing_is k who o role object shown v h =
-    run_goes k (outlined (verdict_on who o view)) (viewed taken who shown o (λ s object. through taken s (Done object))) (verdicts.Granted role) v
+    run_goes k (outlined (verdict_on who o VIEW)) (viewed taken who shown o (λ s object. through taken s (Done object))) (verdicts.Granted role) v
     ∙ here_is k o (λ object. through taken (taken who o role shown) (Done object)) object h
 
-pub viewing_stops : (k : ℕ → Option (Seen Object)) (who : Who) (o : ℕ) (role : Role) (a : AqRefusal) (shown : List Shown) → run k (outlined (verdict_on who o view)) ≡ Ok (verdicts.Granted role) → Told (acquiring.told a) (run k (here o)) →
+pub viewing_stops : (k : ℕ → Option (Seen Object)) (who : Who) (o : ℕ) (role : Role) (a : AqRefusal) (shown : List Shown) → run k (outlined (verdict_on who o VIEW)) ≡ Ok (verdicts.Granted role) → Told (acquiring.told a) (run k (here o)) →
     Told (told (of_acquisition a)) (looked k shown (viewing who o))
 viewing_stops k who o role a shown v t =
-    subst (Told (told (of_acquisition a))) (sym (run_goes k (outlined (verdict_on who o view)) (viewed taken who shown o (λ s object. through taken s (Done object))) (verdicts.Granted role) v))
+    subst (Told (told (of_acquisition a))) (sym (run_goes k (outlined (verdict_on who o VIEW)) (viewed taken who shown o (λ s object. through taken s (Done object))) (verdicts.Granted role) v))
     (here_stops k o (λ object. through taken (taken who o role shown) (Done object)) a t)
 
 -- a view that isn't granted
-pub viewing_denied : (k : ℕ → Option (Seen Object)) (who : Who) (o permission : ℕ) (shown : List Shown) → run k (outlined (verdict_on who o view)) ≡ Ok (verdicts.Denied permission) →
-    looked k shown (viewing who o) ≡ Err (Cause (Unauthorized o view))
-viewing_denied k who o permission shown v = run_goes k (outlined (verdict_on who o view)) (viewed taken who shown o (λ s object. through taken s (Done object))) (verdicts.Denied permission) v
+pub viewing_denied : (k : ℕ → Option (Seen Object)) (who : Who) (o permission : ℕ) (shown : List Shown) → run k (outlined (verdict_on who o VIEW)) ≡ Ok (verdicts.Denied permission) →
+    looked k shown (viewing who o) ≡ Err (Cause (Unauthorized o VIEW))
+viewing_denied k who o permission shown v = run_goes k (outlined (verdict_on who o VIEW)) (viewed taken who shown o (λ s object. through taken s (Done object))) (verdicts.Denied permission) v
 
 -- what is made of a granted view, once the object is shown
-pub view_goes : {A : Type 0} (k : ℕ → Option (Seen Object)) (who : Who) (o : ℕ) (role : Role) (object : Object) (shown present : List Shown) (next : Object → Looks A) (x : A) → run k (outlined (verdict_on who o view)) ≡ Ok (verdicts.Granted role) → run k (here o) ≡ Ok object →
+pub view_goes : {A : Type 0} (k : ℕ → Option (Seen Object)) (who : Who) (o : ℕ) (role : Role) (object : Object) (shown present : List Shown) (next : Object → Looks A) (x : A) → run k (outlined (verdict_on who o VIEW)) ≡ Ok (verdicts.Granted role) → run k (here o) ≡ Ok object →
     next object ≡ Done x → ((who : Who) → present ≡ taken who o role shown) → looked k shown (viewing who o >>= next) ≡ Ok (x, present)
 view_goes k who o role object shown present next x v h made took =
     looked_goes k shown (viewing who o) next (object, taken who o role shown) (viewing_is k who o role object shown v h)

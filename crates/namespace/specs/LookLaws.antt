@@ -6,6 +6,7 @@ use Rattle.std.specs.List.{list_any, AllByRecursion}
 use Rattle.zbase.specs.Query as query
 use Rattle.zbase.specs.Query.{Query, or_else, run, go_on, and_then, Halt, Need, Cause, Told, ◌>>=◌ as ◌>>>◌}
 use Rattle.zbase.specs.QueryLaws.{run_then}
+use Rattle.evaluator.specs.declared.permission.TheConstants.{ACCESS_CONTENTS_INFORMATION, VIEW}
 use Rattle.evaluator.specs.declared.reply.Shown.{Shown}
 use Rattle.zobject.specs.declared.object.Object.{Object}
 use Rattle.zobject.specs.Shapes.{Shape}
@@ -20,7 +21,7 @@ use Rattle.permissions.specs.Verdicts.{verdict_on}
 use Rattle.permissions.specs.declared.who.Who.{Who}
 use Rattle.permissions.specs.declared.who.Verdict.{Verdict}
 use Rattle.permissions.specs.declared.who.Verdict.TheVariants as verdicts
-use Rattle.namespace.specs.Looks.{Looks, Done, Stops, See, Reach, Enter, View, Offer, ◌>>=◌, Fault, Unauthorized, Use, fault_of, view, access, outlined, veiled, taken, used, without_users, entered, viewed, offered, through, looked, looked_by}
+use Rattle.namespace.specs.Looks.{Looks, Done, Stops, See, Reach, Enter, View, Offer, ◌>>=◌, Fault, Unauthorized, Use, fault_of, outlined, veiled, taken, used, without_users, entered, viewed, offered, through, looked, looked_by}
 
 -- ---- one page in the making, and then another
 
@@ -52,17 +53,17 @@ through_then shown (Stops cause) next = refl
 through_then shown (See o go) next = (λ i. outlined (here o) >>> λ object. through_then shown (go object) next i) ∙ sym (bind_assoc (outlined (here o)) _ _)
 through_then shown (Reach w o go) next = (λ i. outlined (reached w o) >>> λ found. through_then shown (go found) next i) ∙ sym (bind_assoc (outlined (reached w o)) _ _)
 through_then shown (Enter who o go) next =
-    (λ i. outlined (verdict_on who o access) >>> entered o (through_then shown go next i))
-    ∙ (λ i. outlined (verdict_on who o access) >>> λ v. entered_then o (through taken shown go) (λ x. through taken x.1 (next x.0)) v i)
-    ∙ sym (bind_assoc (outlined (verdict_on who o access)) _ _)
+    (λ i. outlined (verdict_on who o ACCESS_CONTENTS_INFORMATION) >>> entered o (through_then shown go next i))
+    ∙ (λ i. outlined (verdict_on who o ACCESS_CONTENTS_INFORMATION) >>> λ v. entered_then o (through taken shown go) (λ x. through taken x.1 (next x.0)) v i)
+    ∙ sym (bind_assoc (outlined (verdict_on who o ACCESS_CONTENTS_INFORMATION)) _ _)
 through_then shown (View who o go) next =
-    (λ i. outlined (verdict_on who o view) >>> viewed taken who shown o (λ s object. through_then s (go object) next i))
-    ∙ (λ i. outlined (verdict_on who o view) >>> λ v. viewed_then who shown o (λ s object. through taken s (go object)) (λ x. through taken x.1 (next x.0)) v i)
-    ∙ sym (bind_assoc (outlined (verdict_on who o view)) _ _)
+    (λ i. outlined (verdict_on who o VIEW) >>> viewed taken who shown o (λ s object. through_then s (go object) next i))
+    ∙ (λ i. outlined (verdict_on who o VIEW) >>> λ v. viewed_then who shown o (λ s object. through taken s (go object)) (λ x. through taken x.1 (next x.0)) v i)
+    ∙ sym (bind_assoc (outlined (verdict_on who o VIEW)) _ _)
 through_then shown (Offer who o go) next =
-    (λ i. outlined (verdict_on who o view) >>> offered taken who shown o (λ s granted. through_then s (go granted) next i))
-    ∙ (λ i. outlined (verdict_on who o view) >>> λ v. offered_then who shown o (λ s granted. through taken s (go granted)) (λ x. through taken x.1 (next x.0)) v i)
-    ∙ sym (bind_assoc (outlined (verdict_on who o view)) _ _)
+    (λ i. outlined (verdict_on who o VIEW) >>> offered taken who shown o (λ s granted. through_then s (go granted) next i))
+    ∙ (λ i. outlined (verdict_on who o VIEW) >>> λ v. offered_then who shown o (λ s granted. through taken s (go granted)) (λ x. through taken x.1 (next x.0)) v i)
+    ∙ sym (bind_assoc (outlined (verdict_on who o VIEW)) _ _)
 
 pub looked_then : {A B : Type 0} (k : ℕ → Option (Seen Object)) (shown : List Shown) (q : Looks A) (next : A → Looks B) →
     looked k shown (q >>= next) ≡ and_then (looked k shown q) (λ x. looked k x.1 (next x.0))
@@ -195,10 +196,10 @@ module _ (Sort : Who → Type 0) (k : ℕ → Option (Seen Object)) (o p : ℕ) 
             (subst (λ q. run (veiled k) (verdict_on who q asked) ≡ Ok (verdicts.Denied permission)) same_object is),
       )
 
-  at_enter : {A : Type 0} (who : Who) (at : ℕ) (further : Objects Fault A) (v : Verdict) → Sort who → run (veiled k) (verdict_on who at access) ≡ Ok v →
+  at_enter : {A : Type 0} (who : Who) (at : ℕ) (further : Objects Fault A) (v : Verdict) → Sort who → run (veiled k) (verdict_on who at ACCESS_CONTENTS_INFORMATION) ≡ Ok v →
       (run k further ≡ stopped o p → IsDenied Sort k o p) → run k (entered at further v) ≡ stopped o p → IsDenied Sort k o p
   at_enter who at further (verdicts.Granted role) sort is deeper e = deeper e
-  at_enter {A = A} who at further (verdicts.Denied permission) sort is deeper e = at_verdict {A = A} who at access permission sort is e
+  at_enter {A = A} who at further (verdicts.Denied permission) sort is deeper e = at_verdict {A = A} who at ACCESS_CONTENTS_INFORMATION permission sort is e
 
   at_here : {A : Type 0} (at : ℕ) (further : Object → Objects Fault A) → ((object : Object) → run k (here at) ≡ Ok object → run k (further object) ≡ stopped o p → IsDenied Sort k o p) →
       run k (or_else fault_of (here at) >>> further) ≡ stopped o p → IsDenied Sort k o p
@@ -207,10 +208,10 @@ module _ (Sort : Who → Type 0) (k : ℕ → Option (Seen Object)) (o p : ℕ) 
     | inr found ↦ deeper found.0 (reworded_ok (run k (here at)) found.0 (sym (run_reworded k (here at)) ∙ found.1)) found.2
   ]
 
-  at_view : {A : Type 0} (who : Who) (at : ℕ) (shown : List Shown) (further : List Shown → Object → Objects Fault A) (v : Verdict) → Sort who → run (veiled k) (verdict_on who at view) ≡ Ok v →
+  at_view : {A : Type 0} (who : Who) (at : ℕ) (shown : List Shown) (further : List Shown → Object → Objects Fault A) (v : Verdict) → Sort who → run (veiled k) (verdict_on who at VIEW) ≡ Ok v →
       ((s : List Shown) (object : Object) → run k (here at) ≡ Ok object → run k (further s object) ≡ stopped o p → IsDenied Sort k o p) → run k (viewed taken who shown at further v) ≡ stopped o p → IsDenied Sort k o p
   at_view who at shown further (verdicts.Granted role) sort is deeper e = at_here at (further (taken who at role shown)) (deeper (taken who at role shown)) e
-  at_view {A = A} who at shown further (verdicts.Denied permission) sort is deeper e = at_verdict {A = A} who at view permission sort is e
+  at_view {A = A} who at shown further (verdicts.Denied permission) sort is deeper e = at_verdict {A = A} who at VIEW permission sort is e
 
   at_offer : {A : Type 0} (who : Who) (at : ℕ) (shown : List Shown) (further : List Shown → Bool → Objects Fault A) (v : Verdict) →
       ((s : List Shown) (granted : Bool) → run k (further s granted) ≡ stopped o p → IsDenied Sort k o p) → run k (offered taken who shown at further v) ≡ stopped o p → IsDenied Sort k o p
@@ -224,19 +225,19 @@ module _ (Sort : Who → Type 0) (k : ℕ → Option (Seen Object)) (o p : ℕ) 
   denied_rightly shown (See at go) own e = behind (here at) (λ object. through taken shown (go object)) (λ object is e. denied_rightly shown (go object) (own object is) e) e
   denied_rightly shown (Reach w at go) own e = behind (reached w at) (λ found. through taken shown (go found)) (λ found is e. denied_rightly shown (go found) (own found is) e) e
   denied_rightly shown (Enter who at go) own e =
-      behind (verdict_on who at access) (entered at (through taken shown go)) (λ v is e. at_enter who at (through taken shown go) v own.0 is (λ e. denied_rightly shown go own.1 e) e) e
+      behind (verdict_on who at ACCESS_CONTENTS_INFORMATION) (entered at (through taken shown go)) (λ v is e. at_enter who at (through taken shown go) v own.0 is (λ e. denied_rightly shown go own.1 e) e) e
   denied_rightly shown (View who at go) own e =
-      behind (verdict_on who at view) (viewed taken who shown at (λ s object. through taken s (go object)))
+      behind (verdict_on who at VIEW) (viewed taken who shown at (λ s object. through taken s (go object)))
       (λ v is e. at_view who at shown (λ s object. through taken s (go object)) v own.0 is (λ s object is e. denied_rightly s (go object) (own.1 object is) e) e) e
   denied_rightly shown (Offer who at go) own e =
-      behind (verdict_on who at view) (offered taken who shown at (λ s granted. through taken s (go granted)))
+      behind (verdict_on who at VIEW) (offered taken who shown at (λ s granted. through taken s (go granted)))
       (λ v is e. at_offer who at shown (λ s granted. through taken s (go granted)) v (λ s granted e. denied_rightly s (go granted) (own.1 granted) e) e) e
 
 -- ---- what is shown was granted, by the role that is told, to the user of its first use
 
 -- that user is of this sort, and is granted the view of the object by that role
 abbrev pub IsGranted : (Who → Type 0) → (ℕ → Option (Seen Object)) → Use → Type 0
-IsGranted Sort k u = Sort u.user × (run (veiled k) (verdict_on u.user u.shown.oid view) ≡ Ok (verdicts.Granted u.shown.role))
+IsGranted Sort k u = Sort u.user × (run (veiled k) (verdict_on u.user u.shown.oid VIEW) ≡ Ok (verdicts.Granted u.shown.role))
 
 abbrev pub AreGranted : (Who → Type 0) → (ℕ → Option (Seen Object)) → List Use → Type 0
 AreGranted Sort k uses = AllByRecursion (IsGranted Sort k) uses
@@ -270,7 +271,7 @@ module _ (Sort : Who → Type 0) (k : ℕ → Option (Seen Object)) where
   enter_granted at further x (verdicts.Denied permission) deeper e = absurd (let bad = e in cc)
 
   view_granted : {A : Type 0} (who : Who) (at : ℕ) (uses : List Use) (further : List Use → Object → Objects Fault (A × List Use)) (x : A × List Use) (v : Verdict) →
-      Sort who → run (veiled k) (verdict_on who at view) ≡ Ok v → AreGranted Sort k uses →
+      Sort who → run (veiled k) (verdict_on who at VIEW) ≡ Ok v → AreGranted Sort k uses →
       ((s : List Use) (object : Object) → run k (here at) ≡ Ok object → AreGranted Sort k s → run k (further s object) ≡ Ok x → AreGranted Sort k x.1) → run k (viewed used who uses at further v) ≡ Ok x → AreGranted Sort k x.1
   view_granted who at uses further x (verdicts.Granted role) sort is are deeper e =
       let found = past_here k at (further (used who at role uses)) x e in
@@ -278,7 +279,7 @@ module _ (Sort : Who → Type 0) (k : ℕ → Option (Seen Object)) where
   view_granted who at uses further x (verdicts.Denied permission) sort is are deeper e = absurd (let bad = e in cc)
 
   offer_granted : {A : Type 0} (who : Who) (at : ℕ) (uses : List Use) (further : List Use → Bool → Objects Fault (A × List Use)) (x : A × List Use) (v : Verdict) →
-      Sort who → run (veiled k) (verdict_on who at view) ≡ Ok v → AreGranted Sort k uses →
+      Sort who → run (veiled k) (verdict_on who at VIEW) ≡ Ok v → AreGranted Sort k uses →
       ((s : List Use) (granted : Bool) → AreGranted Sort k s → run k (further s granted) ≡ Ok x → AreGranted Sort k x.1) → run k (offered used who uses at further v) ≡ Ok x → AreGranted Sort k x.1
   offer_granted who at uses further x (verdicts.Granted role) sort is are deeper e = deeper (used who at role uses) true (used_granted Sort k uses (record { user = who; shown = record { oid = at; role = role } }) _ are (sort, is)) e
   offer_granted who at uses further x (verdicts.Denied permission) sort is are deeper e = deeper uses false are e
@@ -290,13 +291,13 @@ module _ (Sort : Who → Type 0) (k : ℕ → Option (Seen Object)) where
   shown_rightly uses (See at go) x own are e = let found = past k (here at) (λ object. through used uses (go object)) x e in shown_rightly uses (go found.0) x (own found.0 found.1) are found.2
   shown_rightly uses (Reach w at go) x own are e = let found = past k (reached w at) (λ w. through used uses (go w)) x e in shown_rightly uses (go found.0) x (own found.0 found.1) are found.2
   shown_rightly uses (Enter who at go) x own are e =
-      let found = past k (verdict_on who at access) (entered at (through used uses go)) x e in
+      let found = past k (verdict_on who at ACCESS_CONTENTS_INFORMATION) (entered at (through used uses go)) x e in
       enter_granted at (through used uses go) x found.0 (λ e. shown_rightly uses go x own.1 are e) found.2
   shown_rightly uses (View who at go) x own are e =
-      let found = past k (verdict_on who at view) (viewed used who uses at (λ s object. through used s (go object))) x e in
+      let found = past k (verdict_on who at VIEW) (viewed used who uses at (λ s object. through used s (go object))) x e in
       view_granted who at uses (λ s object. through used s (go object)) x found.0 own.0 found.1 are (λ s object is are e. shown_rightly s (go object) x (own.1 object is) are e) found.2
   shown_rightly uses (Offer who at go) x own are e =
-      let found = past k (verdict_on who at view) (offered used who uses at (λ s granted. through used s (go granted))) x e in
+      let found = past k (verdict_on who at VIEW) (offered used who uses at (λ s granted. through used s (go granted))) x e in
       offer_granted who at uses (λ s granted. through used s (go granted)) x found.0 own.0 found.1 are (λ s granted are e. shown_rightly s (go granted) x (own.1 granted) are e) found.2
 
 -- ---- the objects that are shown, with and without their users
@@ -343,15 +344,15 @@ through_used uses (Stops cause) = refl
 through_used uses (See o go) = (λ i. outlined (here o) >>> λ shape. through_used uses (go shape) i) ∙ sym (bind_assoc (outlined (here o)) _ _)
 through_used uses (Reach w o go) = (λ i. outlined (reached w o) >>> λ found. through_used uses (go found) i) ∙ sym (bind_assoc (outlined (reached w o)) _ _)
 through_used uses (Enter who o go) =
-    (λ i. outlined (verdict_on who o access) >>> entered o (through_used uses go i))
-    ∙ (λ i. outlined (verdict_on who o access) >>> λ v. entered_then o (through used uses go) (λ x. query.Done (forgotten x)) v i)
-    ∙ sym (bind_assoc (outlined (verdict_on who o access)) _ _)
+    (λ i. outlined (verdict_on who o ACCESS_CONTENTS_INFORMATION) >>> entered o (through_used uses go i))
+    ∙ (λ i. outlined (verdict_on who o ACCESS_CONTENTS_INFORMATION) >>> λ v. entered_then o (through used uses go) (λ x. query.Done (forgotten x)) v i)
+    ∙ sym (bind_assoc (outlined (verdict_on who o ACCESS_CONTENTS_INFORMATION)) _ _)
 through_used uses (View who o go) =
-    (λ i. outlined (verdict_on who o view) >>> λ v. view_forgets who o uses go (λ s object. through_used s (go object)) v i)
-    ∙ sym (bind_assoc (outlined (verdict_on who o view)) _ _)
+    (λ i. outlined (verdict_on who o VIEW) >>> λ v. view_forgets who o uses go (λ s object. through_used s (go object)) v i)
+    ∙ sym (bind_assoc (outlined (verdict_on who o VIEW)) _ _)
 through_used uses (Offer who o go) =
-    (λ i. outlined (verdict_on who o view) >>> λ v. offer_forgets who o uses go (λ s granted. through_used s (go granted)) v i)
-    ∙ sym (bind_assoc (outlined (verdict_on who o view)) _ _)
+    (λ i. outlined (verdict_on who o VIEW) >>> λ v. offer_forgets who o uses go (λ s granted. through_used s (go granted)) v i)
+    ∙ sym (bind_assoc (outlined (verdict_on who o VIEW)) _ _)
 
 pub looked_forgets : {A : Type 0} (k : ℕ → Option (Seen Object)) (uses : List Use) (q : Looks A) → looked k (without_users uses) q ≡ and_then (looked_by k uses q) (λ x. Ok (forgotten x))
 looked_forgets k uses q = ap (run k) (through_used uses q) ∙ run_then k (through used uses q) (λ x. query.Done (forgotten x))
@@ -370,7 +371,7 @@ Views k o (See at go) = (shape : Shape) × (run (veiled k) (here at) ≡ Ok shap
 Views k o (Reach w at go) = (found : List ℕ) × (run (veiled k) (reached w at) ≡ Ok found) × Views k o (go found)
 Views k o (Enter who at go) = Views k o go
 Views k o (View who at go) = (at ≡ o) ⊎ ((object : Object) × (run k (here at) ≡ Ok object) × Views k o (go object))
-Views k o (Offer who at go) = (v : Verdict) × (run (veiled k) (verdict_on who at view) ≡ Ok v) × Views k o (go (is_granted v))
+Views k o (Offer who at go) = (v : Verdict) × (run (veiled k) (verdict_on who at VIEW) ≡ Ok v) × Views k o (go (is_granted v))
 
 same_id : (o : ℕ) → nat_eq o o ≡ true
 same_id o = grind (arith, nat_tests)
@@ -429,13 +430,13 @@ module _ (k : ℕ → Option (Seen Object)) (o : ℕ) where
   shown_stays shown (See at go) x is e = let found = past k (here at) (λ object. through taken shown (go object)) x e in shown_stays shown (go found.0) x is found.2
   shown_stays shown (Reach w at go) x is e = let found = past k (reached w at) (λ w. through taken shown (go w)) x e in shown_stays shown (go found.0) x is found.2
   shown_stays shown (Enter who at go) x is e =
-      let found = past k (verdict_on who at access) (entered at (through taken shown go)) x e in
+      let found = past k (verdict_on who at ACCESS_CONTENTS_INFORMATION) (entered at (through taken shown go)) x e in
       enter_stays at (through taken shown go) x found.0 (λ e. shown_stays shown go x is e) found.2
   shown_stays shown (View who at go) x is e =
-      let found = past k (verdict_on who at view) (viewed taken who shown at (λ s object. through taken s (go object))) x e in
+      let found = past k (verdict_on who at VIEW) (viewed taken who shown at (λ s object. through taken s (go object))) x e in
       view_stays who at shown (λ s object. through taken s (go object)) x found.0 (λ s object here new old e. shown_stays s (go object) x (old is) e) found.2
   shown_stays shown (Offer who at go) x is e =
-      let found = past k (verdict_on who at view) (offered taken who shown at (λ s granted. through taken s (go granted))) x e in
+      let found = past k (verdict_on who at VIEW) (offered taken who shown at (λ s granted. through taken s (go granted))) x e in
       offer_stays who at shown (λ s granted. through taken s (go granted)) x found.0 (λ s old e. shown_stays s (go (is_granted found.0)) x (old is) e) found.2
 
 ok_same : {A F : Type 0} (r : Result A F) (x y : A) → r ≡ Ok x → r ≡ Ok y → x ≡ y
@@ -466,23 +467,23 @@ module _ (k : ℕ → Option (Seen Object)) (o : ℕ) where
       let found = past k (reached w at) (λ w. through taken shown (go w)) x e in
       viewed_is_shown shown (go found.0) x (at_same (run (veiled k) (reached w at)) views.0 found.0 go views.1 found.1 views.2) found.2
   viewed_is_shown shown (Enter who at go) x views e =
-      let found = past k (verdict_on who at access) (entered at (through taken shown go)) x e in
+      let found = past k (verdict_on who at ACCESS_CONTENTS_INFORMATION) (entered at (through taken shown go)) x e in
       enter_shows at (through taken shown go) x found.0 (λ e. viewed_is_shown shown go x views e) found.2
   viewed_is_shown shown (View who at go) x views e =
-      let found = past k (verdict_on who at view) (viewed taken who shown at (λ s object. through taken s (go object))) x e in
+      let found = past k (verdict_on who at VIEW) (viewed taken who shown at (λ s object. through taken s (go object))) x e in
       view_stays k o who at shown (λ s object. through taken s (go object)) x found.0
       (λ s object is new old e. here_shows at s go x object is new e (λ s views e. viewed_is_shown s (go object) x views e) views) found.2
   viewed_is_shown shown (Offer who at go) x views e =
-      let found = past k (verdict_on who at view) (offered taken who shown at (λ s granted. through taken s (go granted))) x e in
+      let found = past k (verdict_on who at VIEW) (offered taken who shown at (λ s granted. through taken s (go granted))) x e in
       offer_stays k o who at shown (λ s granted. through taken s (go granted)) x found.0
-      (λ s old e. viewed_is_shown s (go (is_granted found.0)) x (at_same (run (veiled k) (verdict_on who at view)) views.0 found.0 (λ v. go (is_granted v)) views.1 found.1 views.2) e) found.2
+      (λ s old e. viewed_is_shown s (go (is_granted found.0)) x (at_same (run (veiled k) (verdict_on who at VIEW)) views.0 found.0 (λ v. go (is_granted v)) views.1 found.1 views.2) e) found.2
 
 -- ---- contents stay apart
 
 -- two states of knowledge that are the same for a user: they differ in the contents of objects that he may not view alone
 pub record Same (w : Who) (k l : ℕ → Option (Seen Object)) : Type 0 where
   pub without_contents : (o : ℕ) → veiled k o ≡ veiled l o
-  pub contents : (o : ℕ) (role : Role) → run (veiled k) (verdict_on w o view) ≡ Ok (verdicts.Granted role) → k o ≡ l o
+  pub contents : (o : ℕ) (role : Role) → run (veiled k) (verdict_on w o VIEW) ≡ Ok (verdicts.Granted role) → k o ≡ l o
 
 -- On the way to what a page comes to, each view is the user's own: it renders nothing inside an object with proxy roles.
 abbrev pub IsOwn : {A : Type 0} → Who → (ℕ → Option (Seen Object)) → Looks A → Type 0
@@ -531,7 +532,7 @@ module _ (w : Who) (k l : ℕ → Option (Seen Object)) (same : Same w k l) wher
       present_same : (at : ℕ) (x : Option (Seen Object)) → go_on at (λ seen. run k (or_else fault_of (acquiring.present at seen))) x ≡ go_on at (λ seen. run l (or_else fault_of (acquiring.present at seen))) x
       present_same at x = go_on_same at _ _ (present_at at) x
 
-  view_same : {B : Type 0} (at : ℕ) (shown : List Shown) (f : List Shown → Object → Objects Fault B) (v : Verdict) → run (veiled k) (verdict_on w at view) ≡ Ok v →
+  view_same : {B : Type 0} (at : ℕ) (shown : List Shown) (f : List Shown → Object → Objects Fault B) (v : Verdict) → run (veiled k) (verdict_on w at VIEW) ≡ Ok v →
       ((s : List Shown) (object : Object) → run k (here at) ≡ Ok object → run k (f s object) ≡ run l (f s object)) → run k (viewed taken w shown at f v) ≡ run l (viewed taken w shown at f v)
   view_same at shown f (verdicts.Granted role) is each = here_same at (f (taken w at role shown)) (same.contents at role is) (each (taken w at role shown))
   view_same at shown f (verdicts.Denied permission) is each = refl
@@ -548,8 +549,8 @@ module _ (w : Who) (k l : ℕ → Option (Seen Object)) (same : Same w k l) wher
   contents_stay_apart shown (Stops cause) own = refl
   contents_stay_apart shown (See at go) own = both (here at) _ _ (λ object is. contents_stay_apart shown (go object) (own object is))
   contents_stay_apart shown (Reach from at go) own = both (reached from at) _ _ (λ found is. contents_stay_apart shown (go found) (own found is))
-  contents_stay_apart shown (Enter who at go) own = both (verdict_on who at access) _ _ (λ v is. enter_same at (through taken shown go) v (contents_stay_apart shown go own))
-  contents_stay_apart shown (View who at go) own = both (verdict_on who at view) _ _ (λ v is.
-      view_same at shown (λ s object. through taken s (go object)) v (ap (λ u. run (veiled k) (verdict_on u at view)) (sym own.0) ∙ is) (λ s object is. contents_stay_apart s (go object) (own.1 object is)))
-  contents_stay_apart shown (Offer who at go) own = both (verdict_on who at view) _ _ (λ v is.
+  contents_stay_apart shown (Enter who at go) own = both (verdict_on who at ACCESS_CONTENTS_INFORMATION) _ _ (λ v is. enter_same at (through taken shown go) v (contents_stay_apart shown go own))
+  contents_stay_apart shown (View who at go) own = both (verdict_on who at VIEW) _ _ (λ v is.
+      view_same at shown (λ s object. through taken s (go object)) v (ap (λ u. run (veiled k) (verdict_on u at VIEW)) (sym own.0) ∙ is) (λ s object is. contents_stay_apart s (go object) (own.1 object is)))
+  contents_stay_apart shown (Offer who at go) own = both (verdict_on who at VIEW) _ _ (λ v is.
       offer_same who at shown (λ s granted. through taken s (go granted)) v (λ s granted. contents_stay_apart s (go granted) (own granted)))

@@ -8,6 +8,7 @@ use Rattle.std.specs.List.{list_any}
 use Rattle.zbase.specs.Query as query
 use Rattle.zbase.specs.Query.{Query, or_else, run, Halt, ◌>>=◌ as ◌>>>◌}
 use Rattle.dtml_lex.specs.declared.refusal.DtmlRefusal.{DtmlRefusal}
+use Rattle.evaluator.specs.declared.permission.TheConstants.{ACCESS_CONTENTS_INFORMATION, VIEW}
 use Rattle.evaluator.specs.declared.reply.Shown.{Shown}
 use Rattle.zobject.specs.declared.object.Object.{Object}
 use Rattle.zobject.specs.Shapes.{Shape}
@@ -69,12 +70,9 @@ abbrev pub fault_of : acquiring.Fault → Fault
 fault_of (acquiring.Broken o) = Broken o
 fault_of acquiring.TooDeep = TooDeep
 
--- the permissions `View` and `Access contents information`
+-- the permission by which contents are seen
 abbrev pub view : ℕ
-view = 1
-
-abbrev pub access : ℕ
-access = 2
+view = VIEW
 
 -- a question of the layers below, which sees shapes alone
 abbrev pub outlined : {A : Type 0} → Shapes acquiring.Fault A → Objects Fault A
@@ -105,12 +103,12 @@ without_users uses = map (λ (u : Use). u.shown) uses
 
 abbrev pub entered : {A : Type 0} → ℕ → Objects Fault A → Verdict → Objects Fault A
 entered o further (verdicts.Granted role) = further
-entered o further (verdicts.Denied permission) = query.Stops (Unauthorized o access)
+entered o further (verdicts.Denied permission) = query.Stops (Unauthorized o ACCESS_CONTENTS_INFORMATION)
 
 -- what is granted is seen with its contents
 abbrev pub viewed : {A S : Type 0} → (Who → ℕ → Role → S → S) → Who → S → ℕ → (S → Object → Objects Fault A) → Verdict → Objects Fault A
 viewed take who shown o further (verdicts.Granted role) = or_else fault_of (here o) >>> λ object. further (take who o role shown) object
-viewed take who shown o further (verdicts.Denied permission) = query.Stops (Unauthorized o view)
+viewed take who shown o further (verdicts.Denied permission) = query.Stops (Unauthorized o VIEW)
 
 abbrev pub offered : {A S : Type 0} → (Who → ℕ → Role → S → S) → Who → S → ℕ → (S → Bool → Objects Fault A) → Verdict → Objects Fault A
 offered take who shown o further (verdicts.Granted role) = further (take who o role shown) true
@@ -123,9 +121,9 @@ through take shown (Done x) = query.Done (x, shown)
 through take shown (Stops cause) = query.Stops (Of cause)
 through take shown (See o go) = outlined (here o) >>> (λ shape. through take shown (go shape))
 through take shown (Reach w o go) = outlined (reached w o) >>> (λ found. through take shown (go found))
-through take shown (Enter who o go) = outlined (verdict_on who o access) >>> (entered o (through take shown go))
-through take shown (View who o go) = outlined (verdict_on who o view) >>> (viewed take who shown o (λ shown object. through take shown (go object)))
-through take shown (Offer who o go) = outlined (verdict_on who o view) >>> (offered take who shown o (λ shown granted. through take shown (go granted)))
+through take shown (Enter who o go) = outlined (verdict_on who o ACCESS_CONTENTS_INFORMATION) >>> (entered o (through take shown go))
+through take shown (View who o go) = outlined (verdict_on who o VIEW) >>> (viewed take who shown o (λ shown object. through take shown (go object)))
+through take shown (Offer who o go) = outlined (verdict_on who o VIEW) >>> (offered take who shown o (λ shown granted. through take shown (go granted)))
 
 -- what comes of it over what is known, with the objects that were shown
 abbrev pub looked : {A : Type 0} → (ℕ → Option (Seen Object)) → List Shown → Looks A → Result (A × List Shown) (Halt ℕ Fault)

@@ -127,11 +127,15 @@ property_in who name o = viewing who o >>= λ object. Done (property_value name 
 unfoldable pub property_or_child : Who → List ℕ → List ℕ → ℕ → Shape → Looks (Option Val)
 property_or_child who name whole o shape = if has_property name shape then property_in who name o else child_at whole (child_in name shape.form)
 
+-- a text of an object, which needs a view
+abbrev pub viewed_text : (Object → List ℕ) → Who → ℕ → Looks (Option Val)
+viewed_text of who o = viewing who o >>= λ object. Done (Some (text (of object)))
+
 unfoldable pub title_in : Who → ℕ → Looks (Option Val)
-title_in who o = viewing who o >>= λ object. Done (Some (text object.title))
+title_in who o = viewed_text (λ object. object.title) who o
 
 unfoldable pub title_or_id_in : Who → ℕ → Looks (Option Val)
-title_or_id_in who o = viewing who o >>= λ object. Done (Some (text (title_or_id object)))
+title_or_id_in who o = viewed_text title_or_id who o
 
 unfoldable pub by_word : Who → Word → List ℕ → List ℕ → ℕ → Shape → Looks (Option Val)
 by_word who word.Id name whole o shape = Done (Some (text shape.id))

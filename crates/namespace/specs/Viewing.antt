@@ -3,6 +3,7 @@ use Rattle.std.specs.Prelude.{ℕ, ◌≡◌, nat_eq, true, List, Option, Some, 
 use Rattle.std.specs.List.{find, list_any}
 use Rattle.std.specs.Str.{bytes_eq}
 use Rattle.zbase.specs.Query.{run}
+use Rattle.evaluator.specs.declared.permission.TheConstants.{VIEW}
 use Rattle.evaluator.specs.declared.reply.Shown.{Shown}
 use Rattle.zobject.specs.declared.object.Object.{Object}
 use Rattle.zobject.specs.declared.object.Property.{Property}
@@ -19,13 +20,13 @@ use Rattle.permissions.specs.declared.who.Verdict.TheVariants as verdicts
 use Rattle.namespace.specs.declared.viewed.Viewed.{Viewed}
 use Rattle.namespace.specs.declared.word.Word.{Word}
 use Rattle.namespace.specs.declared.word.Word.TheVariants as word
-use Rattle.namespace.specs.Looks.{outlined, view}
+use Rattle.namespace.specs.Looks.{outlined}
 use Rattle.namespace.specs.Names.{title_or_id, word_of}
 
 -- the user is granted the view of the object, and it is shown
 abbrev pub IsViewed : List (ℕ × Kept) → Who → List Shown → ℕ → Object → Type 0
 IsViewed rows who shown o object = (role : Role)
-    × (run (objects rows) (outlined (verdict_on who o view)) ≡ Ok (verdicts.Granted role))
+    × (run (objects rows) (outlined (verdict_on who o VIEW)) ≡ Ok (verdicts.Granted role))
     × (run (objects rows) (here o) ≡ Ok object)
     × (run (shapes rows) (here o) ≡ Ok (shape_of object))
     × (list_any (λ (s : Shown). nat_eq s.oid o) shown ≡ true)

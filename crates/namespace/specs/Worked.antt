@@ -1,6 +1,7 @@
 -- Worked rows: what names mean in a small site, and to whom. They compute.
 use Rattle.std.proofs.Common.{◌≡◌, ℕ, false, List, [], ◌∷◌, Option, Some, None, Ok, Err, refl, codes, nat_eq, if◌then◌else◌}
 use Rattle.zbase.specs.Query.{Need, Cause}
+use Rattle.evaluator.specs.declared.permission.TheConstants.{VIEW}
 use Rattle.evaluator.specs.declared.reply.Shown.{Shown}
 use Rattle.zobject.specs.declared.object.Object.{Object}
 use Rattle.zobject.specs.declared.object.Setting.{Setting}
@@ -33,7 +34,7 @@ abbrev plain : List ℕ → ℕ → List ℕ → List Setting → List Property 
 plain id parent title settings properties part = Here (record { id = id; parent = parent; title = title; settings = settings; locals = []; properties = properties; part = part })
 
 abbrev managers : List Setting
-managers = record { permission = 1; acquire = false; roles = codes "Manager" ∷ [] } ∷ []
+managers = record { permission = VIEW; acquire = false; roles = codes "Manager" ∷ [] } ∷ []
 
 -- the root has a document `s` that managers alone view, and the folders `A` with a document `x`, and `B`, whose `colour`
 -- is a property and a child
@@ -55,7 +56,7 @@ by o role = record { oid = o; role = role }
 
 -- ---- in an object
 
-denied : looked site [] (in_object who.Anonymous (1 ∷ 0 ∷ []) (codes "title")) ≡ Err (Cause (Unauthorized 1 1))
+denied : looked site [] (in_object who.Anonymous (1 ∷ 0 ∷ []) (codes "title")) ≡ Err (Cause (Unauthorized 1 VIEW))
 unfolding site in_object searched in_one by_word title_in shape_of verdict_on containers upwards judged roles has locals_on local_roles
 denied = refl
 
@@ -135,6 +136,6 @@ their_use : looked_by site [] (named (act (Some (who.Known [] (codes "Manager" �
 unfolding site named_for in_layers in_base in_object searched in_one by_word title_in shape_of verdict_on containers upwards judged roles has locals_on local_roles
 their_use = refl
 
-nobodys_place : looked site [] (named (act None (scope [])) (codes "title")) ≡ Err (Cause (Unauthorized 1 1))
+nobodys_place : looked site [] (named (act None (scope [])) (codes "title")) ≡ Err (Cause (Unauthorized 1 VIEW))
 unfolding site named_for in_layers in_base in_object searched in_one by_word title_in shape_of verdict_on containers upwards judged roles has locals_on local_roles
 nobodys_place = refl

@@ -15,6 +15,7 @@ mod showing;
 mod stack;
 mod val;
 mod viewed;
+mod viewer;
 mod word;
 
 pub use label::Label;

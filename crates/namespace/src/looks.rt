@@ -3,6 +3,7 @@ ghost use Rattle.zbase.specs.Query.{run, Answers, Told};
 ghost use Rattle.zobject.specs.declared.object.Object.{Object as ObjectValue};
 ghost use Rattle.zobject.specs.Shapes.{shape_of};
 ghost use Rattle.zknown.specs.Seen.{Seen, objects};
+ghost use Rattle.evaluator.specs.declared.permission.TheConstants.{VIEW};
 ghost use Rattle.evaluator.specs.declared.reply.Shown.{Shown as ShownObject};
 ghost use Rattle.acquisition.specs.Acquiring as acquiring;
 ghost use Rattle.permissions.specs.Verdicts.{verdict_on};
@@ -16,17 +17,12 @@ ghost use Rattle.namespace.specs.Told.{told, OnlyAnswers, Shows};
 use crate::refusal::NameRefusal;
 use crate::showing::Showing;
 use acquisition::{Wrapped, here};
+use evaluator::permission::{ACCESS_CONTENTS_INFORMATION, VIEW};
 use permissions::{GrantedRole, Verdict, Who, verdict_from, verdict_on};
 use std::alloc::Global;
 use zbase::{Memory, Oid};
 use zknown::Known;
 use zobject::Object;
-
-/// The permission `View`.
-const VIEW: u8 = 1;
-
-/// The permission `Access contents information`.
-const ACCESS: u8 = 2;
 
 // The verdict on an object.
 #[tactic(auto, using(crate::proofs::Steps::outlined_is, crate::proofs::Steps::outlined_stops))]
@@ -85,7 +81,7 @@ fn entered(oid: Oid, verdict: Verdict) -> Result<(), NameRefusal>
         → Shows told (λ u. tt {0}) shown result (run known (looks.entered oid (looks.through looks.taken shown (looks.Done tt)) verdict)) }
 {
     match verdict {
-        Verdict::Denied(_) => Err(NameRefusal::Unauthorized(oid, ACCESS)),
+        Verdict::Denied(_) => Err(NameRefusal::Unauthorized(oid, ACCESS_CONTENTS_INFORMATION)),
         Verdict::Granted(_) => Ok(()),
     }
 }
@@ -95,7 +91,7 @@ fn entered(oid: Oid, verdict: Verdict) -> Result<(), NameRefusal>
 pub(crate) fn enter(alloc: Global, known: &Known, who: &Who, oid: Oid) -> Result<(), NameRefusal>
     ensures { (shown : List ShownObject) → Shows told (λ u. tt {0}) shown result (looked (objects known.now) shown (spec.entering who.now oid)) }
 {
-    let verdict = verdict(alloc, known, who, oid, ACCESS)?;
+    let verdict = verdict(alloc, known, who, oid, ACCESS_CONTENTS_INFORMATION)?;
     entered(oid, verdict)
 }
 
@@ -109,7 +105,7 @@ pub(crate) fn view_role(
     object: &Object,
 ) -> Result<GrantedRole, NameRefusal>
     requires { run (objects known.now) (acquiring.here oid) ≡ Ok object.now }
-    ensures ok { IfOk result (λ role. run (objects known.now) (outlined (verdict_on who.now oid looks.view)) ≡ Ok (verdicts.Granted role)) }
+    ensures ok { IfOk result (λ role. run (objects known.now) (outlined (verdict_on who.now oid VIEW)) ≡ Ok (verdicts.Granted role)) }
     ensures err { IfErr result (λ e. (shown : List ShownObject) → Told (told e) (looked (objects known.now) shown (spec.viewing who.now oid))) }
 {
     let verdict = verdict_here(alloc, known, who, oid, object, VIEW)?;

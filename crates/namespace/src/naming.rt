@@ -1,7 +1,8 @@
-ghost use Rattle.std.specs.Prelude.{◌≡◌, List, [], IfOk, Ok, Some, option_map};
+ghost use Rattle.std.specs.Prelude.{◌≡◌, ℕ, List, [], IfOk, Ok, Some, option_map};
 ghost use Rattle.std.specs.List.{find};
 ghost use Rattle.std.specs.Str.{bytes_eq};
 ghost use Rattle.zbase.specs.Query.{run};
+ghost use Rattle.zobject.specs.declared.object.Object.{Object as ObjectValue};
 ghost use Rattle.zobject.specs.Shapes.{form_of, shape_of};
 ghost use Rattle.zknown.specs.Seen.{objects};
 ghost use Rattle.evaluator.specs.declared.reply.Shown.{Shown as ShownObject};
@@ -14,6 +15,7 @@ use crate::looks::{enter, reach, see, view_role};
 use crate::refusal::NameRefusal;
 use crate::showing::Showing;
 use crate::val::{Single, Singles, Val};
+use crate::viewer::Viewer;
 use crate::word::{Word, word_of};
 use acquisition::Wrapped;
 use permissions::Who;
@@ -39,50 +41,29 @@ pub(crate) fn title_or_id(object: &Object) -> &Text
     }
 }
 
-// The title of an object, which needs a view.
-#[tactic(auto, unfolding(crate::specs::Names::title_in))]
-fn title(
-    alloc: Global,
-    known: &Known,
-    who: &Who,
+// A text of an object, which needs a view.
+fn viewed_text(
+    viewer: &Viewer<'_>,
     shown: &mut Showing,
     oid: Oid,
     object: &Object,
+    text: &Text,
 ) -> Result<Option<Val>, NameRefusal>
-    requires { run (objects known.now) (here oid) ≡ Ok object.now }
-    ensures is { Shows told (λ v. v) shown.new result (looked (objects known.now) shown.old (spec.title_in who.now oid)) }
+    requires { run (objects viewer.now.known.now) (here oid) ≡ Ok object.now }
+    ensures is { (of : ObjectValue → List ℕ) → of object.now ≡ text.now
+        → Shows told (λ v. v) shown.new result (looked (objects viewer.now.known.now) shown.old (spec.viewed_text of viewer.now.who.now oid)) }
     ensures shown { OnlyHits shown.old shown.new result }
 {
-    let role = view_role(alloc, known, who, oid, object)?;
-    let title = text_value(&object.title)?;
-    shown.take(alloc, oid, role)?;
-    Ok(Some(title))
-}
-
-// The title or else the id, which need a view too.
-#[tactic(auto, unfolding(crate::specs::Names::title_or_id_in))]
-fn title_or_else_id(
-    alloc: Global,
-    known: &Known,
-    who: &Who,
-    shown: &mut Showing,
-    oid: Oid,
-    object: &Object,
-) -> Result<Option<Val>, NameRefusal>
-    requires { run (objects known.now) (here oid) ≡ Ok object.now }
-    ensures is { Shows told (λ v. v) shown.new result (looked (objects known.now) shown.old (spec.title_or_id_in who.now oid)) }
-    ensures shown { OnlyHits shown.old shown.new result }
-{
-    let role = view_role(alloc, known, who, oid, object)?;
-    let title = text_value(title_or_id(object))?;
-    shown.take(alloc, oid, role)?;
-    Ok(Some(title))
+    let role = view_role(viewer.alloc, viewer.known, viewer.who, oid, object)?;
+    let value = text_value(text)?;
+    shown.take(viewer.alloc, oid, role)?;
+    Ok(Some(value))
 }
 
 fn ids_of(alloc: Global, children: &[Child]) -> Result<Singles, Memory>
     ensures { IfOk result (λ ids. ids ≡ spec.ids_of children.now) }
 {
-    let mut ids = Items::new(alloc);
+    let mut ids = Items::from_vec(Vec::with_capacity(alloc, children.len())?);
     for child in children {
         ids.push(Single::Text(child.name.copy()?))?;
     }
@@ -120,7 +101,7 @@ fn reach_each(
 ) -> Result<Singles, NameRefusal>
     ensures { (shown : List ShownObject) → Shows told (λ all. all) shown result (looked (objects known.now) shown (spec.reach_each whole.now [] children.now)) }
 {
-    let mut all = Items::new(alloc);
+    let mut all = Items::from_vec(Vec::with_capacity(alloc, children.len())?);
     for child in children {
         let found = reach(known, whole, child.oid)?;
         all.push(Single::Obj(found))?;
@@ -166,7 +147,7 @@ fn object_values(
 fn texts(alloc: Global, lines: &[Text]) -> Result<Singles, Memory>
     ensures { IfOk result (λ all. all ≡ spec.texts lines.now) }
 {
-    let mut all = Items::new(alloc);
+    let mut all = Items::from_vec(Vec::with_capacity(alloc, lines.len())?);
     for line in lines {
         all.push(Single::Text(line.copy()?))?;
     }
@@ -195,23 +176,21 @@ pub(crate) fn property_of<'a>(name: &str, properties: &'a [Property]) -> Option<
 // The value of a property, which needs a view.
 #[tactic(auto, unfolding(crate::specs::Names::property_in))]
 fn viewed_property(
-    alloc: Global,
-    known: &Known,
-    who: &Who,
+    viewer: &Viewer<'_>,
     shown: &mut Showing,
     name: &str,
     oid: Oid,
     object: &Object,
     property: &Property,
 ) -> Result<Option<Val>, NameRefusal>
-    requires here { run (objects known.now) (here oid) ≡ Ok object.now }
+    requires here { run (objects viewer.now.known.now) (here oid) ≡ Ok object.now }
     requires found { find (λ p. bytes_eq p.name name.now) object.now.properties ≡ Some property.now }
-    ensures is { Shows told (λ v. v) shown.new result (looked (objects known.now) shown.old (spec.property_in who.now name.now oid)) }
+    ensures is { Shows told (λ v. v) shown.new result (looked (objects viewer.now.known.now) shown.old (spec.property_in viewer.now.who.now name.now oid)) }
     ensures shown { OnlyHits shown.old shown.new result }
 {
-    let role = view_role(alloc, known, who, oid, object)?;
-    let value = value_of(alloc, &property.value)?;
-    shown.take(alloc, oid, role)?;
+    let role = view_role(viewer.alloc, viewer.known, viewer.who, oid, object)?;
+    let value = value_of(viewer.alloc, &property.value)?;
+    shown.take(viewer.alloc, oid, role)?;
     Ok(Some(value))
 }
 
@@ -230,86 +209,85 @@ fn child_at(known: &Known, whole: &Wrapped, child: Option<Oid>) -> Result<Option
 // A property comes before a child of its name.
 #[tactic(auto, unfolding(crate::specs::Names::property_or_child, zobject::specs::Shapes::shape_of))]
 fn property_or_child(
-    alloc: Global,
-    known: &Known,
-    who: &Who,
+    viewer: &Viewer<'_>,
     shown: &mut Showing,
     name: &str,
     whole: &Wrapped,
     oid: Oid,
     object: &Object,
 ) -> Result<Option<Val>, NameRefusal>
-    requires { run (objects known.now) (here oid) ≡ Ok object.now }
+    requires { run (objects viewer.now.known.now) (here oid) ≡ Ok object.now }
     ensures is { Shows told (λ v. v) shown.new result
-        (looked (objects known.now) shown.old (spec.property_or_child who.now name.now whole.now oid (shape_of object.now))) }
+        (looked (objects viewer.now.known.now) shown.old (spec.property_or_child viewer.now.who.now name.now whole.now oid (shape_of object.now))) }
     ensures shown { OnlyHits shown.old shown.new result }
 {
     match property_of(name, object.properties.as_slice()) {
-        Some(property) => { viewed_property(alloc, known, who, shown, name, oid, object, property) }
-        None => child_at(known, whole, child_in(name, &object.part)),
+        Some(property) => { viewed_property(viewer, shown, name, oid, object, property) }
+        None => child_at(viewer.known, whole, child_in(name, &object.part)),
     }
 }
 
 #[tactic(auto, unfolding(crate::specs::Names::by_word, zobject::specs::Shapes::shape_of))]
 fn by_word(
-    alloc: Global,
-    known: &Known,
-    who: &Who,
+    viewer: &Viewer<'_>,
     shown: &mut Showing,
     name: &str,
     whole: &Wrapped,
     oid: Oid,
     object: &Object,
 ) -> Result<Option<Val>, NameRefusal>
-    requires { run (objects known.now) (here oid) ≡ Ok object.now }
+    requires { run (objects viewer.now.known.now) (here oid) ≡ Ok object.now }
     ensures is { Shows told (λ v. v) shown.new result
-        (looked (objects known.now) shown.old (spec.by_word who.now (spec.word_of name.now) name.now whole.now oid (shape_of object.now))) }
+        (looked (objects viewer.now.known.now) shown.old (spec.by_word viewer.now.who.now (spec.word_of name.now) name.now whole.now oid (shape_of object.now))) }
     ensures shown { OnlyHits shown.old shown.new result }
 {
     match word_of(name) {
         Word::Id => Ok(Some(text_value(&object.id)?)),
-        Word::Title => title(alloc, known, who, shown, oid, object),
-        Word::TitleOrId => title_or_else_id(alloc, known, who, shown, oid, object),
-        Word::ObjectIds => object_ids(alloc, known, who, oid, &object.part),
-        Word::ObjectValues => object_values(alloc, known, who, whole, oid, &object.part),
-        Word::Other => property_or_child(alloc, known, who, shown, name, whole, oid, object),
+        Word::Title => viewed_text(viewer, shown, oid, object, &object.title),
+        Word::TitleOrId => viewed_text(viewer, shown, oid, object, title_or_id(object)),
+        Word::ObjectIds => object_ids(viewer.alloc, viewer.known, viewer.who, oid, &object.part),
+        Word::ObjectValues => object_values(
+            viewer.alloc,
+            viewer.known,
+            viewer.who,
+            whole,
+            oid,
+            &object.part,
+        ),
+        Word::Other => property_or_child(viewer, shown, name, whole, oid, object),
     }
 }
 
 // What the object itself has under the name.
 #[tactic(auto, using(crate::proofs::Steps::goes_so, crate::proofs::Steps::stops), unfolding(crate::specs::Names::in_one))]
 fn in_one(
-    alloc: Global,
-    known: &Known,
-    who: &Who,
+    viewer: &Viewer<'_>,
     shown: &mut Showing,
     name: &str,
     whole: &Wrapped,
     oid: Oid,
 ) -> Result<Option<Val>, NameRefusal>
-    ensures is { Shows told (λ v. v) shown.new result (looked (objects known.now) shown.old (spec.in_one who.now name.now whole.now oid)) }
+    ensures is { Shows told (λ v. v) shown.new result (looked (objects viewer.now.known.now) shown.old (spec.in_one viewer.now.who.now name.now whole.now oid)) }
     ensures shown { OnlyHits shown.old shown.new result }
 {
-    let object = see(known, oid)?;
-    by_word(alloc, known, who, shown, name, whole, oid, object)
+    let object = see(viewer.known, oid)?;
+    by_word(viewer, shown, name, whole, oid, object)
 }
 
 // In the first object from the left that has the name: containers before the context.
 #[tactic(auto, unfolding(crate::specs::Names::searched))]
 fn search(
-    alloc: Global,
-    known: &Known,
-    who: &Who,
+    viewer: &Viewer<'_>,
     shown: &mut Showing,
     name: &str,
     whole: &Wrapped,
 ) -> Result<Option<Val>, NameRefusal>
-    ensures is { Shows told (λ v. v) shown.new result (looked (objects known.now) shown.old (spec.searched who.now name.now whole.now whole.now)) }
+    ensures is { Shows told (λ v. v) shown.new result (looked (objects viewer.now.known.now) shown.old (spec.searched viewer.now.who.now name.now whole.now whole.now)) }
     ensures shown { OnlyHits shown.old shown.new result }
 {
     let mut left = whole.order();
     while let Some((oid, others)) = left.split_first() {
-        let hit = in_one(alloc, known, who, shown, name, whole, *oid)?;
+        let hit = in_one(viewer, shown, name, whole, *oid)?;
         if hit.is_some() {
             return Ok(hit);
         }
@@ -322,18 +300,16 @@ fn search(
 /// those that has it.
 #[tactic(auto, unfolding(crate::specs::Names::in_object))]
 pub(crate) fn in_object(
-    alloc: Global,
-    known: &Known,
-    who: &Who,
+    viewer: &Viewer<'_>,
     shown: &mut Showing,
     name: &str,
     whole: &Wrapped,
 ) -> Result<Option<Val>, NameRefusal>
-    ensures is { Shows told (λ v. v) shown.new result (looked (objects known.now) shown.old (spec.in_object who.now whole.now name.now)) }
+    ensures is { Shows told (λ v. v) shown.new result (looked (objects viewer.now.known.now) shown.old (spec.in_object viewer.now.who.now whole.now name.now)) }
     ensures shown { OnlyHits shown.old shown.new result }
 {
     if name.as_bytes().starts_with(b"_") {
         return Ok(None);
     }
-    search(alloc, known, who, shown, name, whole)
+    search(viewer, shown, name, whole)
 }

@@ -1,4 +1,5 @@
 use acquisition::AqRefusal;
+use std::alloc::AllocError;
 use zbase::{Memory, Oid};
 
 /// Why a name has no value.
@@ -23,6 +24,17 @@ impl From<Memory> for NameRefusal {
     ghost from_gives = { λ _ e. e ≡ refusal.Memory };
 
     fn from(_: Memory) -> NameRefusal {
+        NameRefusal::Memory
+    }
+}
+
+impl From<AllocError> for NameRefusal {
+    ghost use Rattle.std.specs.Prelude.{◌≡◌};
+    ghost use Rattle.namespace.specs.declared.refusal.NameRefusal.TheVariants as refusal;
+
+    ghost from_gives = { λ _ e. e ≡ refusal.Memory };
+
+    fn from(_: AllocError) -> NameRefusal {
         NameRefusal::Memory
     }
 }

@@ -10,6 +10,9 @@ use permissions::Who;
 use std::alloc::Global;
 use zbase::{Items, Memory, Text};
 
+/// How many names every request has.
+const REQUEST_WORDS: usize = 3;
+
 fn host(request: &Request) -> &str
     ensures { result.now ≡ spec.or_localhost (headers.first_value spec.host_name request.now.headers) }
 {
@@ -59,7 +62,7 @@ fn scalar(value: &Scalar) -> Result<Single, Memory>
 fn scalars(alloc: Global, values: &[Scalar]) -> Result<Singles, Memory>
     ensures { IfOk result (λ all. all ≡ map spec.scalar_value values.now) }
 {
-    let mut all = Items::new(alloc);
+    let mut all = Items::from_vec(Vec::with_capacity(alloc, values.len())?);
     for value in values {
         all.push(scalar(value)?)?;
     }
@@ -108,7 +111,11 @@ pub fn request_names(
 ) -> Result<Names, Memory>
     ensures { IfOk result (λ names. names ≡ spec.request_names request.now user.now fields.now cookies.now) }
 {
-    let mut names = Items::new(alloc);
+    let count = fields
+        .len()
+        .saturating_add(cookies.len())
+        .saturating_add(REQUEST_WORDS);
+    let mut names = Items::from_vec(Vec::with_capacity(alloc, count)?);
     push_text(&mut names, "URL0", url(alloc, request)?)?;
     let method = Text::from_str(alloc, method_name(request.method))?;
     push_text(&mut names, "REQUEST_METHOD", method)?;

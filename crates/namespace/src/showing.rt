@@ -66,6 +66,13 @@ impl Showing {
         &self.list
     }
 
+    /// The objects, handed out. Takes no memory.
+    pub(crate) fn into_list(self) -> ShownList
+        ensures { result ≡ self }
+    {
+        self.list
+    }
+
     // Whether the object is the one that was shown last: it is mostly the one whose next name is asked for.
     fn is_newest(&self, oid: Oid) -> bool
         ensures { result ≡ true → list_any (λ (s : ShownObject). nat_eq s.oid oid) self.now ≡ true }

@@ -14,6 +14,7 @@ use crate::refusal::NameRefusal;
 use crate::showing::Showing;
 use crate::val::{Layer, Named, Names, Val};
 use crate::viewed::{Viewed, lent_by};
+use crate::viewer::Viewer;
 use acquisition::Wrapped;
 use evaluator::ShownList;
 use permissions::Who;
@@ -84,38 +85,34 @@ fn value_in(names: &[Named], name: &str) -> Result<Option<Val>, Memory>
 
 #[tactic(auto, unfolding(crate::specs::Names::in_layer))]
 fn in_layer(
-    alloc: Global,
-    known: &Known,
-    who: &Who,
+    viewer: &Viewer<'_>,
     shown: &mut Showing,
     name: &str,
     layer: &Layer,
 ) -> Result<Option<Val>, NameRefusal>
-    ensures is { Shows told (λ v. v) shown.new result (looked (objects known.now) shown.old (spec.in_layer who.now name.now layer.now)) }
+    ensures is { Shows told (λ v. v) shown.new result (looked (objects viewer.now.known.now) shown.old (spec.in_layer viewer.now.who.now name.now layer.now)) }
     ensures shown { OnlyHits shown.old shown.new result }
 {
     match layer {
         Layer::Names(names) => Ok(value_in(names.as_slice(), name)?),
-        Layer::Object(whole) => in_object(alloc, known, who, shown, name, whole),
+        Layer::Object(whole) => in_object(viewer, shown, name, whole),
     }
 }
 
 // In the newest of these layers that has the name; the oldest comes first in the list.
 #[tactic(auto, unfolding(crate::specs::Names::in_layers))]
 fn in_layers(
-    alloc: Global,
-    known: &Known,
-    who: &Who,
+    viewer: &Viewer<'_>,
     shown: &mut Showing,
     name: &str,
     layers: &[Layer],
 ) -> Result<Option<Val>, NameRefusal>
-    ensures is { Shows told (λ v. v) shown.new result (looked (objects known.now) shown.old (spec.in_layers who.now name.now (reverse layers.now))) }
+    ensures is { Shows told (λ v. v) shown.new result (looked (objects viewer.now.known.now) shown.old (spec.in_layers viewer.now.who.now name.now (reverse layers.now))) }
     ensures shown { OnlyHits shown.old shown.new result }
 {
     let mut left = layers;
     while let Some((layer, older)) = left.split_last() {
-        let hit = in_layer(alloc, known, who, shown, name, layer)?;
+        let hit = in_layer(viewer, shown, name, layer)?;
         if hit.is_some() {
             return Ok(hit);
         }
@@ -127,18 +124,16 @@ fn in_layers(
 // In the client, and then among the request's values.
 #[tactic(auto, using(crate::proofs::Steps::stops), unfolding(crate::specs::Names::in_base))]
 fn in_base(
-    alloc: Global,
-    known: &Known,
-    who: &Who,
+    viewer: &Viewer<'_>,
     shown: &mut Showing,
     name: &str,
     client: &Wrapped,
     request: &[Named],
 ) -> Result<Option<Val>, NameRefusal>
-    ensures is { Shows told (λ v. v) shown.new result (looked (objects known.now) shown.old (spec.in_base who.now name.now client.now request.now)) }
+    ensures is { Shows told (λ v. v) shown.new result (looked (objects viewer.now.known.now) shown.old (spec.in_base viewer.now.who.now name.now client.now request.now)) }
     ensures shown { OnlyHits shown.old shown.new result }
 {
-    let hit = in_object(alloc, known, who, shown, name, client)?;
+    let hit = in_object(viewer, shown, name, client)?;
     if hit.is_some() {
         return Ok(hit);
     }
@@ -148,9 +143,7 @@ fn in_base(
 // In the newest layer that has the name, or else in the client, and then among the request's values.
 #[tactic(auto, using(crate::proofs::Steps::stops), unfolding(crate::specs::Names::named_for))]
 fn find_in(
-    alloc: Global,
-    known: &Known,
-    who: &Who,
+    viewer: &Viewer<'_>,
     shown: &mut Showing,
     name: &str,
     layers: &[Layer],
@@ -158,14 +151,14 @@ fn find_in(
     request: &[Named],
 ) -> Result<Option<Val>, NameRefusal>
     ensures is { Shows told (λ v. v) shown.new result
-        (looked (objects known.now) shown.old (spec.named_for who.now name.now layers.now client.now request.now)) }
+        (looked (objects viewer.now.known.now) shown.old (spec.named_for viewer.now.who.now name.now layers.now client.now request.now)) }
     ensures shown { OnlyHits shown.old shown.new result }
 {
-    let hit = in_layers(alloc, known, who, shown, name, layers)?;
+    let hit = in_layers(viewer, shown, name, layers)?;
     if hit.is_some() {
         return Ok(hit);
     }
-    in_base(alloc, known, who, shown, name, client, request)
+    in_base(viewer, shown, name, client, request)
 }
 
 impl<'k> Stack<'k> {
@@ -243,13 +236,15 @@ impl<'k> Stack<'k> {
         ensures scope { self.new.scope ≡ self.old.scope }
         ensures shown { OnlyHits self.old.shown self.new.shown result }
     {
-        let who = whose(&self.user, self.acting.as_ref());
+        let viewer = Viewer {
+            alloc: self.alloc,
+            known: self.known,
+            who: whose(&self.user, self.acting.as_ref()),
+        };
         let layers = self.layers.as_slice();
         let request = self.request.as_slice();
         find_in(
-            self.alloc,
-            self.known,
-            who,
+            &viewer,
             &mut self.shown,
             name,
             layers,
@@ -266,8 +261,12 @@ impl<'k> Stack<'k> {
         ensures scope { self.new.scope ≡ self.old.scope }
         ensures shown { OnlyHits self.old.shown self.new.shown result }
     {
-        let who = whose(&self.user, self.acting.as_ref());
-        in_object(self.alloc, self.known, who, &mut self.shown, name, object)
+        let viewer = Viewer {
+            alloc: self.alloc,
+            known: self.known,
+            who: whose(&self.user, self.acting.as_ref()),
+        };
+        in_object(&viewer, &mut self.shown, name, object)
     }
 
     /// The object with its contents, which the user must be granted to view; it is then shown.
@@ -343,5 +342,13 @@ impl<'k> Stack<'k> {
         ensures { result.now ≡ self.now.shown }
     {
         self.shown.list()
+    }
+
+    /// The objects that were shown, in the order of their first use, handed out with what else the stack held dropped. Takes
+    /// no memory.
+    pub fn into_shown(self) -> ShownList
+        ensures { result ≡ self.entry.shown }
+    {
+        self.shown.into_list()
     }
 }

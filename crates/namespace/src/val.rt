@@ -57,7 +57,7 @@ impl Single {
 fn copy_all(alloc: Global, all: &[Single]) -> Result<Singles, Memory>
     ensures { IfOk result (λ copies. copies ≡ all.now) }
 {
-    let mut copies = Items::new(alloc);
+    let mut copies = Items::from_vec(Vec::with_capacity(alloc, all.len())?);
     for single in all {
         copies.push(single.copy()?)?;
     }

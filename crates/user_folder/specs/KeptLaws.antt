@@ -12,6 +12,7 @@ use Rattle.base64.specs.Engines.{standard}
 use Rattle.base64.specs.GeneralPurpose.{encode_of}
 use Rattle.base64.specs.Rfc4648.{encode_symbols, padding_len}
 use Rattle.sha1.specs.Sha1.{digest_bytes, sha1}
+use Rattle.zobject.specs.declared.limits.TheConstants.{MOST_PASSWORD}
 use Rattle.zobject.specs.Rules.{Keeps}
 use Rattle.zobject.specs.declared.version.Rule.TheVariants.{Password}
 use Rattle.user_folder.specs.Users.{kept}
@@ -40,4 +41,4 @@ both true false p q = q
 both false b p q = p
 
 pub kept_is_lawful : (password : List ℕ) → Keeps Password (kept password)
-kept_is_lawful password = both (nat_le (length (kept password)) 100) (is_utf8 (kept password)) (ap (λ (n : ℕ). nat_le n 100) (kept_length password)) (kept_utf8 password)
+kept_is_lawful password = both (nat_le (length (kept password)) MOST_PASSWORD) (is_utf8 (kept password)) (ap (λ (n : ℕ). nat_le n MOST_PASSWORD) (kept_length password)) (kept_utf8 password)

@@ -10,9 +10,9 @@ pub returns-in_err-object-clause-is : goal.returns-in_err-object-clause-is
 unfolding in_one
 returns-in_err-object-clause-is c =
     let p = err_from_is_err_and c.from_residual.result c.from_residual.ensures.1 in
-    rw (p.1, p.2) (stops (objects c.args.known.now) c.args.shown.now (seeing c.args.oid) (λ shape. by_word c.args.who.now (word_of c.args.name.now) c.args.name.now c.args.whole.now c.args.oid shape) _ (c.in_err-object.ensures.shape c.args.shown.now))
+    rw (p.1, p.2) (stops (objects c.args.viewer.now.known.now) c.args.shown.now (seeing c.args.oid) (λ shape. by_word c.args.viewer.now.who.now (word_of c.args.name.now) c.args.name.now c.args.whole.now c.args.oid shape) _ (c.in_err-object.ensures.shape c.args.shown.now))
 
 pub returns-clause-is : goal.returns-clause-is
 unfolding in_one
-returns-clause-is c = goes_so told (λ v. v) c.by_word.new.shown c.by_word.result (objects c.args.known.now) c.args.shown.now (seeing c.args.oid)
-    (λ shape. by_word c.args.who.now (word_of c.args.name.now) c.args.name.now c.args.whole.now c.args.oid shape) (shape_of c.in_ok-object.object.now) c.args.shown.now (c.in_ok-object.ensures.shape c.args.shown.now) c.by_word.ensures.is
+returns-clause-is c = goes_so told (λ v. v) c.by_word.new.shown c.by_word.result (objects c.args.viewer.now.known.now) c.args.shown.now (seeing c.args.oid)
+    (λ shape. by_word c.args.viewer.now.who.now (word_of c.args.name.now) c.args.name.now c.args.whole.now c.args.oid shape) (shape_of c.in_ok-object.object.now) c.args.shown.now (c.in_ok-object.ensures.shape c.args.shown.now) c.by_word.ensures.is

@@ -8,13 +8,13 @@ use Rattle.namespace.proofs.stack.find_in.Goals as goal
 pub returns-then-is_some-clause-is : goal.returns-then-is_some-clause-is
 unfolding named_for
 returns-then-is_some-clause-is c =
-    hit_ends (objects c.args.known.now) c.args.shown.now c.in_layers.new.shown (in_layers c.args.who.now c.args.name.now (reverse c.args.layers.now)) (in_base c.args.who.now c.args.name.now c.args.client.now c.args.request.now) c.in_ok-hit.hit c.in_ok-hit.ensures.is c.if-is_some.ensures
+    hit_ends (objects c.args.viewer.now.known.now) c.args.shown.now c.in_layers.new.shown (in_layers c.args.viewer.now.who.now c.args.name.now (reverse c.args.layers.now)) (in_base c.args.viewer.now.who.now c.args.name.now c.args.client.now c.args.request.now) c.in_ok-hit.hit c.in_ok-hit.ensures.is c.if-is_some.ensures
 
 pub returns-clause-is : goal.returns-clause-is
 unfolding named_for
 returns-clause-is c =
     subst (Shows told (λ v. v) c.in_base.new.shown c.in_base.result)
-    (sym (rest_decides (objects c.args.known.now) c.args.shown.now c.in_layers.new.shown (in_layers c.args.who.now c.args.name.now (reverse c.args.layers.now)) (in_base c.args.who.now c.args.name.now c.args.client.now c.args.request.now) c.in_ok-hit.hit c.in_ok-hit.ensures.is c.if-is_some.ensures))
+    (sym (rest_decides (objects c.args.viewer.now.known.now) c.args.shown.now c.in_layers.new.shown (in_layers c.args.viewer.now.who.now c.args.name.now (reverse c.args.layers.now)) (in_base c.args.viewer.now.who.now c.args.name.now c.args.client.now c.args.request.now) c.in_ok-hit.hit c.in_ok-hit.ensures.is c.if-is_some.ensures))
     c.in_base.ensures.is
 
 pub returns-clause-shown : goal.returns-clause-shown

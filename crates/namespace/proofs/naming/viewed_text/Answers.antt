@@ -1,0 +1,17 @@
+use Rattle.std.proofs.Common.{◌∙◌, ap, sym, Some}
+use Rattle.std.proofs.lemmas.Result.{err_from_is_err_and}
+use Rattle.zknown.specs.Seen.{objects}
+use Rattle.namespace.specs.Looks.{Done}
+use Rattle.namespace.specs.Names.{text, viewing}
+use Rattle.namespace.proofs.Steps.{stops, view_goes}
+use Rattle.namespace.proofs.naming.viewed_text.Goals as goal
+
+pub returns-in_err-role-clause-is : goal.returns-in_err-role-clause-is
+returns-in_err-role-clause-is c = λ of same.
+    let p = err_from_is_err_and c.from_residual.result c.from_residual.ensures.1 in
+    rw (p.1, p.2) (stops (objects c.args.viewer.now.known.now) c.args.shown.now (viewing c.args.viewer.now.who.now c.args.oid) (λ object. Done (Some (text (of object)))) _ (c.in_err-role.ensures.err c.args.shown.now))
+
+pub returns-clause-is : goal.returns-clause-is
+returns-clause-is c = λ of same.
+    view_goes (objects c.args.viewer.now.known.now) c.args.viewer.now.who.now c.args.oid c.in_ok-role.role c.args.object.now c.args.shown.now c.take.new.self (λ object. Done (Some (text (of object)))) (Some c.in_ok-value.value)
+    c.in_ok-role.ensures.ok c.requires (ap (λ v. Done (Some v)) (ap text same ∙ sym c.in_ok-value.ensures)) c.in_ok-take.ensures.taken

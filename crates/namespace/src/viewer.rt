@@ -1,0 +1,11 @@
+use permissions::Who;
+use std::alloc::Global;
+use zknown::Known;
+
+/// The user for whom names are looked up, over what is known of the objects, with the allocator of what they give.
+#[derive(Clone, Copy)]
+pub(crate) struct Viewer<'a> {
+    pub alloc: Global,
+    pub known: &'a Known,
+    pub who: &'a Who,
+}
