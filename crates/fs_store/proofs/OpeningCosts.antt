@@ -1,5 +1,5 @@
 -- What an opening has cost.
-use Rattle.std.proofs.Common.{◌≡◌, ℕ, ◌+◌, ◌≤◌, List, [], Option, Some, None, IfSome, refl, subst, arith, inl}
+use Rattle.std.proofs.Common.{ℕ, ◌+◌, ◌≤◌, List, [], Option, Some, None, IfSome, refl, arith, inl}
 use Rattle.zdisk.specs.Calls.{Follows}
 use Rattle.zdisk.specs.Disk.{Told, content}
 use Rattle.fs_scan.specs.Scanned.{CostsScan}

@@ -1,10 +1,10 @@
-use Rattle.std.proofs.Common.{◌≡◌, Err, ap, sym, ◌∙◌, arith, inl}
+use Rattle.std.proofs.Common.{◌≡◌, Err, ap, ◌∙◌, arith}
 use Rattle.std.proofs.lemmas.Result.{err_from_is_err_and}
 use Rattle.fs_store.specs.declared.opening.FileRead.{FileRead}
 use Rattle.zbase.specs.Faults.{Counter}
 use Rattle.fs_store.proofs.OpeningCosts.{costs_begin, costs_read}
 use Rattle.fs_store.proofs.Tellings.{moved}
-use Rattle.fs_store.proofs.Tidying.{content_before, left_synced, refused_by, rest_stayed, synced_alone, synced_then}
+use Rattle.fs_store.proofs.Tidying.{left_synced, refused_by, rest_stayed, synced_alone, synced_then}
 use Rattle.fs_store.proofs.opening.open_file.Goals as goal
 
 calls_of : {a b : Counter} → a ≡ b → a.calls ≡ b.calls
