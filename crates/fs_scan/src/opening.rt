@@ -11,7 +11,7 @@ use crate::magic::has_magic;
 use crate::places::Places;
 use crate::step::{Step, take_one};
 use crate::walk::Walk;
-use crate::window::{read_range, read_window};
+use crate::window::{Window, read_range};
 use fs_record::{Damage, MAGIC_LEN, STATUS_PACKED, STATUS_UNDONE, TAIL_LEN};
 use std::alloc::{AllocError, Global};
 use zbase::{Failed, Memory, Oid, Rows, Tid};
@@ -189,9 +189,10 @@ pub fn scan<D: Disk>(alloc: Global, disk: &mut D) -> Result<Scanned, ScanRefusal
     let mut walk = Walk::new(alloc);
     let mut tally = Tally::new();
     walk.enter(disk, len)?;
+    let mut window = Window::new(alloc);
     'each: loop {
-        let window = read_window(alloc, disk, len, tally.at)?;
-        match walk.step(&window, tally.at)? {
+        window.show(disk, len, tally.at)?;
+        match walk.step(window.as_slice(), tally.at)? {
             Step::End => {
                 let rows = walk.newest()?;
                 return Ok(tally.told(len.saturating_sub(tally.at), walk.greatest(), rows));

@@ -17,22 +17,25 @@ use crate::magic::has_magic;
 use crate::places::Places;
 use crate::step::{Step, take_one};
 use crate::valued::read_whole_in;
-use crate::window::{read_range, read_window};
+use crate::window::{Window, read_range};
 use crate::{ScanRefusal, Whole};
 use fs_record::{Damage, MAGIC_LEN, STATUS_UNDONE};
 use std::alloc::Global;
 use std::marker::Model;
+use std::mem;
 use zbase::{Memory, Oid, Rows, Tid};
 use zdisk::Disk;
 
 /// A walk over the transactions of a file, from the oldest to the newest. It keeps the place of each data record, and
-/// of the file's bytes those of one transaction while it is read.
+/// of the file's bytes those of the transaction that was read last.
 #[derive(Drop)]
 pub struct Walk {
     places: Places,
     last: Tid,
     /// Where the next transaction begins, none before the first step.
     at: Option<u64>,
+    /// What was read last; its buffer serves the next transaction.
+    window: Window,
 }
 
 impl Model for Walk {
@@ -56,6 +59,7 @@ impl Walk {
             places: Places::new(alloc),
             last: Tid(0),
             at: None,
+            window: Window::new(alloc),
         }
     }
 
@@ -163,17 +167,39 @@ impl Walk {
             → IfSome (D.told disk.old) (λ told. Damaged (content told) place kind) }
         ensures only_reads { OnlyReads D.Disk disk.old disk.new (IsErrOf result ScanRefusal.Disk) }
     {
+        let none = Window::new(self.alloc());
+        let mut window = mem::replace(&mut self.window, none);
+        let found = self.next_in(disk, &mut window);
+        self.window = window;
+        found
+    }
+
+    // The same, by a window that is handed in.
+    fn next_in<D: Disk>(
+        &mut self,
+        disk: &mut D,
+        window: &mut Window,
+    ) -> Result<Option<Whole>, ScanRefusal>
+        requires { ForSome (D.told disk.old) (λ told. IsOn (content told) self.old) }
+        ensures walked { IfOk result (λ found. IfSome (D.told disk.old) (λ told. Walks (content told) self.old self.new found)) }
+        ensures on { IfSome (D.told disk.old) (λ told. IsOn (content told) self.new) }
+        ensures rises { IfOk result (λ found. IfSome found (λ _. (place_on self.old.place < place_on self.new.place) × (place_on self.new.place < 2 ^ 64))) }
+        ensures later { IfOk result (λ found. IfSome found (λ whole. (self.old.last < whole.tid) × (self.new.last ≡ whole.tid))) }
+        ensures damaged { (kind : Kind) (place : ℕ) → IsErrOf result (ScanRefusal.Damaged kind place)
+            → IfSome (D.told disk.old) (λ told. Damaged (content told) place kind) }
+        ensures only_reads { OnlyReads D.Disk disk.old disk.new (IsErrOf result ScanRefusal.Disk) }
+    {
         let len = disk.len()?;
         let mut at = self.enter(disk, len)?;
         'undone: loop {
-            let window = read_window(self.alloc(), disk, len, at)?;
-            let extent = match self.step(&window, at)? {
+            window.show(disk, len, at)?;
+            let extent = match self.step(window.as_slice(), at)? {
                 Step::End => return Ok(None),
                 Step::Damaged(kind) => return Err(ScanRefusal::Damaged(kind, at)),
                 Step::Right(extent) => extent,
             };
             if extent.head.status != STATUS_UNDONE {
-                return self.whole_in(disk, len, &window, at, &extent);
+                return self.whole_in(disk, len, window.as_slice(), at, &extent);
             }
             at += extent.size();
         }

@@ -3,7 +3,7 @@ use Rattle.zdisk.specs.Disk.{content}
 use Rattle.fs_scan.specs.Walked.{place_on}
 use Rattle.fs_scan.proofs.Walking.{Underway}
 use Rattle.fs_scan.specs.OnlyReads.{OnlyReads}
-use Rattle.fs_scan.proofs.walk.Walk.next.Given as goal
+use Rattle.fs_scan.proofs.walk.Walk.next_in.Given as goal
 
 -- the walk went over undone transactions alone, and nothing was changed
 abbrev pub invariant-undone : goal.invariant-undone
