@@ -1,5 +1,6 @@
 -- A source has one first refusal.
 use Rattle.std.proofs.Common.{◌≡◌, ◌∙◌, ◌⊎◌, inl, inr, ℕ, zero, suc, ◌≤◌, ◌<◌, Bool, true, false, List, length, Option, Some, None, refl, sym, ap, subst, arith}
+use Rattle.zbase.specs.declared.limits.TheConstants.{MOST_SOURCE}
 use Rattle.dtml_lex.specs.declared.part.TagName.{TagName}
 use Rattle.dtml_lex.specs.declared.part.TagName.TheVariants as tags
 use Rattle.dtml_lex.specs.declared.part.SourcePart.{SourcePart}
@@ -226,7 +227,7 @@ module _ (one : OneExpr) (source : List ℕ) where
   once (suc levels) outer r q at rr rq (inr h) (inr k) = both_entered levels (once levels) r q h.0 h.1 k.0 k.1 rr rq (entered levels at h.0 h.1 k.0 k.1 h.2 k.2) h.3 k.3
 
   -- a source that is too long, or its first refusal
-  parts : (r : DtmlRefusal) → Real r → Refuses source r → ((r ≡ refusals.TooLarge 262144) × (262144 < length source)) ⊎ ((length source ≤ 262144) × IsFirst source 64 None 0 r)
+  parts : (r : DtmlRefusal) → Real r → Refuses source r → ((r ≡ refusals.TooLarge MOST_SOURCE) × (MOST_SOURCE < length source)) ⊎ ((length source ≤ MOST_SOURCE) × IsFirst source 64 None 0 r)
   parts refusals.Memory real h = absurd (real refl)
   parts (refusals.BadTag place) real h = inr (h.0, h.1)
   parts (refusals.Unclosed place) real h = inr (h.0, h.1)
@@ -236,8 +237,8 @@ module _ (one : OneExpr) (source : List ℕ) where
   parts (refusals.TooLarge most) real h = inl (ap refusals.TooLarge h.0, h.1)
   parts (refusals.TooDeep place) real h = inr (h.0, h.1)
 
-  joined : (r q : DtmlRefusal) → Real r → Real q → ((r ≡ refusals.TooLarge 262144) × (262144 < length source)) ⊎ ((length source ≤ 262144) × IsFirst source 64 None 0 r)
-      → ((q ≡ refusals.TooLarge 262144) × (262144 < length source)) ⊎ ((length source ≤ 262144) × IsFirst source 64 None 0 q) → r ≡ q
+  joined : (r q : DtmlRefusal) → Real r → Real q → ((r ≡ refusals.TooLarge MOST_SOURCE) × (MOST_SOURCE < length source)) ⊎ ((length source ≤ MOST_SOURCE) × IsFirst source 64 None 0 r)
+      → ((q ≡ refusals.TooLarge MOST_SOURCE) × (MOST_SOURCE < length source)) ⊎ ((length source ≤ MOST_SOURCE) × IsFirst source 64 None 0 q) → r ≡ q
   joined r q rr rq (inl h) (inl k) = h.0 ∙ sym k.0
   joined r q rr rq (inl h) (inr k) = absurd (omega (arith, h.1, k.0))
   joined r q rr rq (inr h) (inl k) = absurd (omega (arith, h.0, k.1))

@@ -1,6 +1,7 @@
 -- What the parts of the reader need to know of the grammar and of the refusals, step by step.
 use Rattle.std.proofs.Common.{◌≡◌, ◌∙◌, inl, inr, ℕ, zero, suc, ◌≤◌, ◌<◌, Bool, true, false, not, List, length, Option, Some, None, refl, sym, ap, subst, arith}
 use Rattle.std.specs.Str.{IsCharBoundary}
+use Rattle.zbase.specs.declared.limits.TheConstants.{MOST_SOURCE}
 use Rattle.dtml_lex.specs.declared.part.TagName.{TagName}
 use Rattle.dtml_lex.specs.declared.part.TagName.TheVariants as tags
 use Rattle.dtml_lex.specs.declared.part.Attribute.{Attribute}
@@ -76,7 +77,7 @@ never_large zero source outer most at h = h
 never_large (suc levels) source outer most at (inl h) = h
 never_large (suc levels) source outer most at (inr h) = never_large levels source (Some h.0) most h.3.1 h.3.3
 
-pub refuses : (source : List ℕ) (refusal : DtmlRefusal) → length source ≤ 262144 → IsFirst source 64 None 0 refusal → Refuses source refusal
+pub refuses : (source : List ℕ) (refusal : DtmlRefusal) → length source ≤ MOST_SOURCE → IsFirst source 64 None 0 refusal → Refuses source refusal
 refuses source refusals.Memory small h = tt
 refuses source (refusals.BadTag place) small h = (small, h)
 refuses source (refusals.Unclosed place) small h = (small, h)

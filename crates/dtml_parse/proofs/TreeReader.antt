@@ -3,6 +3,7 @@ use Rattle.std.proofs.Common.{◌≡◌, ◌∙◌, ◌⊎◌, inl, inr, ℕ, ze
 use Rattle.std.specs.Prelude.{MatchOption, MatchResult}
 use Rattle.std.specs.Str.{IsUtf8}
 use Rattle.std.proofs.lemmas.Bool.Decides.{nat_tests}
+use Rattle.zbase.specs.declared.limits.TheConstants.{MOST_SOURCE}
 use Rattle.dtml_lex.specs.declared.part.TagName.{TagName}
 use Rattle.dtml_lex.specs.declared.part.TagName.TheVariants as tags
 use Rattle.dtml_lex.specs.declared.part.PartKind.{PartKind}
@@ -352,11 +353,11 @@ module _ (spelled : ReadIsSpelled) (says : ReadsParts) (source : List ℕ) (text
   abbrev IsRightRefusal : DtmlRefusal → Type 0
   IsRightRefusal refusal = Refuses source refusal × Real refusal
 
-  all_stray : length source ≤ 262144 → (x : Items × ℕ) → IsNodes 64 0 x → x.1 < length source → IsRightRefusal (refusals.Stray x.1)
+  all_stray : length source ≤ MOST_SOURCE → (x : Items × ℕ) → IsNodes 64 0 x → x.1 < length source → IsRightRefusal (refusals.Stray x.1)
   all_stray small x (is, inl e) inside = absurd (omega (arith, e, inside))
   all_stray small x (is, inr h) inside = ((small, (x.0, x.1, is, now 64 source None (refusals.Stray x.1) x.1 (refl, h.0, h.1, stray_outside h.0.kind h.2))), λ e. cc)
 
-  whole_is : length source ≤ 262144 → (x : Items × ℕ) → IsNodes 64 0 x → MatchResult (whole source x) (Reads source) IsRightRefusal
+  whole_is : length source ≤ MOST_SOURCE → (x : Items × ℕ) → IsNodes 64 0 x → MatchResult (whole source x) (Reads source) IsRightRefusal
   whole_is small x n = (elim (nat_lt x.1 (length source)) as (λ t. nat_lt x.1 (length source) ≡ t → MatchResult (if t then Err (refusals.Stray x.1) else Ok x.0) (Reads source) IsRightRefusal) [
     | true ↦ λ e. let inside : x.1 < length source = grind (arith, nat_tests) in all_stray small x n inside
     | false ↦ λ e.
@@ -368,11 +369,11 @@ module _ (spelled : ReadIsSpelled) (says : ReadsParts) (source : List ℕ) (text
 
   template_is : (fuel : ℕ) → length source ≤ fuel → MatchResult (template_at fuel source) (Reads source) IsRightRefusal
   unfolding template_at
-  template_is fuel le = (elim (nat_lt 262144 (length source)) as (λ t. nat_lt 262144 (length source) ≡ t
-      → MatchResult (if t then Err (refusals.TooLarge 262144) else (nodes_at source fuel 64 0 >>= whole source)) (Reads source) IsRightRefusal) [
-        | true ↦ λ e. let large : 262144 < length source = grind (arith, nat_tests) in ((refl, large), λ r. cc)
+  template_is fuel le = (elim (nat_lt MOST_SOURCE (length source)) as (λ t. nat_lt MOST_SOURCE (length source) ≡ t
+      → MatchResult (if t then Err (refusals.TooLarge MOST_SOURCE) else (nodes_at source fuel 64 0 >>= whole source)) (Reads source) IsRightRefusal) [
+        | true ↦ λ e. let large : MOST_SOURCE < length source = grind (arith, nat_tests) in ((refl, large), λ r. cc)
         | false ↦ λ e.
-            let small : length source ≤ 262144 = grind (arith, nat_tests) in
+            let small : length source ≤ MOST_SOURCE = grind (arith, nat_tests) in
             then_match (IsNodes 64 0) (IsNodesRefused 64 0) (Reads source) IsRightRefusal (nodes_at source fuel 64 0) (whole source) (nodes_are fuel 64 0 (omega arith) (omega (arith, le)))
             (whole_is small)
             (λ refusal r. (refuses source refusal small (r.1 None), r.0))

@@ -10,6 +10,7 @@
 --
 -- Zope Book, appendix "DTML Reference".
 use Rattle.std.specs.Prelude.{◌≡◌, ℕ, suc, ◌≤◌, List, length}
+use Rattle.zbase.specs.declared.limits.TheConstants.{MOST_SOURCE}
 use Rattle.dtml_lex.specs.declared.part.TagName.{TagName}
 use Rattle.dtml_lex.specs.declared.part.TagName.TheVariants as tags
 use Rattle.dtml_lex.specs.declared.part.SourcePart.{SourcePart}
@@ -65,4 +66,4 @@ abbrev mutual
 
 -- the template that all of a source is
 abbrev pub Reads : List ℕ → Items → Type 0
-Reads source tree = (length source ≤ 262144) × IsBlock source tree 64 0 (length source)
+Reads source tree = (length source ≤ MOST_SOURCE) × IsBlock source tree 64 0 (length source)

@@ -1,5 +1,6 @@
 -- Which refusal comes first in a source.
 use Rattle.std.specs.Prelude.{◌≡◌, ◌⊎◌, ℕ, zero, suc, ◌<◌, ◌≤◌, Bool, true, false, not, ◌&&◌, List, length, drop, Option, Some, None}
+use Rattle.zbase.specs.declared.limits.TheConstants.{MOST_SOURCE}
 use Rattle.dtml_lex.specs.declared.part.TagName.{TagName}
 use Rattle.dtml_lex.specs.declared.part.TagName.TheVariants as tags
 use Rattle.dtml_lex.specs.declared.part.PartKind.{PartKind}
@@ -115,5 +116,5 @@ IsFirst source levels outer at refusal = Behind source levels at (IsNext levels 
 -- The first refusal of a source, from the left; want of memory may come in place of any answer.
 abbrev pub Refuses : List ℕ → DtmlRefusal → Type 0
 Refuses source refusals.Memory = Unit {0}
-Refuses source (refusals.TooLarge most) = (most ≡ 262144) × (262144 < length source)
-Refuses source refusal = (length source ≤ 262144) × IsFirst source 64 None 0 refusal
+Refuses source (refusals.TooLarge most) = (most ≡ MOST_SOURCE) × (MOST_SOURCE < length source)
+Refuses source refusal = (length source ≤ MOST_SOURCE) × IsFirst source 64 None 0 refusal

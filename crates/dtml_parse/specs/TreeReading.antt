@@ -2,6 +2,7 @@
 -- from a place on, and the place behind that.
 use Rattle.std.specs.Prelude.{◌≡◌, ◌↔◌, ◌≤◌, ℕ, zero, suc, ◌-◌, nat_lt, true, false, if◌then◌else◌, List, length, drop, Option, Some, None, Result, Ok, Err}
 use Rattle.std.specs.Str.{IsUtf8}
+use Rattle.zbase.specs.declared.limits.TheConstants.{MOST_SOURCE}
 use Rattle.dtml_lex.specs.declared.part.TagName.{TagName}
 use Rattle.dtml_lex.specs.declared.part.TagName.TheVariants as tags
 use Rattle.dtml_lex.specs.declared.part.PartKind.{PartKind}
@@ -163,7 +164,7 @@ module _ (source : List ℕ) where
 
 -- the template that all of a source is, or its first refusal; `fuel` is any number from the source's length on
 unfoldable pub template_at : ℕ → List ℕ → Answer Items
-template_at fuel source = if nat_lt 262144 (length source) then Err (TooLarge 262144) else nodes_at source fuel 64 0 >>= whole source
+template_at fuel source = if nat_lt MOST_SOURCE (length source) then Err (TooLarge MOST_SOURCE) else nodes_at source fuel 64 0 >>= whole source
 
 abbrev pub template : List ℕ → Answer Items
 template source = template_at (length source) source

@@ -1,6 +1,7 @@
 -- Worked rows: templates that are read, and sources that are refused.
 use Rattle.std.specs.Prelude.{◌≡◌, refl, ℕ, zero, suc, Bool, true, false, nat_lt, pos, if◌then◌else◌, List, [], ◌∷◌, ◌++◌, length, map, codes, Some, Ok, Err}
 use Rattle.std.proofs.Common.{ap}
+use Rattle.zbase.specs.declared.limits.TheConstants.{MOST_SOURCE}
 use Rattle.dtml_lex.specs.declared.refusal.DtmlRefusal.TheVariants.{BadTag, Unclosed, Stray, BadAttribute, BadExpression, TooLarge, TooDeep}
 use Rattle.dtml_lex.specs.Reading.{word_at, quotation_at, value_at, attribute_at, next_attribute, tag_end, attributes_at, tag_named, tag_at, name_at, entity_at, begins_part, plain_len, part_at}
 use Rattle.dtml_expr.specs.Trees as exprs
@@ -77,6 +78,6 @@ too_deep : map (λ n. template (comments n)) (64 ∷ 65 ∷ []) ≡ Err (Unclose
 unfolding word_at quotation_at value_at attribute_at next_attribute tag_end attributes_at tag_named tag_at name_at entity_at begins_part plain_len part_at nodes_at template_at
 too_deep = refl
 
-too_large : (source : List ℕ) → nat_lt 262144 (length source) ≡ true → template source ≡ Err (TooLarge 262144)
+too_large : (source : List ℕ) → nat_lt MOST_SOURCE (length source) ≡ true → template source ≡ Err (TooLarge MOST_SOURCE)
 unfolding template_at
-too_large source e = ap (λ (t : Bool). if t then Err (TooLarge 262144) else (nodes_at source (length source) 64 0 >>= whole source)) e
+too_large source e = ap (λ (t : Bool). if t then Err (TooLarge MOST_SOURCE) else (nodes_at source (length source) 64 0 >>= whole source)) e

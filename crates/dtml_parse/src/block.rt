@@ -1,5 +1,6 @@
 ghost use Rattle.std.specs.Prelude.{◌≡◌, ◌≤◌, ◌<◌, ℕ, suc, List, true, false, length, IfOk, IfErr, OnOk, MatchResult, ◌++◌, ◌∷◌, [], Option, Some};
 ghost use Rattle.std.specs.Str.{IsCharBoundary};
+ghost use Rattle.zbase.specs.declared.limits.TheConstants.{MOST_SOURCE};
 ghost use Rattle.dtml_lex.specs.declared.part.TagName.TheVariants as tags;
 ghost use Rattle.dtml_lex.specs.declared.refusal.DtmlRefusal.TheVariants as refusals;
 ghost use Rattle.dtml_parse.specs.Pieces as pieces;
@@ -12,10 +13,7 @@ use crate::piece::{Piece, piece_of};
 use crate::{Arg, Arm, Arms, Node, Nodes, Tree};
 use dtml_lex::{DtmlRefusal, PartKind, SourcePart, TagName, next_part};
 use std::alloc::Global;
-use zbase::Memory;
-
-/// The greatest length of a source, in bytes.
-const MOST_BYTES: usize = 262_144;
+use zbase::{MOST_SOURCE, Memory};
 
 /// How many blocks may stand inside one another.
 const MOST_LEVELS: u32 = 64;
@@ -143,7 +141,7 @@ fn block_of(
     start: usize,
     room: usize,
 ) -> Result<(Tree, Option<SourcePart>), DtmlRefusal>
-    requires small { length source.now ≤ 262144 }
+    requires small { length source.now ≤ MOST_SOURCE }
     requires boundary { IsCharBoundary source.now start }
     ensures read { IfOk result (λ x. IsBlock source.now (view x.0) levels start (stop_at source.now x.1)) }
     ensures stops { IfOk result (λ x. Stops source.now x.1) }
@@ -176,7 +174,7 @@ fn node_of(
     piece: Piece,
     behind: usize,
 ) -> Result<(Node, usize), DtmlRefusal>
-    requires small { length source.now ≤ 262144 }
+    requires small { length source.now ≤ MOST_SOURCE }
     requires stands { Stands source.now at (piece_view piece) behind }
     requires begins { is_ending (piece_view piece) ≡ false }
     ensures read { IfOk result (λ x. IsItem source.now (node_view x.0) levels at x.1) }
@@ -243,7 +241,7 @@ fn whole_block(
     name: TagName,
     start: usize,
 ) -> Result<(Tree, usize), DtmlRefusal>
-    requires small { length source.now ≤ 262144 }
+    requires small { length source.now ≤ MOST_SOURCE }
     requires boundary { IsCharBoundary source.now start }
     ensures read { IfOk result (λ x. (behind : ℕ) × IsBlock source.now (view x.0) levels start behind × Stands source.now behind (pieces.Close name) x.1) }
     ensures refused { IfErr result (IsFirst source.now levels (Some (record { at = at; name = name; goes_on = false })) start) }
@@ -262,7 +260,7 @@ fn in_of(
     at: usize,
     start: usize,
 ) -> Result<(Tree, Option<Tree>, usize), DtmlRefusal>
-    requires small { length source.now ≤ 262144 }
+    requires small { length source.now ≤ MOST_SOURCE }
     requires boundary { IsCharBoundary source.now start }
     ensures read { IfOk result (λ x. (middle : ℕ) × (behind : ℕ) × IsBlock source.now (view x.0) levels start middle
         × IsElse source.now (otherwise_view x.1) levels middle behind × Stands source.now behind (pieces.Close tags.In) x.2) }
@@ -287,7 +285,7 @@ fn if_of(
     arg: Arg,
     start: usize,
 ) -> Result<(Node, usize), DtmlRefusal>
-    requires small { length source.now ≤ 262144 }
+    requires small { length source.now ≤ MOST_SOURCE }
     requires stands { Stands source.now at (pieces.If (arg_view arg)) start }
     ensures read { IfOk result (λ x. IsItem source.now (node_view x.0) (suc levels) at x.1) }
     ensures refused { IfErr result (IsInside source.now levels at) }
@@ -331,8 +329,8 @@ pub fn parse(alloc: Global, source: &str) -> Result<Tree, DtmlRefusal>
     ensures read { IfOk result (λ tree. Reads source.now (view tree)) }
     ensures refused { IfErr result (Refuses source.now) }
 {
-    if source.len() > MOST_BYTES {
-        return Err(DtmlRefusal::TooLarge(MOST_BYTES));
+    if source.len() > MOST_SOURCE {
+        return Err(DtmlRefusal::TooLarge(MOST_SOURCE));
     }
     let room = source.len() / BYTES_A_NODE;
     let (mut tree, stop) = block_of(alloc, source, MOST_LEVELS, 0, room)?;

@@ -2,6 +2,7 @@ use Rattle.std.proofs.Common.{◌≤◌, length, None, arith}
 use Rattle.std.proofs.lemmas.Str.{IsCharBoundary-start}
 use Rattle.std.proofs.lemmas.Bool.Decides.{nat_tests}
 use Rattle.std.proofs.lemmas.Result.{err_from_is_err_and}
+use Rattle.zbase.specs.declared.limits.TheConstants.{MOST_SOURCE}
 use Rattle.dtml_parse.proofs.Steps.{refuses}
 use Rattle.dtml_parse.proofs.block.parse.Goals as goal
 
@@ -10,6 +11,6 @@ block_of-requires-clause-boundary c = IsCharBoundary-start c.args.source.now c.u
 
 pub returns-in_err-tree-clause-refused : goal.returns-in_err-tree-clause-refused
 returns-in_err-tree-clause-refused c =
-    let small : length c.args.source.now ≤ 262144 = grind (arith, nat_tests) in
+    let small : length c.args.source.now ≤ MOST_SOURCE = grind (arith, nat_tests) in
     let p = err_from_is_err_and c.from_residual.result c.from_residual.ensures.1 in
     rw (p.1, p.2) (refuses c.args.source.now c.in_err-tree.field-0.0 small (c.in_err-tree.ensures.refused None))
