@@ -17,7 +17,6 @@ use Rattle.evaluator.specs.Questions.{as_ask, outcome}
 use Rattle.form_fields.specs.declared.field.Field.{Field}
 use Rattle.form_fields.specs.Cookies.{cookies_of}
 use Rattle.form_fields.specs.Fields.{fields_of}
-use Rattle.http_in.specs.declared.message.HttpRefusal.TheVariants as messages
 use Rattle.http_in.specs.declared.message.Request.{Request}
 use Rattle.manage.specs.declared.call.Call.{Call}
 use Rattle.namespace.specs.LookLaws.{Same, contents_stay_apart, run_veiled}
@@ -33,7 +32,7 @@ use Rattle.publisher.specs.Faults as faults
 use Rattle.publisher.specs.Faults.{Fault, by_shapes, or_stops}
 use Rattle.publisher.specs.Pages.{page_text}
 use Rattle.publisher.specs.Replies.{by_verb, runaway_facts}
-use Rattle.publisher.specs.Site.{answered, authorization, bad_credentials, is_long, over_history, page, page_for, scope_answer, request, shown_page, whole, with_credentials, with_fields}
+use Rattle.publisher.specs.Site.{answered, authorization, bad_credentials, over_history, page, page_for, scope_answer, request, shown_page, with_credentials, with_fields}
 use Rattle.publisher.proofs.ForUsers.{AreOwn, page_own}
 use Rattle.publisher.proofs.Backwards.{came, shapes_came, stops_came}
 
@@ -76,21 +75,13 @@ module _ (own : AreOwn) (w : Who) (k l : ℕ → Option (Seen Object)) (same : S
   answered_same fields credentials (targets.Page object client) is = page_same fields credentials object client is
   answered_same fields credentials (targets.Call name on) is = absurd is
 
-  whole_same : IsPageFor w k q → run k (whole q) ≡ run l (whole q)
-  unfolding whole with_fields with_credentials
-  whole_same is =
+  request_same : IsPageFor w k q → run k (request q) ≡ run l (request q)
+  unfolding request with_fields with_credentials
+  request_same is =
       both (or_stops faults.NotANumber (fields_of q)) (with_fields q) (with_fields q) (stops_same faults.NotANumber (fields_of q)) (λ fields read.
       both (or_stops bad_credentials (credentials_of (authorization q))) (with_credentials q fields) (with_credentials q fields) (stops_same bad_credentials (credentials_of (authorization q))) (λ credentials carried.
       both (by_shapes faults.Path (published q.path)) (answered q fields credentials) (answered q fields credentials) (shapes_same faults.Path (published q.path)) (λ target came.
       answered_same fields credentials target (is credentials target (stops_came k bad_credentials (credentials_of (authorization q)) credentials carried) (shapes_came k faults.Path (published q.path) target came)))))
-
-  request_same : IsPageFor w k q → run k (request q) ≡ run l (request q)
-  unfolding request
-  request_same is = at (is_long q)
-    where
-      at : (long : Bool) → run k (if long then Stops (faults.Message messages.PathTooLong) else whole q) ≡ run l (if long then Stops (faults.Message messages.PathTooLong) else whole q)
-      at true = refl
-      at false = whole_same is
 
 pub stay_apart : AreOwn → ContentsStayApart
 stay_apart own w h1 h2 q same none is first_goes second_goes = elim (within_or runaway (known h1) (over_history q) (history_tells h1)) [

@@ -19,8 +19,6 @@ use Rattle.evaluator.specs.Questions.{as_ask, outcome}
 use Rattle.form_fields.specs.declared.field.Field.{Field}
 use Rattle.form_fields.specs.Cookies.{cookies_of}
 use Rattle.form_fields.specs.Fields.{fields_of}
-use Rattle.http_in.specs.declared.message.HttpRefusal.{HttpRefusal}
-use Rattle.http_in.specs.declared.message.HttpRefusal.TheVariants as messages
 use Rattle.http_in.specs.declared.message.Request.{Request}
 use Rattle.http_in.specs.declared.message.Verb.{Verb}
 use Rattle.manage.specs.declared.call.Call.{Call}
@@ -47,7 +45,7 @@ use Rattle.publisher.specs.Faults as faults
 use Rattle.publisher.specs.Faults.{Fault, by_shapes, or_stops}
 use Rattle.publisher.specs.Pages.{page_text}
 use Rattle.publisher.specs.Replies.{by_verb, fault_reply, page_reply, runaway_facts}
-use Rattle.publisher.specs.Site.{answered, authorization, bad_credentials, call_on, call_with, called, change_by, change_for, changed, is_long, over_history, page, page_for, refused_by, scope_answer, request, shown_page, where_granted, whole, with_credentials, with_fields}
+use Rattle.publisher.specs.Site.{answered, authorization, bad_credentials, call_on, call_with, called, change_by, change_for, changed, over_history, page, page_for, refused_by, scope_answer, request, shown_page, where_granted, with_credentials, with_fields}
 use Rattle.publisher.proofs.ForUsers.{AreForUsers, page_for_users}
 use Rattle.publisher.proofs.Backwards.{answer_is, calls_change, came, no_page, shapes_came, shapes_stopped, stopped, stops_came}
 
@@ -56,15 +54,6 @@ denial_of f = (fault_reply f).denied
 
 none_is : (d : Denial) → ◌≡◌ {A = Option Denial} None (Some d) → ⊥
 none_is d e = cc
-
-message_silent : (c : HttpRefusal) → (fault_reply (faults.Message c)).denied ≡ None
-message_silent messages.HeadTooLarge = refl
-message_silent messages.BadHead = refl
-message_silent messages.Method = refl
-message_silent messages.PathTooLong = refl
-message_silent messages.Chunked = refl
-message_silent messages.BodyTooLarge = refl
-message_silent messages.Multipart = refl
 
 path_silent : (c : publishing.Fault) → (fault_reply (faults.Path c)).denied ≡ None
 path_silent (publishing.Broken o) = refl
@@ -200,9 +189,9 @@ module _ (all : AreForUsers) (k : ℕ → Option (Seen Object)) (q : Request) (d
       at None e' = absurd (none_is d (ap (λ (g : Fault). (fault_reply g).denied) (fault_is (faults.Path (publishing.NotFound name)) e') ∙ d_is))
       at (Some call) e' = call_denied fields credentials call (first on) f carried e' d_is
 
-  whole_denied : (f : Fault) → run k (whole q) ≡ Err (Cause f) → denies f → Rightly
-  unfolding whole with_fields with_credentials
-  whole_denied f e d_is = elim (stopped k (or_stops faults.NotANumber (fields_of q)) (with_fields q) (Cause f) e) [
+  request_denied : (f : Fault) → run k (request q) ≡ Err (Cause f) → denies f → Rightly
+  unfolding request with_fields with_credentials
+  request_denied f e d_is = elim (stopped k (or_stops faults.NotANumber (fields_of q)) (with_fields q) (Cause f) e) [
     | inl early ↦ absurd (stops_silent faults.NotANumber (fields_of q) f (λ name. refl) early d_is)
     | inr fields ↦ elim (stopped k (or_stops bad_credentials (credentials_of (authorization q))) (with_credentials q fields.0) (Cause f) fields.2) [
       | inl early ↦ absurd (stops_silent bad_credentials (credentials_of (authorization q)) f (λ c. refl) early d_is)
@@ -212,17 +201,6 @@ module _ (all : AreForUsers) (k : ℕ → Option (Seen Object)) (q : Request) (d
       ]
     ]
   ]
-
-  request_denied : (f : Fault) → run k (request q) ≡ Err (Cause f) → denies f → Rightly
-  unfolding request
-  request_denied f e d_is = at (is_long q) e
-    where
-      fault_is : (g : Fault) → ◌≡◌ {A = Result Answer (Halt ℕ Fault)} (Err (Cause g)) (Err (Cause f)) → g ≡ f
-      fault_is g e' = cc
-
-      at : (long : Bool) → run k (if long then Stops (faults.Message messages.PathTooLong) else whole q) ≡ Err (Cause f) → Rightly
-      at true e' = absurd (none_is d (ap (λ (g : Fault). (fault_reply g).denied) (fault_is (faults.Message messages.PathTooLong) e') ∙ d_is))
-      at false e' = whole_denied f e' d_is
 
 -- a page denies nothing
 page_denies : (k : ℕ → Option (Seen Object)) (q : Request) (fields : List Field) (credentials : Option Credentials) (o : ℕ) (client : List ℕ) (y : Reply) → run k (page q fields credentials o client) ≡ Ok (answer.Page y) → y.denied ≡ None
@@ -245,16 +223,12 @@ answered_denies k q fields credentials (targets.Call name on) y e = at (call_nam
     at (Some call) e' = absurd (no_page k (call_on q fields credentials call (first on)) y (calls_change q fields credentials call (first on)) e')
 
 no_denial : (k : ℕ → Option (Seen Object)) (q : Request) (y : Reply) → run k (request q) ≡ Ok (answer.Page y) → y.denied ≡ None
-unfolding request whole with_fields with_credentials
-no_denial k q y e = at (is_long q) e
-  where
-    at : (long : Bool) → run k (if long then Stops (faults.Message messages.PathTooLong) else whole q) ≡ Ok (answer.Page y) → y.denied ≡ None
-    at true e' = absurd (let bad = e' in cc)
-    at false e' =
-        let fields = came k (or_stops faults.NotANumber (fields_of q)) (with_fields q) (answer.Page y) e' in
-        let credentials = came k (or_stops bad_credentials (credentials_of (authorization q))) (with_credentials q fields.0) (answer.Page y) fields.2 in
-        let target = came k (by_shapes faults.Path (published q.path)) (answered q fields.0 credentials.0) (answer.Page y) credentials.2 in
-        answered_denies k q fields.0 credentials.0 target.0 y target.2
+unfolding request with_fields with_credentials
+no_denial k q y e =
+    let fields = came k (or_stops faults.NotANumber (fields_of q)) (with_fields q) (answer.Page y) e in
+    let credentials = came k (or_stops bad_credentials (credentials_of (authorization q))) (with_credentials q fields.0) (answer.Page y) fields.2 in
+    let target = came k (by_shapes faults.Path (published q.path)) (answered q fields.0 credentials.0) (answer.Page y) credentials.2 in
+    answered_denies k q fields.0 credentials.0 target.0 y target.2
 
 denied_at : AreForUsers → (k : ℕ → Option (Seen Object)) (q : Request) (x : Reply) (d : Denial) (r : Result Answer (Halt ℕ Fault)) → run k (request q) ≡ r → outcome (made_of q.method (as_ask r)) ≡ Outcome.Answer x → x.denied ≡ Some d →
     (user : Who) × IsItsUser k q user × IsDeniedTo k user d

@@ -18,7 +18,6 @@ use Rattle.evaluator.specs.Questions.{as_ask, outcome}
 use Rattle.form_fields.specs.declared.field.Field.{Field}
 use Rattle.form_fields.specs.Cookies.{cookies_of}
 use Rattle.form_fields.specs.Fields.{fields_of}
-use Rattle.http_in.specs.declared.message.HttpRefusal.TheVariants as messages
 use Rattle.http_in.specs.declared.message.Request.{Request}
 use Rattle.manage.specs.declared.call.Call.{Call}
 use Rattle.manage.specs.declared.changes.Change.{Change}
@@ -40,7 +39,7 @@ use Rattle.publisher.specs.Faults as faults
 use Rattle.publisher.specs.Faults.{Fault, by_shapes, or_stops}
 use Rattle.publisher.specs.Pages.{page_scope, scope_page}
 use Rattle.publisher.specs.Replies.{by_verb, runaway_facts}
-use Rattle.publisher.specs.Site.{answered, authorization, bad_credentials, call_on, call_with, called, change_by, change_for, changed, draft_of, is_long, over_history, page, page_for, scope_answer, request, shown_page, where_granted, whole, with_credentials, with_fields}
+use Rattle.publisher.specs.Site.{answered, authorization, bad_credentials, call_on, call_with, called, change_by, change_for, changed, draft_of, over_history, page, page_for, scope_answer, request, shown_page, where_granted, with_credentials, with_fields}
 use Rattle.publisher.specs.Ways.{Any, ComesTo, Keeps, keeps_any, keeps_run, keeps_then}
 use Rattle.publisher.proofs.Backwards.{came, shapes_came, stops_came}
 
@@ -122,20 +121,13 @@ module _ (k : ℕ → Option (Seen Object)) where
       at (Some call) is e' = call_grants q fields credentials name on call y d read carried target is e'
 
   request_grants : (q : Request) (y : Reply) (d : Draft) → run k (request q) ≡ Ok (answer.Change y d) → IsGrantedChange k q d
-  unfolding request whole with_fields with_credentials
-  request_grants q y d e = at (is_long q) e
-    where
-      go : run k (whole q) ≡ Ok (answer.Change y d) → IsGrantedChange k q d
-      go e' =
-          let fields = came k (or_stops faults.NotANumber (fields_of q)) (with_fields q) (answer.Change y d) e' in
-          let credentials = came k (or_stops bad_credentials (credentials_of (authorization q))) (with_credentials q fields.0) (answer.Change y d) fields.2 in
-          let target = came k (by_shapes faults.Path (published q.path)) (answered q fields.0 credentials.0) (answer.Change y d) credentials.2 in
-          answered_grants q fields.0 credentials.0 target.0 y d (stops_came k faults.NotANumber (fields_of q) fields.0 fields.1) (stops_came k bad_credentials (credentials_of (authorization q)) credentials.0 credentials.1)
-          (shapes_came k faults.Path (published q.path) target.0 target.1) target.2
-
-      at : (long : Bool) → run k (if long then Stops (faults.Message messages.PathTooLong) else whole q) ≡ Ok (answer.Change y d) → IsGrantedChange k q d
-      at true e' = absurd (let bad = e' in cc)
-      at false e' = go e'
+  unfolding request with_fields with_credentials
+  request_grants q y d e =
+      let fields = came k (or_stops faults.NotANumber (fields_of q)) (with_fields q) (answer.Change y d) e in
+      let credentials = came k (or_stops bad_credentials (credentials_of (authorization q))) (with_credentials q fields.0) (answer.Change y d) fields.2 in
+      let target = came k (by_shapes faults.Path (published q.path)) (answered q fields.0 credentials.0) (answer.Change y d) credentials.2 in
+      answered_grants q fields.0 credentials.0 target.0 y d (stops_came k faults.NotANumber (fields_of q) fields.0 fields.1) (stops_came k bad_credentials (credentials_of (authorization q)) credentials.0 credentials.1)
+      (shapes_came k faults.Path (published q.path) target.0 target.1) target.2
 
 grants_at : (k : ℕ → Option (Seen Object)) (q : Request) (x : Reply) (d : Draft) (r : Result Answer (Halt ℕ Fault)) → run k (request q) ≡ r → outcome (made_of q.method (as_ask r)) ≡ Outcome.Change x d → IsGrantedChange k q d
 grants_at k q x d (Ok (answer.Page y)) is e = absurd (let bad = e in cc)

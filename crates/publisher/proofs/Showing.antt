@@ -16,8 +16,6 @@ use Rattle.evaluator.specs.Questions.{as_ask, outcome}
 use Rattle.form_fields.specs.declared.field.Field.{Field}
 use Rattle.form_fields.specs.Cookies.{cookies_of}
 use Rattle.form_fields.specs.Fields.{fields_of}
-use Rattle.http_in.specs.declared.message.HttpRefusal.{HttpRefusal}
-use Rattle.http_in.specs.declared.message.HttpRefusal.TheVariants as messages
 use Rattle.http_in.specs.declared.message.Request.{Request}
 use Rattle.http_in.specs.declared.message.Verb.{Verb}
 use Rattle.manage.specs.declared.call.Call.{Call}
@@ -43,7 +41,7 @@ use Rattle.publisher.specs.Faults as faults
 use Rattle.publisher.specs.Faults.{Fault, by_shapes, or_stops}
 use Rattle.publisher.specs.Pages.{page_text}
 use Rattle.publisher.specs.Replies.{by_verb, fault_reply, page_reply, runaway_facts}
-use Rattle.publisher.specs.Site.{answered, authorization, bad_credentials, call_on, called, is_long, over_history, page, page_for, refused_by, scope_answer, request, shown_page, whole, with_credentials, with_fields}
+use Rattle.publisher.specs.Site.{answered, authorization, bad_credentials, call_on, called, over_history, page, page_for, refused_by, scope_answer, request, shown_page, with_credentials, with_fields}
 use Rattle.publisher.proofs.ForUsers.{AreForUsers, page_for_users}
 use Rattle.publisher.proofs.Backwards.{and_ok, answer_is, calls_change, came, no_page, page_came, shapes_came, stops_came}
 
@@ -105,22 +103,14 @@ module _ (all : AreForUsers) (k : ℕ → Option (Seen Object)) where
       at None e' = absurd (let bad = e' in cc)
       at (Some call) e' = absurd (no_page k (call_on q fields credentials call (first on)) y (calls_change q fields credentials call (first on)) e')
 
-  whole_shows : (q : Request) (y : Reply) → run k (whole q) ≡ Ok (answer.Page y) → ShowsRightly k q (by_verb q.method y)
-  unfolding whole with_fields with_credentials
-  whole_shows q y e =
+  request_shows : (q : Request) (y : Reply) → run k (request q) ≡ Ok (answer.Page y) → ShowsRightly k q (by_verb q.method y)
+  unfolding request with_fields with_credentials
+  request_shows q y e =
       let fields = came k (or_stops faults.NotANumber (fields_of q)) (with_fields q) (answer.Page y) e in
       let credentials = came k (or_stops bad_credentials (credentials_of (authorization q))) (with_credentials q fields.0) (answer.Page y) fields.2 in
       let target = came k (by_shapes faults.Path (published q.path)) (answered q fields.0 credentials.0) (answer.Page y) credentials.2 in
       answered_shows q fields.0 credentials.0 target.0 y (stops_came k faults.NotANumber (fields_of q) fields.0 fields.1) (stops_came k bad_credentials (credentials_of (authorization q)) credentials.0 credentials.1)
       (shapes_came k faults.Path (published q.path) target.0 target.1) target.2
-
-  request_shows : (q : Request) (y : Reply) → run k (request q) ≡ Ok (answer.Page y) → ShowsRightly k q (by_verb q.method y)
-  unfolding request
-  request_shows q y e = at (is_long q) e
-    where
-      at : (long : Bool) → run k (if long then Stops (faults.Message messages.PathTooLong) else whole q) ≡ Ok (answer.Page y) → ShowsRightly k q (by_verb q.method y)
-      at true e' = absurd (let bad = e' in cc)
-      at false e' = whole_shows q y e'
 
 -- ---- refusals are no pages
 
@@ -129,15 +119,6 @@ IsOk x = x.status ≡ 200
 
 abbrev is_ok : Reply → Bool
 is_ok x = x.status == 200
-
-message_not : (c : HttpRefusal) → is_ok (fault_reply (faults.Message c)) ≡ false
-message_not messages.HeadTooLarge = refl
-message_not messages.BadHead = refl
-message_not messages.Method = refl
-message_not messages.PathTooLong = refl
-message_not messages.Chunked = refl
-message_not messages.BodyTooLarge = refl
-message_not messages.Multipart = refl
 
 path_not : (c : publishing.Fault) → is_ok (fault_reply (faults.Path c)) ≡ false
 path_not (publishing.Broken o) = refl
@@ -169,7 +150,6 @@ call_not (refusals.TooLong field) = refl
 call_not (refusals.BadSource c) = refl
 
 status_not : (f : Fault) → is_ok (fault_reply f) ≡ false
-status_not (faults.Message c) = message_not c
 status_not (faults.NotANumber name) = refl
 status_not faults.BadCredentials = refl
 status_not (faults.Path c) = path_not c

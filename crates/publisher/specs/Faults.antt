@@ -1,5 +1,5 @@
--- Why a whole message is answered by a refusal, in the order of an evaluation: its size, its fields, its credentials, its
--- path, its user and the permission that he needs, and its page or call.
+-- Why a whole message is answered by a refusal, in the order of an evaluation: its fields, its credentials, its path,
+-- its user and the permission that he needs, and its page or call.
 use Rattle.std.specs.Prelude.{ℕ, List, Option, Some, None, Result, Ok, Err}
 use Rattle.zbase.specs.Query.{Done, Stops, Halt, Need, Cause, or_else, run}
 use Rattle.zbase.specs.QueryLaws.{worded}
@@ -9,7 +9,6 @@ use Rattle.acquisition.specs.Acquiring as acquiring
 use Rattle.dtml_values.specs.Told as pages
 use Rattle.evaluator.specs.declared.ask.Ask.{Ask}
 use Rattle.evaluator.specs.Questions.{as_ask}
-use Rattle.http_in.specs.declared.message.HttpRefusal.{HttpRefusal}
 use Rattle.manage.specs.Calling as calling
 use Rattle.manage.specs.declared.refusal.ManageRefusal.{ManageRefusal}
 use Rattle.namespace.specs.Looks as looks
@@ -18,8 +17,6 @@ use Rattle.publisher.specs.declared.refusal.SiteRefusal.{SiteRefusal}
 use Rattle.publisher.specs.declared.refusal.SiteRefusal.TheVariants as refusal
 
 pub data Fault : Type 0 where
-  -- the message is too large
-  Message : HttpRefusal → Fault
   -- a field isn't the number that it should be
   NotANumber : List ℕ → Fault
   BadCredentials : Fault
@@ -62,7 +59,6 @@ asking (Some (Cause e)) = Some (Cause e)
 -- nothing where memory ran out
 abbrev pub told : SiteRefusal → Option (Halt Ask Fault)
 told refusal.Memory = None
-told (refusal.Message cause) = Some (Cause (Message cause))
 told (refusal.NotANumber name) = Some (Cause (NotANumber name))
 told refusal.BadCredentials = Some (Cause BadCredentials)
 told (refusal.Path e) = asking (worded Path (publishing.told e))

@@ -1,6 +1,6 @@
 -- What a page shows is shown once each, by roles, and what it is refused for is a permission, where the texts of objects
 -- keep their rules.
-use Rattle.std.proofs.Common.{ℕ, zero, suc, ◌<◌, ◌≤◌, ◌≡◌, ◌||◌, refl, arith, Bool, true, false, List, [], ◌∷◌, ◌++◌, length, get_or, nat_eq, if◌then◌else◌}
+use Rattle.std.proofs.Common.{ℕ, zero, suc, ◌<◌, ◌≤◌, ◌≡◌, ◌||◌, refl, arith, lit<, lit≤, Bool, true, false, List, [], ◌∷◌, ◌++◌, length, get_or, nat_eq, if◌then◌else◌}
 use Rattle.std.specs.Prelude.{AllPairs, ◌≢◌}
 use Rattle.std.specs.List.{AllByRecursion, list_any}
 use Rattle.std.proofs.lemmas.Bool.Decides.{nat_tests}
@@ -89,18 +89,15 @@ outlined_any q = outlined_keeps (λ x. Any x) q (keeps_any IsRightShown q)
 here_any : (o : ℕ) → Asked (λ (x : Object). Any x) (or_else fault_of (here o))
 here_any o = keeps_else IsRight (λ (cause : acquiring.Fault). Any cause) FaultRule (λ (x : Object). Any x) fault_of (here o) (keeps_any IsRight (here o)) lower
 
-is_permission : (n : ℕ) → 0 < n → n ≤ 12 → IsPermission n
-is_permission n more few = (more, few)
-
 enter_keeps : {A : Type 0} (V : A → Type 0) (o : ℕ) (further : Objects Fault A) (v : Verdict) → Asked V further → Asked V (entered o further v)
 enter_keeps V o further (verdicts.Granted role) k = k
-enter_keeps V o further (verdicts.Denied permission) k = is_permission access (omega arith) (omega arith)
+enter_keeps V o further (verdicts.Denied permission) k = (lit< tt, lit≤ tt)
 
 view_keeps : {A : Type 0} (V : A → Type 0) (who : Who) (shown : List Shown) (o : ℕ) (further : List Shown → Object → Objects Fault A) (v : Verdict) → AreShown shown → VerdictRule v →
     ((s : List Shown) (object : Object) → AreShown s → Asked V (further s object)) → Asked V (viewed taken who shown o further v)
 view_keeps V who shown o further (verdicts.Granted role) are is each =
     then_keeps (λ (x : Object). Any x) V (or_else fault_of (here o)) _ (here_any o) (λ object any. each (taken who o role shown) object (taken_shown who o role shown are is))
-view_keeps V who shown o further (verdicts.Denied permission) are is each = is_permission view (omega arith) (omega arith)
+view_keeps V who shown o further (verdicts.Denied permission) are is each = (lit< tt, lit≤ tt)
 
 offer_keeps : {A : Type 0} (V : A → Type 0) (who : Who) (shown : List Shown) (o : ℕ) (further : List Shown → Bool → Objects Fault A) (v : Verdict) → AreShown shown → VerdictRule v →
     ((s : List Shown) (granted : Bool) → AreShown s → Asked V (further s granted)) → Asked V (offered taken who shown o further v)

@@ -21,7 +21,7 @@ use Rattle.manage.specs.declared.refusal.ManageRefusal.{ManageRefusal}
 use Rattle.manage.specs.declared.refusal.ManageRefusal.TheVariants as calls
 use Rattle.namespace.specs.Looks as looks
 use Rattle.traverse.specs.Publishing as publishing
-use Rattle.publisher.specs.Faults.{Fault, Message, NotANumber, BadCredentials, Path, User, Denied, Page, Call}
+use Rattle.publisher.specs.Faults.{Fault, NotANumber, BadCredentials, Path, User, Denied, Page, Call}
 
 -- ---- by a method
 
@@ -137,7 +137,6 @@ call_reply (calls.TooLong field) = one_line 400 (codes "too long: " ++ field_tex
 call_reply (calls.BadSource cause) = one_line 400 (codes "bad source: " ++ template_text cause)
 
 abbrev pub fault_reply : Fault → Reply
-fault_reply (Message cause) = message_reply cause
 fault_reply (NotANumber name) = one_line 400 (codes "not a number: " ++ name)
 fault_reply BadCredentials = one_line 400 (codes "bad credentials")
 fault_reply (Path cause) = path_reply cause

@@ -4,7 +4,7 @@
 -- permission that he needs, and the page or the call. The first refusal is the reply.
 --
 -- Zope Developer's Guide, "Object Publishing" and "Security".
-use Rattle.std.specs.Prelude.{ℕ, nat_lt, Bool, List, [], ◌++◌, length, flat_map, Option, Some, None, Result, Ok, Err, codes, if◌then◌else◌}
+use Rattle.std.specs.Prelude.{ℕ, nat_lt, List, [], length, Option, Some, None, Result, Ok, Err, codes, if◌then◌else◌}
 use Rattle.zbase.specs.Query.{Done, Stops, ◌>>=◌, or_else}
 use Rattle.zbase.specs.History.{Value}
 use Rattle.zobject.specs.declared.object.Object.{Object}
@@ -29,12 +29,12 @@ use Rattle.evaluator.specs.Questions.{Evaluation, Made, Reads, Changes, meaning_
 use Rattle.form_fields.specs.declared.field.Field.{Field}
 use Rattle.form_fields.specs.Cookies.{cookies_of}
 use Rattle.form_fields.specs.Fields.{fields_of}
-use Rattle.http_in.specs.declared.message.HttpRefusal.TheVariants as messages
 use Rattle.http_in.specs.declared.message.Message.{Message}
 use Rattle.http_in.specs.declared.message.Message.TheVariants.{Whole, Refused}
 use Rattle.http_in.specs.declared.message.Request.{Request}
 use Rattle.http_in.specs.declared.message.Verb.{Verb}
 use Rattle.http_in.specs.Headers.{first_value}
+use Rattle.http_in.specs.Paths.{path_text}
 use Rattle.manage.specs.declared.call.Call.{Call}
 use Rattle.manage.specs.declared.changes.Change.{Change}
 use Rattle.manage.specs.Calling.{permission_at}
@@ -89,18 +89,22 @@ page q fields credentials o client = by_shapes faults.User (who credentials o vi
 
 -- ---- a call
 
--- the segments of a path, each behind a slash
-abbrev pub path_text : List (List ℕ) → List ℕ
-path_text path = flat_map (λ segment. codes "/" ++ segment) path
-
 -- nobody's name is empty
 abbrev pub user_name : Who → List ℕ
 user_name users.Anonymous = []
 user_name (users.Known name roles home) = name
 
+-- a text, where a description has room for it
+abbrev pub where_room : List ℕ → List ℕ
+where_room text = if nat_lt longest_text (length text) then [] else text
+
+-- a path, as a description: no message has one for which there is no room
+abbrev pub described : List (List ℕ) → List ℕ
+described path = where_room (path_text path)
+
 -- a change is the user's, and is described by the path of its request
 abbrev pub draft_of : Request → Who → Change → Draft
-draft_of q user change = record { user = user_name user; description = path_text q.path; entries = change.entries }
+draft_of q user change = record { user = user_name user; description = described q.path; entries = change.entries }
 
 abbrev pub changed : Request → Who → Change → Objects Fault Answer
 changed q user change = Done (answer.Change done (draft_of q user change))
@@ -148,15 +152,8 @@ unfoldable pub with_fields : Request → List Field → Objects Fault Answer
 with_fields q fields = or_stops bad_credentials (credentials_of (authorization q)) >>= with_credentials q fields
 
 -- its fields, its credentials, and then its path
-unfoldable pub whole : Request → Objects Fault Answer
-whole q = or_stops faults.NotANumber (fields_of q) >>= with_fields q
-
--- a path that is too long for the description of a change; no message has one
-abbrev pub is_long : Request → Bool
-is_long q = nat_lt longest_text (length (path_text q.path))
-
 unfoldable pub request : Request → Objects Fault Answer
-request q = if is_long q then Stops (faults.Message messages.PathTooLong) else whole q
+request q = or_stops faults.NotANumber (fields_of q) >>= with_fields q
 
 -- ---- an evaluation
 

@@ -1,12 +1,10 @@
 -- A site keeps the laws of an evaluator: what is decided is decided on the whole, a change rests on what lasts, no message
 -- asks for more than 12,000 facts, and its changes and replies keep their rules.
-use Rattle.std.proofs.Common.{ℕ, ◌<◌, ◌≤◌, ◌≡◌, ◌==◌, ◌&&◌, refl, sym, subst, arith, lit<, Bool, true, false, List, [], ◌∷◌, length, Option, Some, None, Result, Ok, Err, nat_lt, if◌then◌else◌}
+use Rattle.std.proofs.Common.{ℕ, ◌<◌, ◌≤◌, ◌≡◌, ◌==◌, ◌&&◌, refl, sym, subst, arith, lit<, lit≤, Bool, true, false, List, [], ◌∷◌, length, Option, Some, None, Result, Ok, Err, nat_lt, if◌then◌else◌}
 use Rattle.std.specs.List.{list_any}
 use Rattle.std.proofs.lemmas.Bool.Decides.{nat_tests}
 use Rattle.zbase.specs.Query.{Done, Stops, Halt, Need, Cause, ◌>>=◌, or_else, run}
 use Rattle.zobject.specs.declared.object.Object.{Object}
-use Rattle.zobject.specs.declared.version.Kind.{Kind}
-use Rattle.zobject.specs.declared.version.Kind.TheVariants as kinds
 use Rattle.zobject.specs.declared.version.Version.TheVariants.{Second}
 use Rattle.zobject.specs.Shapes.{Shape}
 use Rattle.zknown.specs.Seen.{Shapes, Objects}
@@ -36,6 +34,7 @@ use Rattle.http_in.specs.declared.message.Message.{Message}
 use Rattle.http_in.specs.declared.message.Message.TheVariants.{Whole, Refused}
 use Rattle.http_in.specs.declared.message.Request.{Request}
 use Rattle.http_in.specs.declared.message.Verb.{Verb}
+use Rattle.http_in.specs.Paths.{path_text}
 use Rattle.manage.specs.declared.call.Call.{Call}
 use Rattle.manage.specs.declared.call.Call.TheVariants as calls
 use Rattle.manage.specs.declared.changes.Change.{Change}
@@ -43,7 +42,8 @@ use Rattle.manage.specs.declared.refusal.ManageRefusal.{ManageRefusal}
 use Rattle.manage.specs.declared.refusal.ManageRefusal.TheVariants as refusals
 use Rattle.manage.specs.Calling as calling
 use Rattle.manage.specs.Calling.{if_lawful, is_built, kind_of, permission_at}
-use Rattle.manage.specs.Calls.{call_named, edit_needs, is_at, is_by, permission_for}
+use Rattle.manage.specs.Calls.{call_named, permission_for}
+use Rattle.manage.specs.CallLaws.{numbered}
 use Rattle.manage.specs.Changing as changing
 use Rattle.manage.specs.Changing.{change, settled}
 use Rattle.manage.specs.Edits.{edit_written, edited, written}
@@ -72,7 +72,7 @@ use Rattle.publisher.specs.Faults.{Fault, by_shapes, or_stops}
 use Rattle.publisher.specs.Pages.{page_text}
 use Rattle.publisher.specs.PageRules.{AreShown, FaultRule, ShownRule, none_shown, through_keeps}
 use Rattle.publisher.specs.Replies.{by_verb, call_reply, cause_reply, fault_reply, message_reply, no_page_reply, page_reply, path_reply, runaway_facts, unauthorized, user_reply}
-use Rattle.publisher.specs.Site.{answered, authorization, bad_credentials, call_on, call_with, called, change_by, change_for, changed, draft_of, evaluation, is_long, made_by, over_history, page, page_for, path_text, scope_answer, read_as, refused_by, request, seen, shown_page, site, user_name, where_granted, whole, with_credentials, with_fields}
+use Rattle.publisher.specs.Site.{answered, authorization, bad_credentials, call_on, call_with, called, change_by, change_for, changed, draft_of, described, evaluation, made_by, over_history, page, page_for, scope_answer, read_as, refused_by, request, seen, shown_page, site, user_name, where_granted, where_room, with_credentials, with_fields}
 use Rattle.publisher.specs.TextRules.{read_keeps}
 use Rattle.publisher.specs.UserRules.{IsRight, IsRightShown, NameRule, VerdictRule, shape_right, verdict_keeps, who_keeps}
 use Rattle.publisher.specs.Ways.{Any, ComesTo, Keeps, keeps_then, keeps_else, keeps_any, keeps_facts, keeps_limited, keeps_objects, keeps_run}
@@ -248,13 +248,21 @@ draft_keeps known user description o bytes few short some = record {
 abbrev drafted : List ℕ → List ℕ → List Entry → Draft
 drafted user description entries = record { user = user; description = description; entries = entries }
 
-change_is : (known : Ask → Option Fact) (q : Request) (user : Who) (c : Change) → NameRule user → length (path_text q.path) ≤ longest_text → ChangeRule c → IsChange known (draft_of q user c)
-change_is known q user c named short rule =
-    subst (λ entries. IsChange known (drafted (user_name user) (path_text q.path) entries)) (sym rule.3) (draft_keeps known (user_name user) (path_text q.path) rule.0 rule.1 named short rule.2)
+room_is : (text : List ℕ) → length (where_room text) ≤ longest_text
+room_is text = at (nat_lt longest_text (length text)) refl
+  where
+    at : (long : Bool) → nat_lt longest_text (length text) ≡ long → length (if long then [] else text) ≤ longest_text
+    at true e = lit≤ tt
+    at false e = grind (arith, nat_tests)
 
-module _ (q : Request) (short : length (path_text q.path) ≤ longest_text) where
+change_is : (known : Ask → Option Fact) (q : Request) (user : Who) (c : Change) → NameRule user → ChangeRule c → IsChange known (draft_of q user c)
+change_is known q user c named rule =
+    subst (λ entries. IsChange known (drafted (user_name user) (described q.path) entries)) (sym rule.3)
+    (draft_keeps known (user_name user) (described q.path) rule.0 rule.1 named (room_is (path_text q.path)) rule.2)
+
+module _ (q : Request) where
   changed_keeps : (user : Who) (c : Change) → NameRule user → ChangeRule c → Asked AnswerRule (changed q user c)
-  changed_keeps user c named rule = (line_keeps 200 _ refl, λ known. change_is known q user c named short rule)
+  changed_keeps user c named rule = (line_keeps 200 _ refl, λ known. change_is known q user c named rule)
 
   change_by_keeps : (fields : List Field) (call : Call) (o : ℕ) (user : Who) → NameRule user → Asked AnswerRule (change_by q fields call o user)
   unfolding change_by
@@ -279,71 +287,32 @@ module _ (q : Request) (short : length (path_text q.path) ≤ longest_text) wher
   call_with_keeps fields credentials call o permission is =
       then_keeps NameRule AnswerRule (by_shapes faults.User (who credentials o permission)) _ (user_asked credentials o permission) (λ user named. change_for_keeps fields call o permission user is named)
 
--- what is built needs one of the first twelve permissions
-abbrev Needs : Option ℕ → Type 0
-Needs None = Unit {0}
-Needs (Some permission) = IsPermission permission
-
-is_permission : (n : ℕ) → 0 < n → n ≤ 12 → IsPermission n
-is_permission n more few = (more, few)
-
-edits_need : (kind : Kind) → Needs (edit_needs kind)
-edits_need kinds.Folder = is_permission 8 (omega arith) (omega arith)
-edits_need kinds.Method = is_permission 5 (omega arith) (omega arith)
-edits_need kinds.Document = is_permission 6 (omega arith) (omega arith)
-edits_need kinds.UserFolder = tt
-
-needs_if : (test : Bool) (permission : Option ℕ) → Needs permission → Needs (if test then permission else None)
-needs_if true permission is = is
-needs_if false permission is = tt
-
 abbrev Lawful : Shapes ManageRefusal ℕ → Type 0
 Lawful q = Keeps IsRightShown (λ (cause : ManageRefusal). Any cause) IsPermission q
 
-edit_lawful : (o : ℕ) (permission : Option ℕ) → Needs permission → Lawful (if_lawful calls.Edit o permission)
-edit_lawful o None is = tt
-edit_lawful o (Some permission) is = is
-
-other_lawful : (call : Call) (o : ℕ) (permission : Option ℕ) → is_built call ≡ false → Lawful (if_lawful call o permission)
-other_lawful call o None no_call = tt
-other_lawful call o (Some permission) no_call = at (is_built call) no_call
+lawful_keeps : (call : Call) (o : ℕ) (needed : Option ℕ) → ((n : ℕ) → needed ≡ Some n → IsPermission n) → Lawful (if_lawful call o needed)
+lawful_keeps call o None is = tt
+lawful_keeps call o (Some permission) is = at (is_built call)
   where
-    at : (built : Bool) → built ≡ false → Lawful (if built then Done permission else Stops (refusals.NotYet o))
-    at true e = absurd (let bad = e in cc)
-    at false e = tt
-
-lawful_keeps : (call : Call) (verb : Verb) (o : ℕ) (kind : Kind) → Lawful (if_lawful call o (permission_for call verb o kind))
-lawful_keeps calls.Edit verb o kind = edit_lawful o _ (needs_if (is_by calls.Edit verb && is_at calls.Edit o) (edit_needs kind) (edits_need kind))
-lawful_keeps calls.AddFolder verb o kind = other_lawful calls.AddFolder o _ refl
-lawful_keeps calls.AddMethod verb o kind = other_lawful calls.AddMethod o _ refl
-lawful_keeps calls.AddDocument verb o kind = other_lawful calls.AddDocument o _ refl
-lawful_keeps calls.AddUserFolder verb o kind = other_lawful calls.AddUserFolder o _ refl
-lawful_keeps calls.DeleteObjects verb o kind = other_lawful calls.DeleteObjects o _ refl
-lawful_keeps calls.RenameObject verb o kind = other_lawful calls.RenameObject o _ refl
-lawful_keeps calls.SetPermission verb o kind = other_lawful calls.SetPermission o _ refl
-lawful_keeps calls.SetLocalRoles verb o kind = other_lawful calls.SetLocalRoles o _ refl
-lawful_keeps calls.DeleteLocalRoles verb o kind = other_lawful calls.DeleteLocalRoles o _ refl
-lawful_keeps calls.AddProperty verb o kind = other_lawful calls.AddProperty o _ refl
-lawful_keeps calls.DeleteProperties verb o kind = other_lawful calls.DeleteProperties o _ refl
-lawful_keeps calls.SetProxyRoles verb o kind = other_lawful calls.SetProxyRoles o _ refl
-lawful_keeps calls.AddUser verb o kind = other_lawful calls.AddUser o _ refl
-lawful_keeps calls.UndoTransactions verb o kind = other_lawful calls.UndoTransactions o _ refl
-lawful_keeps calls.ListTransactions verb o kind = other_lawful calls.ListTransactions o _ refl
+    at : (built : Bool) → Lawful (if built then Done permission else Stops (refusals.NotYet o))
+    at true = is permission refl
+    at false = tt
 
 permission_keeps : (call : Call) (verb : Verb) (o : ℕ) → Lawful (permission_at call verb o)
 unfolding permission_at
 permission_keeps call verb o =
-    keeps_then IsRightShown (λ (cause : ManageRefusal). Any cause) (λ (shape : Shape). Any shape) IsPermission (calling.here o) _ (keeps_any IsRightShown (calling.here o)) (λ shape any. lawful_keeps call verb o (kind_of shape.form))
+    keeps_then IsRightShown (λ (cause : ManageRefusal). Any cause) (λ (shape : Shape). Any shape) IsPermission (calling.here o) _ (keeps_any IsRightShown (calling.here o)) (λ shape any.
+    lawful_keeps call o (permission_for call verb o (kind_of shape.form)) (numbered call verb o (kind_of shape.form)))
 
 -- ---- a whole message
 
-module _ (q : Request) (short : length (path_text q.path) ≤ longest_text) where
+module _ (q : Request) where
   call_on_keeps : (fields : List Field) (credentials : Option Credentials) (call : Call) (o : ℕ) → Asked AnswerRule (call_on q fields credentials call o)
   unfolding call_on
   call_on_keeps fields credentials call o =
       then_keeps IsPermission AnswerRule (by_shapes faults.Call (permission_at call q.method o)) _
       (shapes_keep (λ (cause : ManageRefusal). Any cause) IsPermission faults.Call (permission_at call q.method o) (permission_keeps call q.method o) of_call)
-      (λ permission is. call_with_keeps q short fields credentials call o permission is)
+      (λ permission is. call_with_keeps q fields credentials call o permission is)
 
   called_keeps : (fields : List Field) (credentials : Option Credentials) (name : List ℕ) (o : ℕ) (call : Option Call) → Asked AnswerRule (called q fields credentials name o call)
   called_keeps fields credentials name o None = line_keeps 404 _ refl
@@ -366,21 +335,10 @@ module _ (q : Request) (short : length (path_text q.path) ≤ longest_text) wher
       then_keeps (λ (x : Option Credentials). Any x) AnswerRule (or_stops bad_credentials (credentials_of (authorization q))) _
       (stops_keep bad_credentials (credentials_of (authorization q)) (λ cause. line_keeps 400 _ refl)) (λ credentials any. with_credentials_keeps fields credentials)
 
-  whole_keeps : Asked AnswerRule (whole q)
-  unfolding whole
-  whole_keeps =
+  request_keeps : Asked AnswerRule (request q)
+  unfolding request
+  request_keeps =
       then_keeps (λ (x : List Field). Any x) AnswerRule (or_stops faults.NotANumber (fields_of q)) _ (stops_keep faults.NotANumber (fields_of q) (λ name. line_keeps 400 _ refl)) (λ fields any. with_fields_keeps fields)
-
-few : (most n : ℕ) → nat_lt most n ≡ false → n ≤ most
-few most n e = grind (arith, nat_tests)
-
-request_keeps : (q : Request) → Asked AnswerRule (request q)
-unfolding request
-request_keeps q = at (is_long q) refl
-  where
-    at : (long : Bool) → is_long q ≡ long → Asked AnswerRule (if long then Stops (faults.Message messages.PathTooLong) else whole q)
-    at true e = message_keeps messages.PathTooLong
-    at false e = whole_keeps q (few longest_text (length (path_text q.path)) e)
 
 -- ---- over facts
 
@@ -445,8 +403,8 @@ reply_comes (Ok (Changes y c)) x is e = absurd (let bad = e in cc)
 reply_comes (Err (Cause y)) x is e = let same : y ≡ x = cc in subst IsReply same is
 reply_comes (Err (Need ask)) x is e = absurd (let bad = e in cc)
 
-pub site_changes : (known : Ask → Option Fact) (m : Message) (x : Reply) (d : Draft) → site known m ≡ Outcome.Change x d → IsChange known d × IsReply x
-site_changes known m x d e = change_comes known (run known (evaluation m)) x d (keeps_run IsReply MadeRule known (evaluation m) (evaluation_keeps m)) e
+pub site_changes : (facts : List Fact) (m : Message) (x : Reply) (d : Draft) → site (look facts) m ≡ Outcome.Change x d → IsChange (look facts) d × IsReply x
+site_changes facts m x d e = change_comes (look facts) (run (look facts) (evaluation m)) x d (keeps_run IsReply MadeRule (look facts) (evaluation m) (evaluation_keeps m)) e
 
 pub site_replies : (known : Ask → Option Fact) (m : Message) (x : Reply) → site known m ≡ Outcome.Answer x → IsReply x
 site_replies known m x e = reply_comes (run known (evaluation m)) x (keeps_run IsReply MadeRule known (evaluation m) (evaluation_keeps m)) e

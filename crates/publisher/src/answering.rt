@@ -1,4 +1,4 @@
-ghost use Rattle.std.specs.Prelude.{◌≡◌, IfOk, option_map};
+ghost use Rattle.std.specs.Prelude.{◌≡◌, option_map};
 ghost use Rattle.zbase.specs.Query.{Answers};
 ghost use Rattle.zknown.specs.Seen.{objects};
 ghost use Rattle.acquisition.specs.Acquiring.{first};
@@ -11,20 +11,17 @@ ghost use Rattle.publisher.specs.Site as spec;
 
 use crate::answer::Answer;
 use crate::asking::{credentials_in, fields_in, target};
-use crate::calling::{call_on, path_text};
+use crate::calling::{SentCall, call_on};
 use crate::page::page;
 use crate::refusal::SiteRefusal;
 use acquisition::Wrapped;
 use form_fields::Fields;
-use http_in::{HttpRefusal, Request};
+use http_in::Request;
 use manage::{Call, call_named};
 use std::alloc::Global;
 use traverse::{Target, TravRefusal};
-use zbase::{Memory, Text};
+use zbase::Text;
 use zknown::Known;
-
-/// The most bytes that a transaction's description has.
-const MOST_DESCRIPTION: usize = 65_535;
 
 fn not_found(name: Text) -> SiteRefusal
     ensures { result ≡ refusals.Path (paths.NotFound name) }
@@ -46,16 +43,21 @@ fn called(
     name: Text,
     on: &Wrapped,
     known: &Known,
-    call: Option<Call>,
 ) -> Result<Answer, SiteRefusal>
     requires lawful { KeepRules (objects known.now) }
-    ensures { Answers told (λ a. a) result (comes_to known.now
-        (spec.called request.now fields.now (option_map (λ pair. pair.now) credentials.entry) name (first on.now) call)) }
+    ensures { Answers told (λ a. a) result (comes_to known.now (spec.called request.now fields.now (option_map (λ pair. pair.now) credentials.entry)
+        name (first on.now) (call_named name))) }
 {
-    match call {
-        Some(call) => call_on(alloc, request, fields, credentials, call, on, known),
-        None => Err(not_found(name)),
-    }
+    let Some(call) = call_of(&name) else {
+        return Err(not_found(name));
+    };
+    let sent = SentCall {
+        request,
+        fields,
+        call,
+        on,
+    };
+    call_on(alloc, &sent, credentials, known)
 }
 
 fn answered(
@@ -82,10 +84,7 @@ fn answered(
                 known,
             )
         }
-        Target::Call { name, on } => {
-            let call = call_of(&name);
-            called(alloc, request, fields, credentials, name, &on, known, call)
-        }
+        Target::Call { name, on } => called(alloc, request, fields, credentials, name, &on, known),
     }
 }
 
@@ -132,29 +131,12 @@ fn with_fields(
     given(alloc, request, fields, credentials, known)
 }
 
-#[tactic(auto, using(crate::proofs::Steps::goes_so, crate::proofs::Steps::passes), unfolding(crate::specs::Site::whole))]
-fn whole(alloc: Global, request: &Request, known: &Known) -> Result<Answer, SiteRefusal>
-    requires lawful { KeepRules (objects known.now) }
-    ensures { Answers told (λ a. a) result (comes_to known.now (spec.whole request.now)) }
-{
-    let fields = fields_in(alloc, request)?;
-    with_fields(alloc, request, &fields, known)
-}
-
-fn is_long(alloc: Global, request: &Request) -> Result<bool, Memory>
-    ensures { IfOk result (λ long. long ≡ spec.is_long request.now) }
-{
-    Ok(MOST_DESCRIPTION < path_text(alloc, request.path.as_slice())?.len())
-}
-
 /// What a whole message comes to.
-#[tactic(auto, unfolding(crate::specs::Site::request))]
+#[tactic(auto, using(crate::proofs::Steps::goes_so, crate::proofs::Steps::passes), unfolding(crate::specs::Site::request))]
 pub(crate) fn answer(alloc: Global, request: &Request, known: &Known) -> Result<Answer, SiteRefusal>
     requires lawful { KeepRules (objects known.now) }
     ensures { Answers told (λ a. a) result (comes_to known.now (spec.request request.now)) }
 {
-    if is_long(alloc, request)? {
-        return Err(SiteRefusal::Message(HttpRefusal::PathTooLong));
-    }
-    whole(alloc, request, known)
+    let fields = fields_in(alloc, request)?;
+    with_fields(alloc, request, &fields, known)
 }

@@ -2,6 +2,7 @@ ghost use Rattle.std.specs.Prelude.{◌≡◌, ◌++◌, codes, IfOk, OnOk, opti
 ghost use Rattle.zbase.specs.Query.{Answers};
 ghost use Rattle.zknown.specs.Seen.{objects};
 ghost use Rattle.acquisition.specs.Acquiring.{first};
+ghost use Rattle.http_in.specs.Paths as paths;
 ghost use Rattle.manage.specs.Changing.{KeepRules};
 ghost use Rattle.publisher.specs.Faults.{told, comes_to};
 ghost use Rattle.publisher.specs.declared.answer.Answer.TheVariants as answers;
@@ -22,14 +23,28 @@ use std::alloc::Global;
 use zbase::{Memory, Text};
 use zknown::Known;
 
-/// The segments of a path, each behind a slash.
-pub(crate) fn path_text(alloc: Global, path: &[Text]) -> Result<Text, Memory>
-    ensures { IfOk result (λ text. text ≡ spec.path_text path.now) }
+/// The most bytes that a transaction's description has.
+const MOST_DESCRIPTION: usize = 65_535;
+
+// The segments of a path, each behind a slash.
+fn path_text(alloc: Global, path: &[Text]) -> Result<Text, Memory>
+    ensures { IfOk result (λ text. text ≡ paths.path_text path.now) }
 {
     let mut text = Text::new(alloc);
     for segment in path {
         text.push_str("/")?;
         text.push_str(segment.as_str())?;
+    }
+    Ok(text)
+}
+
+// A path, where a description has room for it, as it has for that of every message (`descriptions_are_paths`).
+fn described(alloc: Global, path: &[Text]) -> Result<Text, Memory>
+    ensures { IfOk result (λ text. text ≡ spec.described path.now) }
+{
+    let text = path_text(alloc, path)?;
+    if MOST_DESCRIPTION < text.len() {
+        return Ok(Text::new(alloc));
     }
     Ok(text)
 }
@@ -49,7 +64,7 @@ fn draft_of(alloc: Global, request: &Request, user: &Who, change: Change) -> Res
 {
     Ok(Draft {
         user: user_name(alloc, user)?,
-        description: path_text(alloc, request.path.as_slice())?,
+        description: described(alloc, request.path.as_slice())?,
         entries: change.entries,
     })
 }
@@ -61,43 +76,47 @@ fn changed(alloc: Global, request: &Request, user: &Who, change: Change) -> Resu
     Ok(Answer::Change(line(alloc, 200, "done")?, draft))
 }
 
+/// A call on an object, with the request that names it and its fields.
+#[derive(Clone, Copy)]
+pub(crate) struct SentCall<'a> {
+    pub request: &'a Request,
+    pub fields: &'a Fields,
+    pub call: Call,
+    pub on: &'a Wrapped,
+}
+
 // The call's change on an object.
 #[tactic(auto, using(crate::proofs::Steps::goes, crate::proofs::Steps::passes), unfolding(crate::specs::Site::change_by))]
 fn change_by(
     alloc: Global,
-    request: &Request,
-    fields: &Fields,
-    call: Call,
-    on: &Wrapped,
+    sent: &SentCall<'_>,
     known: &Known,
     user: &Who,
 ) -> Result<Answer, SiteRefusal>
     requires lawful { KeepRules (objects known.now) }
-    ensures { Answers told (λ a. a) result (comes_to known.now (spec.change_by request.now fields.now call (first on.now) user.now)) }
+    ensures { Answers told (λ a. a) result (comes_to known.now
+        (spec.change_by sent.now.request.now sent.now.fields.now sent.now.call (first sent.now.on.now) user.now)) }
 {
-    let change = change_on(alloc, call, on, known, fields)?;
-    let answer = changed(alloc, request, user, change)?;
+    let change = change_on(alloc, sent.call, sent.on, known, sent.fields)?;
+    let answer = changed(alloc, sent.request, user, change)?;
     Ok(answer)
 }
 
 fn where_granted(
     alloc: Global,
-    request: &Request,
-    fields: &Fields,
-    call: Call,
-    on: &Wrapped,
+    sent: &SentCall<'_>,
     permission: u8,
     known: &Known,
     user: &Who,
     verdict: Verdict,
 ) -> Result<Answer, SiteRefusal>
     requires lawful { KeepRules (objects known.now) }
-    ensures { Answers told (λ a. a) result (comes_to known.now
-        (spec.where_granted (first on.now) permission (spec.change_by request.now fields.now call (first on.now) user.now) verdict)) }
+    ensures { Answers told (λ a. a) result (comes_to known.now (spec.where_granted (first sent.now.on.now) permission
+        (spec.change_by sent.now.request.now sent.now.fields.now sent.now.call (first sent.now.on.now) user.now) verdict)) }
 {
     match verdict {
-        Verdict::Granted(_) => change_by(alloc, request, fields, call, on, known, user),
-        Verdict::Denied(_) => Err(SiteRefusal::Denied(on.oid(), permission)),
+        Verdict::Granted(_) => change_by(alloc, sent, known, user),
+        Verdict::Denied(_) => Err(SiteRefusal::Denied(sent.on.oid(), permission)),
     }
 }
 
@@ -105,67 +124,48 @@ fn where_granted(
 #[tactic(auto, using(crate::proofs::Steps::goes_so, crate::proofs::Steps::passes), unfolding(crate::specs::Site::change_for))]
 fn change_for(
     alloc: Global,
-    request: &Request,
-    fields: &Fields,
-    call: Call,
-    on: &Wrapped,
+    sent: &SentCall<'_>,
     permission: u8,
     known: &Known,
     user: &Who,
 ) -> Result<Answer, SiteRefusal>
     requires lawful { KeepRules (objects known.now) }
-    ensures { Answers told (λ a. a) result (comes_to known.now (spec.change_for request.now fields.now call (first on.now) permission user.now)) }
+    ensures { Answers told (λ a. a) result (comes_to known.now
+        (spec.change_for sent.now.request.now sent.now.fields.now sent.now.call (first sent.now.on.now) permission user.now)) }
 {
-    let verdict = verdict(alloc, known, user, on, permission)?;
-    where_granted(
-        alloc, request, fields, call, on, permission, known, user, verdict,
-    )
+    let verdict = verdict(alloc, known, user, sent.on, permission)?;
+    where_granted(alloc, sent, permission, known, user, verdict)
 }
 
 // The user to whom the permission of a call is granted, and his change.
 #[tactic(auto, using(crate::proofs::Steps::goes_so, crate::proofs::Steps::passes), unfolding(crate::specs::Site::call_with))]
 fn call_with(
     alloc: Global,
-    request: &Request,
-    fields: &Fields,
+    sent: &SentCall<'_>,
     credentials: Option<&(Text, Text)>,
-    call: Call,
-    on: &Wrapped,
     permission: u8,
     known: &Known,
 ) -> Result<Answer, SiteRefusal>
     requires lawful { KeepRules (objects known.now) }
-    ensures { Answers told (λ a. a) result (comes_to known.now
-        (spec.call_with request.now fields.now (option_map (λ pair. pair.now) credentials.entry) call (first on.now) permission)) }
+    ensures { Answers told (λ a. a) result (comes_to known.now (spec.call_with sent.now.request.now sent.now.fields.now
+        (option_map (λ pair. pair.now) credentials.entry) sent.now.call (first sent.now.on.now) permission)) }
 {
-    let user = user_on(alloc, known, credentials, on, permission)?;
-    change_for(alloc, request, fields, call, on, permission, known, &user)
+    let user = user_on(alloc, known, credentials, sent.on, permission)?;
+    change_for(alloc, sent, permission, known, &user)
 }
 
 /// What a call on an object comes to.
 #[tactic(auto, using(crate::proofs::Steps::goes_so, crate::proofs::Steps::passes), unfolding(crate::specs::Site::call_on))]
 pub(crate) fn call_on(
     alloc: Global,
-    request: &Request,
-    fields: &Fields,
+    sent: &SentCall<'_>,
     credentials: Option<&(Text, Text)>,
-    call: Call,
-    on: &Wrapped,
     known: &Known,
 ) -> Result<Answer, SiteRefusal>
     requires lawful { KeepRules (objects known.now) }
-    ensures { Answers told (λ a. a) result (comes_to known.now
-        (spec.call_on request.now fields.now (option_map (λ pair. pair.now) credentials.entry) call (first on.now))) }
+    ensures { Answers told (λ a. a) result (comes_to known.now (spec.call_on sent.now.request.now sent.now.fields.now
+        (option_map (λ pair. pair.now) credentials.entry) sent.now.call (first sent.now.on.now))) }
 {
-    let permission = permission(known, call, request.method, on)?;
-    call_with(
-        alloc,
-        request,
-        fields,
-        credentials,
-        call,
-        on,
-        permission,
-        known,
-    )
+    let permission = permission(known, sent.call, sent.request.method, sent.on)?;
+    call_with(alloc, sent, credentials, permission, known)
 }

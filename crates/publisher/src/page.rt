@@ -20,7 +20,7 @@ use crate::refusal::SiteRefusal;
 use crate::replies::page_reply;
 use acquisition::Wrapped;
 use dtml_render::{Budget, RenderRefusal, read_source, render, source_of};
-use evaluator::{Shown, ShownList};
+use evaluator::permission::VIEW;
 use form_fields::{Fields, cookies};
 use http_in::Request;
 use namespace::{Names, Stack, request_names};
@@ -29,9 +29,6 @@ use std::alloc::Global;
 use zbase::{Memory, Oid, Text};
 use zknown::Known;
 use zobject::Object;
-
-/// The permission `View`.
-const VIEW: u8 = 1;
 
 /// How many tags a page may evaluate.
 const MOST_TAGS: u32 = 10_000;
@@ -101,27 +98,15 @@ fn scope_page(
     Ok((text, budget))
 }
 
-fn copy_shown(alloc: Global, shown: &[Shown]) -> Result<ShownList, Memory>
-    ensures { IfOk result (λ copies. copies ≡ shown.now) }
-{
-    let mut copies = ShownList::new(alloc);
-    for object in shown {
-        copies.push(Shown {
-            oid: object.oid,
-            role: object.role.copy()?,
-        })?;
-    }
-    Ok(copies)
-}
-
 // The page of an object in the scope of a stack on which nothing was shown.
 #[tactic(auto, using(crate::proofs::PageSteps::page_done, crate::proofs::PageSteps::page_halts))]
-fn answer_in(alloc: Global, oid: Oid, stack: &mut Stack<'_>) -> Result<Answer, SiteRefusal>
-    requires none_shown { stack.old.shown ≡ [] }
-    ensures { Answers told (λ a. a) result (comes_to stack.old.known (spec.scope_answer stack.old.scope oid)) }
+fn answer_in(alloc: Global, oid: Oid, stack: Stack<'_>) -> Result<Answer, SiteRefusal>
+    requires none_shown { stack.shown ≡ [] }
+    ensures { Answers told (λ a. a) result (comes_to stack.known (spec.scope_answer stack.scope oid)) }
 {
-    let (text, _left) = scope_page(alloc, oid, stack)?;
-    let shown = copy_shown(alloc, stack.shown().as_slice())?;
+    let mut stack = stack;
+    let (text, _left) = scope_page(alloc, oid, &mut stack)?;
+    let shown = stack.into_shown();
     Ok(Answer::Page(page_reply(text, shown)))
 }
 
@@ -151,8 +136,8 @@ fn page_for(
     ensures { Answers told (λ a. a) result (comes_to known.now (spec.page_for request.now fields.now oid client user)) }
 {
     let names = page_names(alloc, request, fields, &user)?;
-    let mut stack = Stack::new(alloc, known, user, client, names);
-    answer_in(alloc, oid, &mut stack)
+    let stack = Stack::new(alloc, known, user, client, names);
+    answer_in(alloc, oid, stack)
 }
 
 /// The page of a published object.

@@ -1,6 +1,5 @@
 use acquisition::AqRefusal;
 use dtml_values::RenderRefusal;
-use http_in::HttpRefusal;
 use manage::ManageRefusal;
 use traverse::TravRefusal;
 use zbase::{Memory, Oid, Text};
@@ -10,8 +9,6 @@ use zbase::{Memory, Oid, Text};
 pub enum SiteRefusal {
     /// Want of memory.
     Memory,
-    /// The message is too large.
-    Message(HttpRefusal),
     /// A field isn't the number that it should be, by its name.
     NotANumber(Text),
     /// The credentials can't be read.

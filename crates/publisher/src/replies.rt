@@ -255,7 +255,6 @@ pub(crate) fn halt_of(alloc: Global, cause: &SiteRefusal) -> Result<Halted, Memo
 {
     match cause {
         SiteRefusal::Memory => Err(Memory),
-        SiteRefusal::Message(cause) => Ok(refused(message_reply(alloc, *cause)?)),
         SiteRefusal::NotANumber(name) => {
             Ok(refused(line_of(alloc, 400, "not a number: ", name.as_str())?))
         }

@@ -1,6 +1,5 @@
-ghost use Rattle.std.specs.Prelude.{◌≡◌, ◌==◌, ◌&&◌, List, IfOk, length, nat_lt};
+ghost use Rattle.std.specs.Prelude.{◌≡◌, ◌==◌, ◌&&◌, IfOk, nat_lt};
 ghost use Rattle.zknown.specs.Seen.{objects};
-ghost use Rattle.evaluator.specs.declared.fact.Fact.{Fact};
 ghost use Rattle.evaluator.specs.declared.outcome.Outcome.{Outcome as OutcomeValue};
 ghost use Rattle.evaluator.specs.Counting.{judged};
 ghost use Rattle.evaluator.specs.Exec.{IsTrail, most_asks};
@@ -97,17 +96,16 @@ fn has_too_many_bytes(state: &SiteState) -> bool
     MOST_BYTES < state.bytes()
 }
 
-// What a whole message comes to over the facts that were taken over, so many in all.
+// What a whole message comes to over the facts that were taken over.
 #[tactic(auto, using(crate::proofs::Limiting::over_bytes, crate::proofs::Limiting::over_asks, crate::proofs::Limiting::within_both))]
 fn limited(
     alloc: Global,
     state: &SiteState,
-    asks: usize,
+    facts: &Facts,
     request: &Request,
 ) -> Result<Outcome, Memory>
-    requires lawful { KeepRules (objects state.now.known) }
-    ensures { IfOk result (λ it. (facts : List Fact) → keeping.Holds state.now facts → length facts ≡ asks
-        → it ≡ outcome (judged (replies.by_verb request.now.method replies.runaway_facts) facts
+    requires holds { keeping.Holds state.now facts.now }
+    ensures { IfOk result (λ it. it ≡ outcome (judged (replies.by_verb request.now.method replies.runaway_facts) facts.now
         (made_of request.now.method (comes_to state.now.known (spec.request request.now))))) }
 {
     if has_too_many_bytes(state) {
@@ -115,7 +113,7 @@ fn limited(
         return Ok(runaway);
     }
     let outcome = outcome_of(alloc, request, state.known())?;
-    if asks_more(asks, &outcome) {
+    if asks_more(facts.len(), &outcome) {
         let runaway = runaway(alloc, request.method)?;
         return Ok(runaway);
     }
@@ -127,12 +125,12 @@ fn limited(
 fn evaluated(
     alloc: Global,
     state: &SiteState,
-    asks: usize,
+    facts: &Facts,
     message: &Message,
 ) -> Result<Outcome, Memory>
-    requires lawful { KeepRules (objects state.now.known) }
-    ensures { IfOk result (λ it. (facts : List Fact) → keeping.Holds state.now facts → length facts ≡ asks
-        → IsTrail (λ known. spec.site (look known) message.now) facts → it ≡ spec.site (look facts) message.now) }
+    requires holds { keeping.Holds state.now facts.now }
+    requires trail { IsTrail (λ known. spec.site (look known) message.now) facts.now }
+    ensures { IfOk result (λ it. it ≡ spec.site (look facts.now) message.now) }
 {
     match message {
         Message::Refused(cause) => {
@@ -140,7 +138,7 @@ fn evaluated(
             Ok(Outcome::Answer(reply))
         }
         Message::Whole(request) => {
-            let outcome = limited(alloc, state, asks, request)?;
+            let outcome = limited(alloc, state, facts, request)?;
             Ok(outcome)
         }
     }
@@ -179,7 +177,7 @@ impl Evaluator for Site {
         request: &Message,
     ) -> Result<Outcome, Memory> {
         state.learn(self.alloc, known)?;
-        let outcome = evaluated(self.alloc, state, known.len(), request)?;
+        let outcome = evaluated(self.alloc, state, known, request)?;
         Ok(outcome)
     }
 

@@ -8,4 +8,4 @@ use Rattle.publisher.proofs.calling.call_on.Goals as goal
 
 pub returns : goal.returns
 unfolding call_on
-returns c = goes_so told _ c.call_with.result c.args.known.now (by_shapes faults.Call (permission_at c.args.call c.args.request.now.method (first c.args.on.now))) _ c.in_ok-permission.permission c.in_ok-permission.ensures c.call_with.ensures
+returns c = goes_so told _ c.call_with.result c.args.known.now (by_shapes faults.Call (permission_at c.args.sent.now.call c.args.sent.now.request.now.method (first c.args.sent.now.on.now))) _ c.in_ok-permission.permission c.in_ok-permission.ensures c.call_with.ensures
