@@ -1,6 +1,7 @@
 -- Worked pages, which compute.
 use Rattle.std.specs.Prelude.{ℕ, ◌≡◌, refl, List, [], ◌∷◌, Option, Some, None, Result, Ok, Err, false, codes, nat_eq, if◌then◌else◌}
 use Rattle.zbase.specs.Query.{Halt, Cause}
+use Rattle.evaluator.specs.declared.permission.TheConstants.{VIEW}
 use Rattle.evaluator.specs.declared.reply.Shown.{Shown}
 use Rattle.dtml_lex.specs.declared.refusal.DtmlRefusal.TheVariants as refusals
 use Rattle.dtml_lex.specs.Reading.{word_at, quotation_at, value_at, attribute_at, next_attribute, tag_end, attributes_at, tag_named, tag_at, name_at, entity_at, begins_part, plain_len, part_at}
@@ -37,7 +38,7 @@ plain id title settings properties part = Here (record { id = id; parent = 0; ti
 
 -- `View` is Manager's alone
 abbrev managers : List Setting
-managers = record { permission = 1; acquire = false; roles = codes "Manager" ∷ [] } ∷ []
+managers = record { permission = VIEW; acquire = false; roles = codes "Manager" ∷ [] } ∷ []
 
 abbrev by : ℕ → List ℕ → Shown
 by o role = record { oid = o; role = role }
@@ -69,7 +70,7 @@ shows t = Ok (t, by 1 (codes "Anonymous") ∷ [])
 
 -- ---- pages
 
-titles_of_all : of_p (codes "<dtml-in objectValues><dtml-var id></dtml-in>") ≡ Err (Cause (Unauthorized 2 1))
+titles_of_all : of_p (codes "<dtml-in objectValues><dtml-var id></dtml-in>") ≡ Err (Cause (Unauthorized 2 VIEW))
 unfolding word_at quotation_at value_at attribute_at next_attribute tag_end attributes_at tag_named tag_at name_at entity_at begins_part plain_len part_at nodes_at arms_at template_at head_at dots_at item_at chain chain_at comparison_at and_at or_at not_at token_at tokens_at expression_at named_for in_layers in_layer in_base in_object searched in_one by_word title_in title_or_id_in ids_in values_in reach_each property_or_child property_in child_at shape_of containers upwards reached verdict_on judged roles has locals_on local_roles rendered sourced object_rendered rendered_if argument needed var_text call_text unless_text object_turn turn each over_items loop_text with_text bound let_text item_text items_text arms_text else_text source_text evaluated first_of fitting shape quoted cased sized html_quote last_space chars first_chars
 titles_of_all = refl
 
@@ -141,10 +142,10 @@ by_proxy_roles : page (site [] (codes "<dtml-var \"s.title\">") (codes "Manager"
 unfolding word_at quotation_at value_at attribute_at next_attribute tag_end attributes_at tag_named tag_at name_at entity_at begins_part plain_len part_at nodes_at arms_at template_at head_at dots_at item_at chain chain_at comparison_at and_at or_at not_at token_at tokens_at expression_at named_for in_layers in_layer in_base in_object searched in_one by_word title_in title_or_id_in ids_in values_in reach_each property_or_child property_in child_at shape_of containers upwards reached verdict_on judged roles has locals_on local_roles rendered sourced object_rendered rendered_if argument needed var_text call_text unless_text object_turn turn each over_items loop_text with_text bound let_text item_text items_text arms_text else_text source_text evaluated first_of fitting shape quoted cased sized html_quote last_space chars first_chars
 by_proxy_roles = refl
 
-without_proxy_roles : page (site [] (codes "<dtml-var \"s.title\">") []) 3 100 ≡ Err (Cause (Unauthorized 2 1))
+without_proxy_roles : page (site [] (codes "<dtml-var \"s.title\">") []) 3 100 ≡ Err (Cause (Unauthorized 2 VIEW))
 unfolding word_at quotation_at value_at attribute_at next_attribute tag_end attributes_at tag_named tag_at name_at entity_at begins_part plain_len part_at nodes_at arms_at template_at head_at dots_at item_at chain chain_at comparison_at and_at or_at not_at token_at tokens_at expression_at named_for in_layers in_layer in_base in_object searched in_one by_word title_in title_or_id_in ids_in values_in reach_each property_or_child property_in child_at shape_of containers upwards reached verdict_on judged roles has locals_on local_roles rendered sourced object_rendered rendered_if argument needed var_text call_text unless_text object_turn turn each over_items loop_text with_text bound let_text item_text items_text arms_text else_text source_text evaluated first_of fitting shape quoted cased sized html_quote last_space chars first_chars
 without_proxy_roles = refl
 
-not_handed_on : page (site (codes "<dtml-var m><dtml-var \"s.title\">") (codes "<dtml-call \"s.title\">") (codes "Manager" ∷ [])) 1 100 ≡ Err (Cause (Unauthorized 2 1))
+not_handed_on : page (site (codes "<dtml-var m><dtml-var \"s.title\">") (codes "<dtml-call \"s.title\">") (codes "Manager" ∷ [])) 1 100 ≡ Err (Cause (Unauthorized 2 VIEW))
 unfolding word_at quotation_at value_at attribute_at next_attribute tag_end attributes_at tag_named tag_at name_at entity_at begins_part plain_len part_at nodes_at arms_at template_at head_at dots_at item_at chain chain_at comparison_at and_at or_at not_at token_at tokens_at expression_at named_for in_layers in_layer in_base in_object searched in_one by_word title_in title_or_id_in ids_in values_in reach_each property_or_child property_in child_at shape_of containers upwards reached verdict_on judged roles has locals_on local_roles rendered sourced object_rendered rendered_if argument needed var_text call_text unless_text object_turn turn each over_items loop_text with_text bound let_text item_text items_text arms_text else_text source_text evaluated first_of fitting shape quoted cased sized html_quote last_space chars first_chars
 not_handed_on = refl
