@@ -6,14 +6,15 @@ use Rattle.zbase.specs.Values.{serial}
 use Rattle.zbase.specs.declared.ids.Clash.{Clash}
 use Rattle.evaluator.specs.declared.draft.Draft.{Draft}
 use Rattle.evaluator.specs.declared.fact.Fact.{Fact}
+use Rattle.evaluator.specs.declared.reply.Reply.{Reply}
 use Rattle.schedule.specs.Moments.{Attempt}
 use Rattle.schedule.specs.Stepping.{clash_of, sooner, first_clash}
 use Rattle.fs_store.specs.declared.reads.Seen.{Seen}
 use Rattle.fs_store.specs.declared.refusal.VoteRefusal.{VoteRefusal}
 use Rattle.fs_store.specs.Stores.{IsTold, Loses, Out, Settles, Stands, StoreView}
 use Rattle.fs_store.specs.Verdicts.{clash_among, clash_at, first_of, validation, verdict, verdict_of}
-use Rattle.connection.specs.States.{AreReads, reads_of, serial_seen}
-use Rattle.connection.specs.Votes.{IsHeldBy, IsRuled, WasRefused, ruling_of, ruling}
+use Rattle.connection.specs.States.{ActiveView, AreReads, reads_of, serial_seen}
+use Rattle.connection.specs.Votes.{ComesBack, IsHeldBy, IsLeftOf, IsRuled, WasRefused, ruling_of, ruling, unready}
 
 same_first : (a b : Option Clash) → first_of a b ≡ sooner a b
 same_first None b = refl
@@ -68,3 +69,24 @@ was_refused old new a d reads e same none holder stands loses cause = record {
 -- a refusal that is a ruling
 pub ruled_as : {R : Type 0} (old new : StoreView) (a : Attempt R) (d : Draft) (e f : VoteRefusal) → e ≡ f → (f ≡ VoteRefusal.Memory → ⊥) → (f ≡ VoteRefusal.Disk → ⊥) → WasRefused old new a d e → IsRuled old new a d f
 ruled_as old new a d e f is memory disk was = subst (IsRuled old new a d) is (was.ruled (λ m. memory (sym is ∙ m)) (λ k. disk (sym is ∙ k)))
+
+-- an attempt comes back whole, but behind want of memory or a failing disk
+pub came_whole : {R : Type 0} (a back : ActiveView R) (e f : VoteRefusal) → e ≡ f → (f ≡ VoteRefusal.Memory → ⊥) → (f ≡ VoteRefusal.Disk → ⊥) → ComesBack a e back → back ≡ a
+came_whole a back e f is memory disk (inl same) = same
+came_whole a back e f is memory disk (inr (left, inl m)) = absurd (memory (sym is ∙ m))
+came_whole a back e f is memory disk (inr (left, inr k)) = absurd (disk (sym is ∙ k))
+
+pub came_left : {R : Type 0} (a back : ActiveView R) (e : VoteRefusal) → ComesBack a e back → IsLeftOf a back
+came_left a back e (inl same) = inl same
+came_left a back e (inr (left, why)) = inr left
+
+-- the attempt whose draft the store gave back, and the one whose draft it didn't
+pub comes_whole : {R : Type 0} (a : ActiveView R) (x : Reply) (d k : Draft) (e : VoteRefusal) (back : Option Draft) → a.ready ≡ Some (x, d) → back ≡ Some k → (back ≡ Some d) ⊎ ((back ≡ None) × ((e ≡ VoteRefusal.Memory) ⊎ (e ≡ VoteRefusal.Disk)))
+    → ComesBack a e (record { attempt = a.attempt; reads = a.reads; ready = Some (x, k) })
+comes_whole a x d k e back ready is (inl same) = (let drafts : k ≡ d = cc in inl (ap (λ r. record { attempt = a.attempt; reads = a.reads; ready = r }) (ap (λ b. Some (x, b)) drafts ∙ sym ready)))
+comes_whole a x d k e back ready is (inr (none, why)) = absurd cc
+
+pub comes_unready : {R : Type 0} (a : ActiveView R) (d : Draft) (e : VoteRefusal) (back : Option Draft) (ready : Option (Reply × Draft)) → ready ≡ None → back ≡ None → (back ≡ Some d) ⊎ ((back ≡ None) × ((e ≡ VoteRefusal.Memory) ⊎ (e ≡ VoteRefusal.Disk)))
+    → ComesBack a e (record { attempt = a.attempt; reads = a.reads; ready = ready })
+comes_unready a d e back ready left is (inl some) = absurd cc
+comes_unready a d e back ready left is (inr (none, why)) = inr (ap (λ r. record { attempt = a.attempt; reads = a.reads; ready = r }) left, why)

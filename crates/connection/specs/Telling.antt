@@ -1,8 +1,11 @@
 -- What a disk tells from one call to the next.
-use Rattle.std.specs.Prelude.{Option, Some, None, IsSome, refl}
-use Rattle.zdisk.specs.Crashes.{Piles}
+use Rattle.std.specs.Prelude.{ℕ, List, Option, Some, None, IfSome, IsSome, refl}
+use Rattle.zdisk.specs.Crashes.{LeavesFrom, Piles}
 use Rattle.zdisk.specs.Disk.{Told}
-use Rattle.zdisk.specs.MomentLaws.{piles_none, piles_then}
+use Rattle.zdisk.specs.Images.{IsImage}
+use Rattle.zdisk.specs.MomentLaws.{leaves_now, piles_none, piles_then}
+use Rattle.fs_store.specs.Moments.{KeepsOpening, OpensAsKnown}
+use Rattle.fs_store.specs.Stores.{StoreView}
 
 -- What a disk told of earlier moments it tells still, and one that tells nothing goes on telling nothing.
 abbrev pub TellsOn : Option Told → Option Told → Type 0
@@ -34,3 +37,11 @@ tells_back None None on some = some
 tells_back None (Some b) on some = absurd on
 tells_back (Some a) None on some = absurd on
 tells_back (Some a) (Some b) on some = refl
+
+leaves_still : (told : Option Told) (P : List ℕ → Type 0) → IfSome told (λ t. (image : List ℕ) → IsImage t.now image → P image) → LeavesFrom told told (λ file image. P image)
+leaves_still None P now = tt
+leaves_still (Some t) P now = (piles_none t, leaves_now t P now)
+
+-- where no call was made, each image opens as it did
+pub keeps_still : (s : StoreView) → IfSome s.disk.told (λ told. (image : List ℕ) → IsImage told.now image → OpensAsKnown s image) → KeepsOpening s s
+keeps_still s now = leaves_still s.disk.told (OpensAsKnown s) now

@@ -35,15 +35,28 @@ pub record WasRefused {R : Type 0} (old new : StoreView) (a : Attempt R) (d : Dr
   pub loses : e ≡ VoteRefusal.Disk → IsTold old → Loses old new
   pub ruled : (e ≡ VoteRefusal.Memory → ⊥) → (e ≡ VoteRefusal.Disk → ⊥) → IsRuled old new a d e
 
+-- the attempt without its reply and its change
+abbrev pub unready : {R : Type 0} → ActiveView R → ActiveView R
+unready a = record { attempt = a.attempt; reads = a.reads; ready = None }
+
+-- what is left of an attempt whose vote met want of memory or a failing disk: its reply and its change may be used up
+abbrev pub IsLeftOf : {R : Type 0} → ActiveView R → ActiveView R → Type 0
+IsLeftOf a back = (back ≡ a) ⊎ (back ≡ unready a)
+
+-- the attempt as it was, or, behind want of memory or a failing disk, what is left of it
+abbrev pub ComesBack : {R : Type 0} → ActiveView R → VoteRefusal → ActiveView R → Type 0
+ComesBack a e back = (back ≡ a) ⊎ ((back ≡ unready a) × ((e ≡ VoteRefusal.Memory) ⊎ (e ≡ VoteRefusal.Disk)))
+
 -- Each refusal has its cause, where the store tells in the store once that is settled, and hands the state back: the
--- attempt as it was, or the request with its conflict kept. At the fourth conflict it is given up.
+-- attempt as it was, or the request with its conflict kept. At the fourth conflict it is given up. Behind want of memory or
+-- a failing disk the request ends, and the attempt may come back without its reply and its change.
 abbrev pub IsRefused : {E R S : Type 0} → StoreView → StoreView → ActiveView R → Draft → CommitRefusal E R S → Type 0
 IsRefused old new a d (CommitRefusal.Busy w back) = (back ≡ a) × IsHeldBy old w × IsRuled old new a.attempt d (VoteRefusal.Busy w)
 IsRefused old new a d (CommitRefusal.Conflict c back) = (length a.attempt.clashes < 3) × (back.request ≡ a.attempt.request) × (clashes_of back.conflicts ≡ a.attempt.clashes ++ c ∷ []) × IsRuled old new a.attempt d (VoteRefusal.Conflict c)
 IsRefused old new a d (CommitRefusal.GivenUp cs) = (c : Clash) × (length a.attempt.clashes ≡ 3) × (cs ≡ a.attempt.clashes ++ c ∷ []) × IsRuled old new a.attempt d (VoteRefusal.Conflict c)
 IsRefused old new a d (CommitRefusal.Spent k back) = (back ≡ a) × IsRuled old new a.attempt d (VoteRefusal.Spent k)
-IsRefused old new a d (CommitRefusal.Disk back) = (back ≡ a) × (old.out ≡ None) × (IsTold old → Loses old new)
-IsRefused old new a d (CommitRefusal.Memory back) = (back ≡ a) × (old.out ≡ None) × (IsTold old → Stands old new)
+IsRefused old new a d (CommitRefusal.Disk back) = IsLeftOf a back × (old.out ≡ None) × (IsTold old → Loses old new)
+IsRefused old new a d (CommitRefusal.Memory back) = IsLeftOf a back × (old.out ≡ None) × (IsTold old → Stands old new)
 
 abbrev pub IsDiskRefusal : {E R S : Type 0} → CommitRefusal E R S → Type 0
 IsDiskRefusal (CommitRefusal.Disk back) = Unit {0}

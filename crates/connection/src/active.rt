@@ -89,6 +89,7 @@ impl<E: Evaluator> Active<E> {
     ghost use Rattle.zbase.specs.Faults.{Counts};
     ghost use Rattle.evaluator.specs.Exec.{IsTrail, most_asks};
     ghost use Rattle.evaluator.specs.Facts.{look};
+    ghost use Rattle.fs_store.specs.Moments.{KeepsOpening};
     ghost use Rattle.fs_store.specs.Seeing.{IsSeen};
     ghost use Rattle.fs_store.specs.Stores.{IsTold, Stands};
     ghost use Rattle.fs_store.specs.declared.reads.Seen.{Seen};
@@ -133,8 +134,10 @@ impl<E: Evaluator> Active<E> {
         ensures limit { store.new.limit ≡ store.old.limit }
         ensures tells { TellsOn store.old.disk.told store.new.disk.told }
         ensures seen { (seen : Seen) → IsSeen store.old seen → IsSeen store.new seen }
+        ensures any_moment { KeepsOpening store.old store.new }
         ensures counts { Counts store.old.disk.counter store.new.disk.counter (IsErrAnd result (λ (refusal, _). refusal ≡ TurnRefusal.Disk)) }
     {
+        store.is_sound();
         let Ok(outcome) = evaluator.eval(&mut self.state, &self.facts, &self.request) else {
             return Err((TurnRefusal::Memory, self));
         };
@@ -160,13 +163,14 @@ impl<E: Evaluator> Active<E> {
     ghost use Rattle.zbase.specs.Faults.{Counts, Twice};
     ghost use Rattle.evaluator.specs.declared.draft.Draft.{Draft};
     ghost use Rattle.evaluator.specs.declared.reply.Reply.{Reply};
+    ghost use Rattle.fs_store.specs.Moments.{KeepsOpening};
     ghost use Rattle.fs_store.specs.Seeing.{IsSeen};
     ghost use Rattle.fs_store.specs.Stores.{IsDraft, IsTold, StoreView};
     ghost use Rattle.fs_store.specs.declared.reads.Seen.{Seen};
     ghost use Rattle.fs_store.specs.declared.refusal.VoteRefusal.{VoteRefusal};
-    ghost use Rattle.connection.specs.States.{AreSeen};
+    ghost use Rattle.connection.specs.States.{ActiveView, AreSeen};
     ghost use Rattle.connection.specs.Telling.{TellsOn};
-    ghost use Rattle.connection.specs.Votes.{IsDiskRefusal, IsRefused, IsRuled, IsVoted, WasRefused};
+    ghost use Rattle.connection.specs.Votes.{ComesBack, IsDiskRefusal, IsRefused, IsRuled, IsVoted, WasRefused};
 
     // The request begins anew, or is given up at its fourth conflict.
     fn again(self, clash: Clash) -> CommitRefusal<E>
@@ -194,7 +198,8 @@ impl<E: Evaluator> Active<E> {
 
     // The state that comes back with a refusal of the store.
     fn refused(self, refusal: VoteRefusal) -> CommitRefusal<E>
-        ensures refused { (old new : StoreView) (d : Draft) → WasRefused old new self.attempt d refusal → IsRefused old new self d result }
+        ensures refused { (old new : StoreView) (a : ActiveView E.Request) (d : Draft) → ComesBack a refusal self
+            → WasRefused old new a.attempt d refusal → IsRefused old new a d result }
         ensures disk { IsDiskRefusal result ↔ (refusal ≡ VoteRefusal.Disk) }
     {
         match refusal {
@@ -232,7 +237,8 @@ impl<E: Evaluator> Active<E> {
 
     /// Votes for the change, for a worker: it is refused where another vote is out, where an object that was
     /// fetched has a later serial, or where ids or the file's room are spent, in this order. A stale store is opened
-    /// again first, and this is judged over what it then holds.
+    /// again first, and this is judged over what it then holds. The change is moved to its record: where memory is wanting or
+    /// the disk fails in that, the attempt comes back without it.
     #[tactic(auto, using(crate::proofs::Telling::opening_tells))]
     pub fn vote<D: Disk + Drop>(
         mut self,
@@ -250,6 +256,7 @@ impl<E: Evaluator> Active<E> {
         ensures limit { store.new.limit ≡ store.old.limit }
         ensures tells { TellsOn store.old.disk.told store.new.disk.told }
         ensures seen { (seen : Seen) → IsSeen store.old seen → IsSeen store.new seen }
+        ensures any_moment { KeepsOpening store.old store.new }
         ensures counts { Counts store.old.disk.counter store.new.disk.counter (IsErrAnd result IsDiskRefusal) }
     {
         let Some((reply, draft)) = self.ready.take() else {
@@ -257,10 +264,12 @@ impl<E: Evaluator> Active<E> {
         };
         match store.vote(holder, draft, self.reads.as_slice(), now) {
             Ok(voted) => Ok(self.voted(reply, voted)),
-            Err((refusal, draft)) => {
+            Err((refusal, Some(draft))) => {
                 self.ready = Some((reply, draft));
                 Err(self.refused(refusal))
             }
+            // The change is used up: memory was wanting, or the disk failed.
+            Err((refusal, None)) => Err(self.refused(refusal)),
         }
     }
 }

@@ -34,6 +34,7 @@ impl<E: Evaluator> Fresh<E> {
     ghost use Rattle.std.specs.Prelude.{◌≡◌, [], false, IfErr, IfOk, IsErrAnd, None, OnErr, OnOk};
     ghost use Rattle.zbase.specs.Faults.{Counts};
     ghost use Rattle.zbase.specs.Values.{last};
+    ghost use Rattle.fs_store.specs.Moments.{KeepsOpening};
     ghost use Rattle.fs_store.specs.Seeing.{IsSeen};
     ghost use Rattle.fs_store.specs.Stores.{IsTold, Settles, on_disk};
     ghost use Rattle.fs_store.specs.declared.reads.Seen.{Seen};
@@ -78,6 +79,7 @@ impl<E: Evaluator> Fresh<E> {
         ensures limit { store.new.limit ≡ store.old.limit }
         ensures tells { TellsOn store.old.disk.told store.new.disk.told }
         ensures seen { (seen : Seen) → IsSeen store.old seen → IsSeen store.new seen }
+        ensures any_moment { KeepsOpening store.old store.new }
         ensures counts { Counts store.old.disk.counter store.new.disk.counter (IsErrAnd result (λ (refusal, _). refusal ≡ BeginRefusal.Disk)) }
     {
         match store.refresh() {

@@ -2,6 +2,7 @@ ghost use Rattle.std.specs.Prelude.{◌≡◌, ◌++◌, ◌∷◌, [], IfOk, Is
 ghost use Rattle.zbase.specs.Faults.{Counts};
 ghost use Rattle.evaluator.specs.declared.fact.Fact.{Fact};
 ghost use Rattle.fs_store.specs.Seeing.{IsSeen};
+ghost use Rattle.fs_store.specs.Moments.{KeepsOpening};
 ghost use Rattle.fs_store.specs.Stores.{IsTold, Settles, Stands};
 ghost use Rattle.fs_store.specs.declared.reads.Seen.{Seen};
 ghost use Rattle.fs_store.specs.declared.refusal.LoadRefusal.{LoadRefusal};
@@ -42,6 +43,7 @@ fn fact_of<D: Disk + Drop>(
     ensures limit { store.new.limit ≡ store.old.limit }
     ensures tells { TellsOn store.old.disk.told store.new.disk.told }
     ensures keeps { (seen_before : Seen) → IsSeen store.old seen_before → IsSeen store.new seen_before }
+    ensures any_moment { KeepsOpening store.old store.new }
     ensures counts { Counts store.old.disk.counter store.new.disk.counter (IsErrOf result LoadRefusal.Disk) }
 {
     match ask {
@@ -83,6 +85,7 @@ pub(crate) fn learn<D: Disk + Drop>(
     ensures limit { store.new.limit ≡ store.old.limit }
     ensures tells { TellsOn store.old.disk.told store.new.disk.told }
     ensures keeps { (seen_before : Seen) → IsSeen store.old seen_before → IsSeen store.new seen_before }
+    ensures any_moment { KeepsOpening store.old store.new }
     ensures counts { Counts store.old.disk.counter store.new.disk.counter (IsErrOf result LoadRefusal.Disk) }
 {
     let (found, seen) = fact_of(store, ask, at)?;

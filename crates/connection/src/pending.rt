@@ -29,10 +29,11 @@ impl<E: Evaluator> Model for Pending<E> {
 }
 
 impl<E: Evaluator> Pending<E> {
-    ghost use Rattle.std.specs.Prelude.{◌≡◌, false, IfErr, IfOk, IsErr, None, OnErr, OnOk};
+    ghost use Rattle.std.specs.Prelude.{◌≡◌, false, IfErr, IfOk, IsErr, None, OnErr, OnOk, Some};
     ghost use Rattle.zbase.specs.Faults.{Counts, Twice};
+    ghost use Rattle.fs_store.specs.Moments.{KeepsOpening, OpensToEither};
     ghost use Rattle.fs_store.specs.Seeing.{IsSeen};
-    ghost use Rattle.fs_store.specs.Stores.{IsTold, IsVoteOf, finished, staled, unsettled, voting};
+    ghost use Rattle.fs_store.specs.Stores.{IsTold, IsVoteOf, Out, finished, staled, unsettled, voting};
     ghost use Rattle.fs_store.specs.declared.reads.Seen.{Seen};
     ghost use Rattle.fs_store.specs.declared.refusal.FinishRefusal.{FinishRefusal};
     ghost use Rattle.connection.specs.Telling.{TellsOn};
@@ -53,6 +54,7 @@ impl<E: Evaluator> Pending<E> {
         ensures done { OnOk result ((store.new.out ≡ None) × (store.new.stale ≡ false)) }
         ensures unknown { IfErr result (λ refusal. refusal ≡ FinishRefusal.Unknown self.tid) }
         ensures stale { OnErr result (store.new ≡ unsettled store.old store.new.disk) }
+        ensures any_moment { (o : Out) → store.old.out ≡ Some o → OpensToEither store.old store.new o }
         ensures twice { OnOk result (Twice store.old.disk.counter store.new.disk.counter) }
         ensures limit { store.new.limit ≡ store.old.limit }
         ensures tells { TellsOn store.old.disk.told store.new.disk.told }
@@ -79,6 +81,7 @@ impl<E: Evaluator> Pending<E> {
         requires vote { IsVoteOf store.old self.tid }
         ensures gone { OnOk result (store.new ≡ voting store.old None store.new.disk) }
         ensures stale { OnErr result (store.new ≡ staled store.old store.new.disk) }
+        ensures any_moment { KeepsOpening store.old store.new }
         ensures limit { store.new.limit ≡ store.old.limit }
         ensures tells { TellsOn store.old.disk.told store.new.disk.told }
         ensures seen { (seen : Seen) → IsSeen store.old seen → IsSeen store.new seen }

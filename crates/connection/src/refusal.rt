@@ -31,8 +31,8 @@ pub enum CommitRefusal<E: Evaluator> {
     GivenUp([Clash; 4]),
     /// Something is spent, as the store says.
     Spent(Spent, Active<E>),
-    /// The disk failed.
+    /// The disk failed. The attempt may be without its reply and its change.
     Disk(Active<E>),
-    /// Want of memory. It never comes while another vote is out.
+    /// Want of memory. It never comes while another vote is out. The attempt may be without its reply and its change.
     Memory(Active<E>),
 }

@@ -4,6 +4,7 @@ use Rattle.evaluator.specs.Facts.{ask_of, look}
 use Rattle.evaluator.specs.FactLaws.{trail_push}
 use Rattle.schedule.specs.Moments.{Attempt}
 use Rattle.connection.specs.States.{AreSeen, clashes_of}
+use Rattle.connection.specs.Telling.{keeps_still}
 use Rattle.connection.proofs.Asking.{answer_decided, change_decided, has_asked}
 use Rattle.connection.proofs.active.Active.turn.Goals as goal
 
@@ -46,3 +47,12 @@ pub returns-in-Change-clause-reads : goal.returns-in-Change-clause-reads
 returns-in-Change-clause-reads g c =
     let read : AreSeen c.args.store.now c.self.inside.reads.items = rw (sym c.self.view_is) at c.requires.reads in
     read
+
+pub returns-in-Answer-clause-any_moment : goal.returns-in-Answer-clause-any_moment
+returns-in-Answer-clause-any_moment g c = keeps_still c.args.store.now c.is_sound.ensures.images
+
+pub returns-in-Change-clause-any_moment : goal.returns-in-Change-clause-any_moment
+returns-in-Change-clause-any_moment g c = keeps_still c.args.store.now c.is_sound.ensures.images
+
+pub returns-in_default-clause-any_moment : goal.returns-in_default-clause-any_moment
+returns-in_default-clause-any_moment g c = keeps_still c.args.store.now c.is_sound.ensures.images
