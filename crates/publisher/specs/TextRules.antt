@@ -2,6 +2,7 @@
 use Rattle.std.proofs.Common.{ℕ, zero, suc, ◌≡◌, refl, subst, Bool, true, false, List, [], ◌∷◌, Option, None, Result, Ok, Err, option_map}
 use Rattle.std.specs.Int.{Width, w16, w32}
 use Rattle.std.specs.List.{AllByRecursion}
+use Rattle.zobject.specs.declared.limits.TheConstants.{MOST_COUNTED, MOST_LOCALS, MOST_PROPERTIES, MOST_USERS}
 use Rattle.zobject.specs.declared.object.Object.{Object}
 use Rattle.zobject.specs.declared.object.Part2.{Part2}
 use Rattle.zobject.specs.declared.object.Part2.TheVariants as parts
@@ -12,7 +13,7 @@ use Rattle.zobject.specs.declared.version.Kind.TheVariants as kinds
 use Rattle.zobject.specs.declared.version.Rule.{Rule}
 use Rattle.zobject.specs.declared.version.Rule.TheVariants.{Role, Source, UserName}
 use Rattle.zobject.specs.declared.version.Version.{Version}
-use Rattle.zobject.specs.Rules.{comes_before, least_roles, most_counted}
+use Rattle.zobject.specs.Rules.{comes_before, least_roles}
 use Rattle.zobject.specs.Texts.{keeps}
 use Rattle.zcodec.specs.Reading.{Reads, ◌>>=◌, where_kept, number_at, front_at, text_at, count_at, items_at, last_one, list_at, rises, role_at, roles_at, permission_at, flag_at, setting_at, name_at, local_at, property_at, user_at, children_at, proxy_at, folder_at, method_at, document_at, user_folder_at, part_at, head_at, lists_at, object_at, whole_at, placed, read}
 
@@ -70,7 +71,7 @@ role_keeps last bytes y e =
     subst (λ (z : List ℕ × List ℕ). IsText Role z.0) k.1 (text_keeps w16 Role bytes t.0 t.1)
 
 roles_keep : (least : ℕ) (bytes : List ℕ) (y : List (List ℕ) × List ℕ) → roles_at least bytes ≡ Ok y → AreRoleTexts y.0
-roles_keep least bytes y e = list_each least most_counted role_at (IsText Role) role_keeps bytes y e
+roles_keep least bytes y e = list_each least MOST_COUNTED role_at (IsText Role) role_keeps bytes y e
 
 -- ---- settings and users
 
@@ -121,8 +122,8 @@ part_keeps version kinds.Document bytes y e =
     let p = two (proxy_at version x.0.1) _ y x.2 in
     subst (λ (z : Part2 × List ℕ). PartRule z.0) (ok_is _ y p.2) tt
 part_keeps version kinds.UserFolder bytes y e =
-    let x = two (list_at 0 1000 user_at bytes) _ y e in
-    subst (λ (z : Part2 × List ℕ). PartRule z.0) (ok_is _ y x.2) (list_each 0 1000 user_at UserRule user_keeps bytes x.0 x.1)
+    let x = two (list_at 0 MOST_USERS user_at bytes) _ y e in
+    subst (λ (z : Part2 × List ℕ). PartRule z.0) (ok_is _ y x.2) (list_each 0 MOST_USERS user_at UserRule user_keeps bytes x.0 x.1)
 
 -- ---- the object
 
@@ -136,12 +137,12 @@ unfolding object_at lists_at
 object_keeps bytes y e =
     let head = two (head_at bytes) _ y e in
     let lists = two (lists_at head.0.0.start.version head.0.1) _ y head.2 in
-    let settings = two (list_at 0 most_counted (setting_at head.0.0.start.version) head.0.1) _ lists.0 lists.1 in
-    let locals = two (list_at 0 1000 local_at settings.0.1) _ lists.0 settings.2 in
-    let properties = two (list_at 0 100 (property_at head.0.0.start.version) locals.0.1) _ lists.0 locals.2 in
+    let settings = two (list_at 0 MOST_COUNTED (setting_at head.0.0.start.version) head.0.1) _ lists.0 lists.1 in
+    let locals = two (list_at 0 MOST_LOCALS local_at settings.0.1) _ lists.0 settings.2 in
+    let properties = two (list_at 0 MOST_PROPERTIES (property_at head.0.0.start.version) locals.0.1) _ lists.0 locals.2 in
     let part = two (part_at head.0.0.start.version head.0.0.start.kind lists.0.1) _ y lists.2 in
     let rule : AllByRecursion SettingRule lists.0.0.settings =
-    subst (λ z. AllByRecursion SettingRule z.0.settings) (ok_is _ lists.0 properties.2) (list_each 0 most_counted (setting_at head.0.0.start.version) SettingRule (setting_keeps head.0.0.start.version) head.0.1 settings.0 settings.1) in
+    subst (λ z. AllByRecursion SettingRule z.0.settings) (ok_is _ lists.0 properties.2) (list_each 0 MOST_COUNTED (setting_at head.0.0.start.version) SettingRule (setting_keeps head.0.0.start.version) head.0.1 settings.0 settings.1) in
     subst (λ (z : (Version × Object) × List ℕ). HasRightTexts z.0.1) (ok_is _ y part.2)
     (record { settings = rule; part = part_keeps head.0.0.start.version head.0.0.start.kind lists.0.1 part.0 part.1 })
 
