@@ -6,3 +6,4 @@ pub mod Arms
 pub mod Cores
 pub mod Endings
 pub mod Armed
+pub mod Crashing

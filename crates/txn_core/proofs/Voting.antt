@@ -287,13 +287,13 @@ voted_change {R} eval old new a x d p carries ready stands attempt reply =
     (d, rw (attempt, reply) change, subst (λ (k : Attempt R). IsTold new → AsksStand eval new k) (sym attempt) (asks_carried eval old new a.attempt carries stands.5))
 
 -- the draft that is ready keeps the rules of a change, by the law of the evaluator
-pub ready_draft : {R : Type 0} (eval : Eval R) (st : StoreView) (a : ActiveView R) → ((known : Ask → Option Fact) (q : R) (x : Reply) (d : Draft) → eval known q ≡ Outcome.Change x d → IsChange known d × IsReply x) → ComputedStands eval st a
+pub ready_draft : {R : Type 0} (eval : Eval R) (st : StoreView) (a : ActiveView R) → ((facts : List Fact) (q : R) (x : Reply) (d : Draft) → eval (look facts) q ≡ Outcome.Change x d → IsChange (look facts) d × IsReply x) → ComputedStands eval st a
     → (x : Reply) × (d : Draft) × (a.ready ≡ Some (x, d)) × IsDraft d
-ready_draft eval st a changes s = (s.0, s.1, s.2, (look a.attempt.facts, (changes (look a.attempt.facts) a.attempt.request s.0 s.1 s.3).0))
+ready_draft eval st a changes s = (s.0, s.1, s.2, (look a.attempt.facts, (changes a.attempt.facts a.attempt.request s.0 s.1 s.3).0))
 
 -- replies keep their rules, by the laws of the evaluator
 pub read_reply : {R : Type 0} (eval : Eval R) (a : ActiveView R) (x : Reply) → ((known : Ask → Option Fact) (q : R) (y : Reply) → eval known q ≡ Outcome.Answer y → IsReply y) → comes_to eval a.attempt ≡ Outcome.Answer x → IsReply x
 read_reply eval a x replies e = replies (look a.attempt.facts) a.attempt.request x e
 
-pub commit_reply : {R : Type 0} (eval : Eval R) (st : StoreView) (p : PendingView R) → ((known : Ask → Option Fact) (q : R) (x : Reply) (d : Draft) → eval known q ≡ Outcome.Change x d → IsChange known d × IsReply x) → ChangeStands eval st p → IsReply p.reply
-commit_reply eval st p changes s = (changes (look p.attempt.facts) p.attempt.request p.reply s.0 s.1).1
+pub commit_reply : {R : Type 0} (eval : Eval R) (st : StoreView) (p : PendingView R) → ((facts : List Fact) (q : R) (x : Reply) (d : Draft) → eval (look facts) q ≡ Outcome.Change x d → IsChange (look facts) d × IsReply x) → ChangeStands eval st p → IsReply p.reply
+commit_reply eval st p changes s = (changes p.attempt.facts p.attempt.request p.reply s.0 s.1).1

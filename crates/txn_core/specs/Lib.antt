@@ -3,3 +3,6 @@ pub mod Slots
 pub mod StepLines
 pub mod Counting
 pub mod Cores
+pub mod Crashing
+pub mod Replying
+pub mod Growing

@@ -2,6 +2,7 @@ ghost use Rattle.std.specs.Prelude.{◌≡◌, false};
 ghost use Rattle.zbase.specs.Faults.{Counts, Twice};
 ghost use Rattle.connection.specs.Telling.{TellsOn};
 ghost use Rattle.fs_store.specs.Stores.{IsTold};
+ghost use Rattle.txn_core.specs.Crashing.{KeepsNearly};
 ghost use Rattle.txn_core.specs.Slots.{ActiveStands, Advances, ChangeStands, ComputedStands, PendingStands, SlotStands};
 ghost use Rattle.txn_core.specs.StepLines.{IsAnswered, IsCommitLine, IsFaultLine, IsVoteLine};
 ghost use Rattle.txn_core.specs.declared.slot.Slot.{Slot};
@@ -14,6 +15,7 @@ use fs_store::Store;
 use zbase::Tid;
 use zdisk::Disk;
 
+#[tactic(auto, using(crate::proofs::Crashing::opening_nearly))]
 fn begin<D: Disk + Drop, E: Evaluator>(
     store: &mut Store<D>,
     evaluator: &E,
@@ -24,6 +26,7 @@ fn begin<D: Disk + Drop, E: Evaluator>(
     ensures advances { Advances E.meaning worker now store.old store.new (Slot.Fresh fresh) result.0 result.1 }
     ensures limit { store.new.limit ≡ store.old.limit }
     ensures tells { TellsOn store.old.disk.told store.new.disk.told }
+    ensures any_moment { KeepsNearly store.old store.new }
     ensures answered { IsAnswered result.1 }
     ensures counts { Counts store.old.disk.counter store.new.disk.counter (IsFaultLine result.1) }
     ensures fresh { IsCommitLine result.1 → store.new.stale ≡ false }
@@ -41,6 +44,7 @@ fn begin<D: Disk + Drop, E: Evaluator>(
     }
 }
 
+#[tactic(auto, using(crate::proofs::Crashing::opening_nearly))]
 fn turn<D: Disk + Drop, E: Evaluator>(
     store: &mut Store<D>,
     evaluator: &mut E,
@@ -52,6 +56,7 @@ fn turn<D: Disk + Drop, E: Evaluator>(
     ensures advances { Advances E.meaning worker now store.old store.new (Slot.Active active) result.0 result.1 }
     ensures limit { store.new.limit ≡ store.old.limit }
     ensures tells { TellsOn store.old.disk.told store.new.disk.told }
+    ensures any_moment { KeepsNearly store.old store.new }
     ensures answered { IsAnswered result.1 }
     ensures counts { Counts store.old.disk.counter store.new.disk.counter (IsFaultLine result.1) }
     ensures fresh { IsCommitLine result.1 → store.new.stale ≡ false }
@@ -71,6 +76,7 @@ fn turn<D: Disk + Drop, E: Evaluator>(
     }
 }
 
+#[tactic(auto, using(crate::proofs::Crashing::opening_nearly))]
 fn vote<D: Disk + Drop, E: Evaluator>(
     store: &mut Store<D>,
     worker: u32,
@@ -81,6 +87,7 @@ fn vote<D: Disk + Drop, E: Evaluator>(
     ensures advances { Advances E.meaning worker now store.old store.new (Slot.Computed active) result.0 result.1 }
     ensures limit { store.new.limit ≡ store.old.limit }
     ensures tells { TellsOn store.old.disk.told store.new.disk.told }
+    ensures any_moment { KeepsNearly store.old store.new }
     ensures answered { IsAnswered result.1 }
     ensures counts { Counts store.old.disk.counter store.new.disk.counter (IsFaultLine result.1) }
     ensures fresh { IsCommitLine result.1 → store.new.stale ≡ false }
@@ -117,6 +124,7 @@ fn finish<D: Disk + Drop, E: Evaluator>(
     ensures advances { Advances E.meaning worker now store.old store.new (Slot.Pending pending) result.0 result.1 }
     ensures limit { store.new.limit ≡ store.old.limit }
     ensures tells { TellsOn store.old.disk.told store.new.disk.told }
+    ensures any_moment { KeepsNearly store.old store.new }
     ensures answered { IsAnswered result.1 }
     ensures counts { Counts store.old.disk.counter store.new.disk.counter (IsFaultLine result.1) }
     ensures fresh { IsCommitLine result.1 → store.new.stale ≡ false }
@@ -143,12 +151,14 @@ pub(crate) fn advance<D: Disk + Drop, E: Evaluator>(
     ensures advances { Advances E.meaning worker now store.old store.new slot result.0 result.1 }
     ensures limit { store.new.limit ≡ store.old.limit }
     ensures tells { TellsOn store.old.disk.told store.new.disk.told }
+    ensures any_moment { KeepsNearly store.old store.new }
     ensures answered { IsAnswered result.1 }
     ensures counts { Counts store.old.disk.counter store.new.disk.counter (IsFaultLine result.1) }
     ensures fresh { IsCommitLine result.1 → store.new.stale ≡ false }
     ensures calm { IsTold store.old → (IsFaultLine result.1 → ⊥) → store.old.stale ≡ false → store.new.stale ≡ false }
     ensures twice { IsVoteLine result.1 → Twice store.old.disk.counter store.new.disk.counter }
 {
+    store.is_sound();
     match slot {
         Slot::Idle => (Slot::Idle, StepLine::Idle),
         Slot::Fresh(fresh) => begin(store, evaluator, worker, now, fresh),

@@ -12,6 +12,7 @@ ghost use Rattle.txn_core.specs.Counting.{IsFinishLine, IsOutcome, Lowers, Paces
 ghost use Rattle.connection.specs.Votes.{IsHeldBy};
 ghost use Rattle.txn_core.specs.Passing.{Passes};
 ghost use Rattle.txn_core.specs.StepLines.{IsAnswered, IsCommitLine, IsFaultLine, IsVoteLine, step_lines};
+ghost use Rattle.txn_core.specs.Crashing.{KeepsNearly};
 ghost use Rattle.txn_core.specs.Slots.{Closes, IsLeft, RestsOn};
 ghost use Rattle.txn_core.specs.declared.slot.Slot.{Slot};
 ghost use Rattle.txn_core.specs.declared.step_line.StepLine.{StepLine};
@@ -143,7 +144,8 @@ impl<D: Disk + Drop, E: Evaluator> Core<D, E> {
     /// each moment at which it is behind the step is one that a step led to.
     ///
     /// Where the count of the disk's faults rose, the answer is `DiskFault`, or `Unknown` in a finish; neither comes
-    /// elsewhere, and without them a store that tells and isn't stale stays so. Each step but one that answers `Idle` or
+    /// elsewhere, and without them a store that tells and isn't stale stays so. Whatever a stop at any moment of the step
+    /// leaves opens to the known history, with one transaction more at most. Each step but one that answers `Idle` or
     /// `Busy` lowers the worker's number `left`, and no other number is changed. A worker is idle exactly where it has no
     /// request, and waits only for one whose vote is out. An answer comes in the second step of its attempt beside those
     /// that fetch its facts, a commit in the fourth; the facts are those for which the evaluation of its request asks,
@@ -154,6 +156,7 @@ impl<D: Disk + Drop, E: Evaluator> Core<D, E> {
             Follows terms (MayBe E.meaning self.old) now (MayBe E.meaning self.new) now (Item2.Step worker) (step_lines terms.answer worker result) }
         ensures limit { self.new.store.limit ≡ self.old.store.limit }
         ensures tells { TellsOn self.old.store.disk.told self.new.store.disk.told }
+        ensures any_moment { KeepsNearly self.old.store self.new.store }
         ensures fresh { IsCommitLine result → self.new.store.stale ≡ false }
         ensures calm { IsTold self.old.store → (IsFaultLine result → ⊥) → self.old.store.stale ≡ false → self.new.store.stale ≡ false }
         ensures answered { IsAnswered result }

@@ -1,6 +1,7 @@
 use Rattle.std.proofs.Common.{ap}
 use Rattle.fs_store.specs.Stores.{StoreView}
 use Rattle.connection.specs.Telling.{tells_back, tells_forth}
+use Rattle.txn_core.proofs.Crashing.{finish_nearly}
 use Rattle.txn_core.proofs.Arms.{committed, unknown}
 use Rattle.txn_core.proofs.Steadiness.{Carries, grows_finished, grows_same, voter_decided}
 use Rattle.txn_core.proofs.Voting.{commit_reply}
@@ -23,3 +24,9 @@ returns-in-Ok-clause-answered g c = rw c.in-Ok.ensures.reply.0 (commit_reply g.E
 
 pub returns-in-Err-clause-calm : goal.returns-in-Err-clause-calm
 returns-in-Err-clause-calm g c = λ told calm fresh. absurd (calm tt)
+
+pub returns-in-Ok-clause-any_moment : goal.returns-in-Ok-clause-any_moment
+returns-in-Ok-clause-any_moment g c = finish_nearly c.args.store.now c.finish.new.store c.args.worker c.args.pending c.requires.vote c.finish.ensures.any_moment
+
+pub returns-in-Err-clause-any_moment : goal.returns-in-Err-clause-any_moment
+returns-in-Err-clause-any_moment g c = finish_nearly c.args.store.now c.finish.new.store c.args.worker c.args.pending c.requires.vote c.finish.ensures.any_moment

@@ -77,3 +77,6 @@ returns-clause-tells g c = rw (← c.self.view_is) c.advance-next.ensures.tells
 
 pub returns-clause-calm : goal.returns-clause-calm
 returns-clause-calm g c = rw (← c.self.view_is) c.advance-next.ensures.calm
+
+pub returns-clause-any_moment : goal.returns-clause-any_moment
+returns-clause-any_moment g c = rw (← c.self.view_is) c.advance-next.ensures.any_moment
