@@ -1,9 +1,8 @@
 -- What a command over a file did is what its words ask for.
-use Rattle.std.proofs.Common.{◌≡◌, ◌∙◌, ℕ, List, Option, Some, None, Result, Ok, Err, inl, inr, subst, sym}
-use Rattle.std.specs.Io.KnownBytes.{append_known}
+use Rattle.std.proofs.Common.{◌≡◌, ◌∙◌, ◌⊎◌, ℕ, List, [], Option, Some, None, Result, Ok, Err, inl, inr, refl, sym}
 use Rattle.std.specs.Prelude.{IfErr, OnOk}
 use Rattle.zope.specs.declared.refusal.Refusal.{Refusal}
-use Rattle.zope.specs.Causes.{Cause, Did, Names, last_line}
+use Rattle.zope.specs.Causes.{Cause, Did}
 use Rattle.zope.specs.CheckCauses.{CheckCause}
 use Rattle.zope.specs.DumpCauses.{DumpCause, Dumped}
 use Rattle.zope.specs.Numbers.{NumbersPrinted}
@@ -60,7 +59,10 @@ is_over words (Replay file limit) is = inl (limit, is)
 is_over words (Check file) is = inr (inl is)
 is_over words (Dump file) is = inr (inr (inl is))
 
--- the last line names the file that the words are over
-pub names_it : {T E : Type 0} (words : List (List ℕ)) (a : Asked) (name : List ℕ) (e : Refusal) (old new : Option (List ℕ)) (r : Result T E) → asked_of words ≡ Some a → name ≡ file_in a → OnOk r (new ≡ append_known old (last_line name e)) → OnOk r (Names words e old new)
-names_it words a name e old new (Err x) asks is line = tt
-names_it words a name e old new (Ok x) asks is line = (name, inl (subst (IsOf words) (sym is) (is_over words a asks)), line)
+-- each list of words has a name that it is over, or is no command
+pub some_name : (words : List (List ℕ)) → (name : List ℕ) × (IsOf words name ⊎ (IsCommand words → ⊥))
+some_name words = go (asked_of words) refl
+  where
+    go : (asked : Option Asked) → asked_of words ≡ asked → (name : List ℕ) × (IsOf words name ⊎ (IsCommand words → ⊥))
+    go None none = ([], inr (no_command words none))
+    go (Some a) asks = (file_in a, inl (is_over words a asks))

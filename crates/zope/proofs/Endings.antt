@@ -1,11 +1,14 @@
 -- How a run ends whose command was refused.
 use Rattle.std.proofs.Common.{◌≡◌, ℕ, ◌≤◌, ◌<◌, List, Option, ◌⊎◌, Bool, true, false, nat_lt, arith, inl, inr, refl, ◌∙◌, ap}
 use Rattle.std.proofs.lemmas.Bool.Decides.{nat_tests}
+use Rattle.std.specs.Io.KnownBytes.{append_known}
 use Rattle.zbase.specs.Faults.{Counter, Rose}
 use Rattle.zope.specs.declared.refusal.Refusal.{Refusal}
-use Rattle.zope.specs.Causes.{Cause, Names, NoCause}
+use Rattle.zope.specs.Causes.{Cause, Names, NoCause, last_line}
 use Rattle.zope.specs.Ends.{Ends, status_of}
 use Rattle.zope.specs.Outside.{OutsideView, SinkFailed}
+use Rattle.zope.specs.Words.{IsCommand, IsOf}
+use Rattle.zope.proofs.Commands.{some_name}
 use Rattle.zope.proofs.NoCauses.{NotBoth, NotDamaged, OneSchedule, only_memory, sink_is_calm, told}
 
 -- a refusal for the sink has it that the sink failed
@@ -49,6 +52,22 @@ Refused words mid line sink e status = ((status ≡ status_of e) × Names words 
 
 abbrev pub OtherRefused : List (List ℕ) → OutsideView → Option (List ℕ) → Counter → Refusal → ℕ → Type 0
 OtherRefused words mid line sink e status = (e ≡ Refusal.Output → ⊥) → Refused words mid line sink e status
+
+-- what is told of it, where the last line has this name
+abbrev pub Said : List ℕ → OutsideView → Option (List ℕ) → Counter → Refusal → ℕ → Type 0
+Said name mid line sink e status = (e ≡ Refusal.Output → ⊥) → ((status ≡ status_of e) × (line ≡ append_known mid.written (last_line name e))) ⊎ ((status ≡ 6) × Rose mid.sink sink) ⊎ (status ≡ 7)
+
+-- a name that the words are over, or any where they are no command
+pub named_by : (words : List (List ℕ)) (name : List ℕ) (mid : OutsideView) (line : Option (List ℕ)) (sink : Counter) (e : Refusal) (status : ℕ) → (IsOf words name ⊎ (IsCommand words → ⊥)) → Said name mid line sink e status → OtherRefused words mid line sink e status
+named_by words name mid line sink e status over said other =
+    elim (said other) [
+      | inl line_is ↦ inl (line_is.0, (name, over, line_is.1))
+      | inr trouble ↦ inr trouble
+    ]
+
+-- the line of want of memory has no name
+pub memory_named : (words : List (List ℕ)) (name : List ℕ) (mid : OutsideView) (line : Option (List ℕ)) (sink : Counter) (status : ℕ) → Said name mid line sink Refusal.Memory status → OtherRefused words mid line sink Refusal.Memory status
+memory_named words name mid line sink status said = (let over = some_name words in named_by words over.0 mid line sink Refusal.Memory status over.1 said)
 
 other_ends : (words : List (List ℕ)) (old mid : OutsideView) (line : Option (List ℕ)) (sink : Counter) (e : Refusal) (status : ℕ) → (e ≡ Refusal.Output → ⊥) → Cause words old mid mid.written e → old.sink.count ≤ mid.sink.count → Refused words mid line sink e status → Ends words old (told mid line sink) status
 other_ends words old mid line sink e status other c le (inl named) = inr (inl (e, named.0, (mid.written, still_causes words old mid line sink e other c, named.1)))

@@ -1,18 +1,17 @@
-ghost use Rattle.std.specs.Prelude.{◌≡◌, IsErrOf, MatchResult, OnOk, map, string_bytes};
+ghost use Rattle.std.specs.Prelude.{◌≡◌, IsErrOf, MatchResult, OnOk, string_bytes};
 ghost use Rattle.std.specs.Io.KnownBytes.{append_known};
 ghost use Rattle.zbase.specs.Faults.{Counts};
 ghost use Rattle.zio.specs.Sinks.{AppendsFront};
-ghost use Rattle.zope.specs.Causes.{Names, last_line};
+ghost use Rattle.zope.specs.Causes.{last_line};
 
-use crate::command::file_of;
 use crate::inputs::MAX_INPUT;
 use crate::refusal::Refusal;
 use std::alloc::Global;
-use words::{WordsRefusal, read_words};
 use zio::{OutsideRefusal, Sink};
 
-// Writes the last line that says why. The sink's own fault has none.
-fn put_last_line<K: Sink>(
+/// Writes the last line of a command over the file of that name, which says why it did not end well. The sink's own fault has
+/// none.
+pub fn put_last_line<K: Sink>(
     alloc: Global,
     refusal: Refusal,
     name: &str,
@@ -55,22 +54,5 @@ pub fn put_text<E: Drop, K: Sink>(
     match text {
         Ok(text) => out.write_all(text.as_bytes()),
         Err(_) => Err(OutsideRefusal::Memory),
-    }
-}
-
-/// Says why a command did not end well, in the words that were given.
-pub fn put_cause<K: Sink>(
-    alloc: Global,
-    refusal: Refusal,
-    words: &[String],
-    out: &mut K,
-) -> Result<(), OutsideRefusal>
-    ensures ok { OnOk result (Names (map string_bytes words.now) refusal (K.written out.old) (K.written out.new)) }
-    ensures counts { Counts (K.counter out.old) (K.counter out.new) (IsErrOf result OutsideRefusal.Failed) }
-{
-    match read_words(alloc, words) {
-        Ok(asked) => put_last_line(alloc, refusal, file_of(&asked), out),
-        Err(WordsRefusal::Usage) => put_last_line(alloc, refusal, "", out),
-        Err(WordsRefusal::Memory) => Err(OutsideRefusal::Memory),
     }
 }

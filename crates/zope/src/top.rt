@@ -1,16 +1,18 @@
 ghost use Rattle.std.specs.Prelude.{◌≡◌, ◌<◌, ◌≤◌, ◌⊎◌, ℕ, List, map, string_bytes};
+ghost use Rattle.std.specs.Io.KnownBytes.{append_known};
 ghost use Rattle.zbase.specs.Faults.{Rose};
-ghost use Rattle.zope.specs.Causes.{LeavesFiles, Names, NoCause};
+ghost use Rattle.zope.specs.Causes.{LeavesFiles, NoCause, last_line};
 ghost use Rattle.zope.specs.Ends.{Ends, IsStatus, status_of};
 ghost use Rattle.zope.specs.Outside.{outside};
 ghost use Rattle.zope.specs.Words.{IsCommand, IsInit, IsReplay};
 
-use crate::command::run_command;
-use crate::last_lines::put_cause;
+use crate::command::{file_of, run_command};
+use crate::last_lines::put_last_line;
 use crate::refusal::Refusal;
 use fs_record::one_opening;
 use schedule::{one_bad_line, one_schedule};
 use std::alloc::Global;
+use words::{WordsRefusal, read_words};
 use zio::{Clock, Hub, OutsideRefusal, Shelf, Sink, Source};
 
 /// How a run ended: 0 well, any other number for a cause.
@@ -38,12 +40,12 @@ fn status_of(refusal: Refusal) -> Status
     }
 }
 
-// The status of a refusal, which the last line names, but for one of the sink itself. Where the sink fails in this, that
-// is the status; where memory is wanting, that.
-fn refuse<K: Sink>(alloc: Global, refusal: Refusal, words: &[String], out: &mut K) -> Status
+// The status of a refusal of a command over the file of that name. The last line names the refusal, but for one of the sink
+// itself. Where the sink fails in this, that is the status; where memory is wanting, that.
+fn refuse<K: Sink>(alloc: Global, refusal: Refusal, name: &str, out: &mut K) -> Status
     ensures sink { refusal ≡ Refusal.Output → result.0 ≡ 6 }
     ensures named { (refusal ≡ Refusal.Output → ⊥)
-        → ((result.0 ≡ status_of refusal) × Names (map string_bytes words.now) refusal (K.written out.old) (K.written out.new))
+        → ((result.0 ≡ status_of refusal) × (K.written out.new ≡ append_known (K.written out.old) (last_line name.now refusal)))
         ⊎ ((result.0 ≡ 6) × Rose (K.counter out.old) (K.counter out.new)) ⊎ (result.0 ≡ 7) }
     ensures sink_failed { (K.counter out.old).count < (K.counter out.new).count → result.0 ≡ 6 }
     ensures count { (K.counter out.old).count ≤ (K.counter out.new).count }
@@ -51,7 +53,7 @@ fn refuse<K: Sink>(alloc: Global, refusal: Refusal, words: &[String], out: &mut 
     if let Refusal::Output = refusal {
         return Status(6);
     }
-    match put_cause(alloc, refusal, words, out) {
+    match put_last_line(alloc, refusal, name, out) {
         Ok(()) => status_of(refusal),
         Err(OutsideRefusal::Failed) => Status(6),
         Err(OutsideRefusal::Memory) => Status(7),
@@ -97,8 +99,15 @@ pub fn run<F: Shelf, S: Source, K: Sink, H: Hub, C: Clock>(
     one_schedule();
     one_bad_line();
     one_opening();
-    match run_command(alloc, words, files, input, out, clock) {
-        Ok(()) => Status(0),
-        Err(refusal) => refuse(alloc, refusal, words, out),
+    match read_words(alloc, words) {
+        Ok(asked) => {
+            let name = file_of(&asked);
+            match run_command(alloc, asked, files, input, out, clock) {
+                Ok(()) => Status(0),
+                Err(refusal) => refuse(alloc, refusal, name, out),
+            }
+        }
+        Err(WordsRefusal::Usage) => refuse(alloc, Refusal::Usage, "", out),
+        Err(WordsRefusal::Memory) => refuse(alloc, Refusal::Memory, "", out),
     }
 }

@@ -6,7 +6,7 @@ use zope::{Status, run};
 
 /// The words of a command line.
 fn words_of(alloc: Global, words: &[&str]) -> Result<Vec<String>, Memory> {
-    let mut line = Vec::new(alloc);
+    let mut line = Vec::with_capacity(alloc, words.len())?;
     for word in words {
         line.push(String::from_str(alloc, word)?)?;
     }
