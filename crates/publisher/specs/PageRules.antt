@@ -7,6 +7,7 @@ use Rattle.std.proofs.lemmas.Bool.Decides.{nat_tests}
 use Rattle.std.proofs.lemmas.List.Quantifiers.{all_pairs_push}
 use Rattle.zbase.specs.Query.{or_else, ◌>>=◌ as ◌>>>◌}
 use Rattle.zbase.specs.Roles.{IsRole}
+use Rattle.evaluator.specs.declared.permission.TheConstants.{ACCESS_CONTENTS_INFORMATION}
 use Rattle.evaluator.specs.declared.reply.Shown.{Shown}
 use Rattle.evaluator.specs.Change.{IsPermission}
 use Rattle.zobject.specs.declared.object.Object.{Object}
@@ -18,7 +19,7 @@ use Rattle.permissions.specs.declared.who.Verdict.{Verdict}
 use Rattle.permissions.specs.declared.who.Verdict.TheVariants as verdicts
 use Rattle.permissions.specs.declared.who.Who.{Who}
 use Rattle.permissions.specs.Verdicts.{verdict_on}
-use Rattle.namespace.specs.Looks.{Looks, Done, Stops, See, Reach, Enter, View, Offer, Fault, Broken, TooDeep, Unauthorized, Of, fault_of, view, access, outlined, taken, entered, viewed, offered, through}
+use Rattle.namespace.specs.Looks.{Looks, Done, Stops, See, Reach, Enter, View, Offer, Fault, Broken, TooDeep, Unauthorized, Of, fault_of, view, outlined, taken, entered, viewed, offered, through}
 use Rattle.publisher.specs.UserRules.{IsRight, IsRightShown, VerdictRule, shape_right, verdict_keeps}
 use Rattle.publisher.specs.Ways.{Any, Keeps, keeps_then, keeps_else, keeps_any, keeps_objects}
 
@@ -111,7 +112,7 @@ through_keeps shown (Stops cause) are = tt
 through_keeps {A = A} shown (See o go) are = then_keeps (λ (x : Shape). Any x) (λ (x : A × List Shown). ShownRule x) (outlined (here o)) _ (outlined_any (here o)) (λ shape any. through_keeps shown (go shape) are)
 through_keeps {A = A} shown (Reach w o go) are = then_keeps (λ (x : List ℕ). Any x) (λ (x : A × List Shown). ShownRule x) (outlined (reached w o)) _ (outlined_any (reached w o)) (λ found any. through_keeps shown (go found) are)
 through_keeps {A = A} shown (Enter who o go) are =
-    then_keeps VerdictRule (λ (x : A × List Shown). ShownRule x) (outlined (verdict_on who o access)) _ (outlined_keeps VerdictRule (verdict_on who o access) (verdict_keeps who o access))
+    then_keeps VerdictRule (λ (x : A × List Shown). ShownRule x) (outlined (verdict_on who o ACCESS_CONTENTS_INFORMATION)) _ (outlined_keeps VerdictRule (verdict_on who o ACCESS_CONTENTS_INFORMATION) (verdict_keeps who o ACCESS_CONTENTS_INFORMATION))
     (λ v is. enter_keeps (λ (x : A × List Shown). ShownRule x) o (through taken shown go) v (through_keeps shown go are))
 through_keeps {A = A} shown (View who o go) are =
     then_keeps VerdictRule (λ (x : A × List Shown). ShownRule x) (outlined (verdict_on who o view)) _ (outlined_keeps VerdictRule (verdict_on who o view) (verdict_keeps who o view))

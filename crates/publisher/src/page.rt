@@ -102,7 +102,7 @@ fn scope_page(
 #[tactic(auto, using(crate::proofs::PageSteps::page_done, crate::proofs::PageSteps::page_halts))]
 fn answer_in(alloc: Global, oid: Oid, stack: Stack<'_>) -> Result<Answer, SiteRefusal>
     requires none_shown { stack.shown ≡ [] }
-    ensures { Answers told (λ a. a) result (comes_to stack.known (spec.scope_answer stack.scope oid)) }
+    ensures { Answers told (λ a. a) result (comes_to stack.entry.known (spec.scope_answer stack.entry.scope oid)) }
 {
     let mut stack = stack;
     let (text, _left) = scope_page(alloc, oid, &mut stack)?;
