@@ -1,5 +1,5 @@
 -- A dump under way: a walk, and the lines of the transactions that it went over.
-use Rattle.std.proofs.Common.{◌≡◌, ℕ, List, [], ◌∷◌, ◌++◌, length, flat_map, Option, Some, None, IfSome, Result, Err, refl, sym, ap, subst, ◌∙◌, append-nil}
+use Rattle.std.proofs.Common.{◌≡◌, ℕ, List, [], ◌∷◌, ◌++◌, length, flat_map, Option, Some, None, IfSome, Result, Err, refl, sym, ap, ap₂, subst, ◌∙◌, append-nil, append_assoc}
 use Rattle.std.proofs.lemmas.Grind.{flat_map-append}
 use Rattle.zbase.specs.History.{History, Transaction}
 use Rattle.zdisk.specs.Disk.{Told, content}
@@ -16,42 +16,43 @@ use Rattle.fs_scan.specs.Walked.{Course, FrontAt, IsOn, Passes, Ends, begun}
 use Rattle.fs_scan.specs.WalkedLaws.{one_front}
 use Rattle.fs_scan.specs.Wholes.{transaction_in}
 use Rattle.schedule.specs.declared.line.Line.{Line}
-use Rattle.schedule.specs.Explained.{transaction_lines}
+use Rattle.schedule.specs.Explained.{history_head, transaction_lines}
 use Rattle.replay.specs.declared.dumping.DumpRefusal.{DumpRefusal}
 use Rattle.replay.specs.Dumped.{Dumps, of_scan}
 use Rattle.replay.specs.Printed.{Prints}
 use Rattle.replay.proofs.PrintSteps.{prints_then}
 
-abbrev pub so_far : ℕ → History → List Line
-so_far count h = Line.History count ∷ flat_map transaction_lines h.transactions
+abbrev pub so_far : List Line → History → List Line
+so_far head h = head ++ flat_map transaction_lines h.transactions
 
-pub record Printed (bytes : List ℕ) (count : ℕ) (course : Course) (old now : Option (List ℕ)) : Type 0 where
+pub record Printed (bytes : List ℕ) (head : List Line) (course : Course) (old now : Option (List ℕ)) : Type 0 where
   pub front : Front
   pub stands : FrontAt bytes course.place front
-  pub lines : Prints old now (so_far count front.history)
+  pub lines : Prints old now (so_far head front.history)
 
-pub printed_first : (disk : Option Told) (count : ℕ) (course : Course) (old now : Option (List ℕ)) → course ≡ begun → Prints old now (Line.History count ∷ []) → IfSome disk (λ told. Printed (content told) count course old now)
-printed_first None count course old now e p = tt
-printed_first (Some told) count course old now e p = subst (λ (c : Course). Printed (content told) count c old now) (sym e) (record { front = front_of []; stands = refl; lines = p })
+pub printed_first : (disk : Option Told) (head : List Line) (course : Course) (old now : Option (List ℕ)) → course ≡ begun → Prints old now head → IfSome disk (λ told. Printed (content told) head course old now)
+printed_first None head course old now e p = tt
+printed_first (Some told) head course old now e p = subst (λ (c : Course). Printed (content told) head c old now) (sym e) (record { front = front_of []; stands = refl; lines = subst (Prints old now) (sym (append-nil head)) p })
 
-one_longer : (count : ℕ) (h : History) (status : ℕ) (x : Transaction) → so_far count h ++ transaction_lines x ≡ so_far count (longer h status x)
-one_longer count h status x =
-    ap (λ (ls : List Line). Line.History count ∷ ls) (sym (flat_map-append transaction_lines h.transactions (x ∷ []) ∙ ap (λ (ls : List Line). flat_map transaction_lines h.transactions ++ ls) (append-nil (transaction_lines x))))
+one_longer : (head : List Line) (h : History) (status : ℕ) (x : Transaction) → so_far head h ++ transaction_lines x ≡ so_far head (longer h status x)
+one_longer head h status x =
+    append_assoc head (flat_map transaction_lines h.transactions) (transaction_lines x)
+    ∙ ap (λ (ls : List Line). head ++ ls) (sym (flat_map-append transaction_lines h.transactions (x ∷ []) ∙ ap (λ (ls : List Line). flat_map transaction_lines h.transactions ++ ls) (append-nil (transaction_lines x))))
 
-pub printed_next : (disk again : Option Told) (count : ℕ) (course next : Course) (whole : Whole) (old now new : Option (List ℕ)) → again ≡ disk → IfSome disk (λ told. Printed (content told) count course old now) → IfSome again (λ told. Passes (content told) course next whole)
-    → Prints now new (transaction_lines (transaction_in whole)) → IfSome disk (λ told. Printed (content told) count next old new)
-printed_next None again count course next whole old now new same p s lines = tt
-printed_next (Some told) again count course next whole old now new same p s lines =
+pub printed_next : (disk again : Option Told) (head : List Line) (course next : Course) (whole : Whole) (old now new : Option (List ℕ)) → again ≡ disk → IfSome disk (λ told. Printed (content told) head course old now) → IfSome again (λ told. Passes (content told) course next whole)
+    → Prints now new (transaction_lines (transaction_in whole)) → IfSome disk (λ told. Printed (content told) head next old new)
+printed_next None again head course next whole old now new same p s lines = tt
+printed_next (Some told) again head course next whole old now new same p s lines =
     let bytes = content told in
     let passes = subst (λ (d : Option Told). IfSome d (λ t. Passes (content t) course next whole)) same s in
     let front : p.front ≡ passes.before = one_front bytes course.place p.front passes.before p.stands passes.came in
     record {
       front = after passes.here passes.block;
       stands = passes.behind;
-      lines = subst (Prints old new) (ap (λ (f : Front). so_far count f.history ++ transaction_lines (transaction_in whole)) front ∙ one_longer count passes.before.history whole.status (transaction_in whole) ∙ ap (so_far count) (sym passes.counts)) (prints_then old now new (so_far count p.front.history) (transaction_lines (transaction_in whole)) p.lines lines);
+      lines = subst (Prints old new) (ap (λ (f : Front). so_far head f.history ++ transaction_lines (transaction_in whole)) front ∙ one_longer head passes.before.history whole.status (transaction_in whole) ∙ ap (so_far head) (sym passes.counts)) (prints_then old now new (so_far head p.front.history) (transaction_lines (transaction_in whole)) p.lines lines);
     }
 
-pub printed_last : (disk again : Option Told) (s : Scanned) (course next : Course) (old now after : Option (List ℕ)) → again ≡ disk → IfSome disk (λ told. Tells (content told) s) → IfSome disk (λ told. Printed (content told) s.count course old now) → IfSome again (λ told. Ends (content told) course next)
+pub printed_last : (disk again : Option Told) (s : Scanned) (course next : Course) (old now after : Option (List ℕ)) → again ≡ disk → IfSome disk (λ told. Tells (content told) s) → IfSome disk (λ told. Printed (content told) (history_head s.count s.floor) course old now) → IfSome again (λ told. Ends (content told) course next)
     → Prints now after (Line.End ∷ []) → IfSome disk (λ told. Dumps (content told) old after)
 printed_last None again s course next old now after same t p e lines = tt
 printed_last (Some told) again s course next old now after same t p e lines =
@@ -60,11 +61,13 @@ printed_last (Some told) again s course next old now after same t p e lines =
     let front : p.front ≡ ends.before = one_front bytes course.place p.front ends.before p.stands ends.came in
     let history : p.front.history ≡ ends.front.history = ap (λ (f : Front). f.history) front ∙ sym ends.undone in
     let count : s.count ≡ length ends.front.history.transactions = t.count ∙ ap (λ (f : Front). length f.history.transactions) (one_cut bytes t.front ends.front s.end ends.end t.cut ends.cut).0 in
+    let floor : s.floor ≡ ends.front.history.floor = t.floor ∙ ap (λ (f : Front). f.history.floor) (one_cut bytes t.front ends.front s.end ends.end t.cut ends.cut).0 in
+    let head : history_head s.count s.floor ≡ history_head (length ends.front.history.transactions) ends.front.history.floor = ap₂ history_head count floor in
     record {
       front = ends.front;
       end = ends.end;
       opens = ends.cut;
-      printed = subst (λ (ls : List Line). Prints old after (ls ++ Line.End ∷ [])) (ap (so_far s.count) history ∙ ap (λ (n : ℕ). so_far n ends.front.history) count) (prints_then old now after (so_far s.count p.front.history) (Line.End ∷ []) p.lines lines);
+      printed = subst (λ (ls : List Line). Prints old after (ls ++ Line.End ∷ [])) (ap (so_far (history_head s.count s.floor)) history ∙ ap (λ (ls : List Line). so_far ls ends.front.history) head) (prints_then old now after (so_far (history_head s.count s.floor) p.front.history) (Line.End ∷ []) p.lines lines);
     }
 
 -- a walk meets no damage behind a scan that met none

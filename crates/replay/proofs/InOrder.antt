@@ -1,10 +1,9 @@
 -- Shown objects are put in order by a map, and printed from it.
-use Rattle.std.proofs.Common.{◌≡◌, ◌≢◌, ℕ, zero, suc, ◌+◌, ◌<◌, Bool, true, false, List, [], ◌∷◌, ◌++◌, refl, sym, ap, ◌∙◌, arith, length, get_or, drop, map, AllPairs, append_assoc, append-nil, ltb, ne_eqb}
+use Rattle.std.proofs.Common.{◌≡◌, ◌≢◌, ℕ, suc, ◌<◌, Bool, true, false, List, [], ◌∷◌, ◌++◌, refl, sym, ap, ◌∙◌, subst, arith, length, get_or, map, AllPairs, append_assoc, append-nil, ltb, ne_eqb}
 use Rattle.std.specs.Prelude.{nat_lt, if◌then◌else◌}
 use Rattle.std.specs.List.{AllByRecursion}
 use Rattle.std.specs.BTreeMap.{insert_entry}
 use Rattle.std.specs.Ordering.{nat_cmp}
-use Rattle.std.proofs.lemmas.List.{drop_more}
 use Rattle.evaluator.specs.declared.reply.Shown.{Shown}
 use Rattle.schedule.specs.declared.line.Line.{Line}
 use Rattle.schedule.specs.Causes.{by_oid, placed}
@@ -46,26 +45,23 @@ all_from : (P : Shown → Type 0) (ss : List Shown) → ((j : ℕ) (d : Shown) �
 all_from P [] each = tt
 all_from P (s ∷ ss) each = (each 0 s (omega arith), all_from P ss (λ j d lt. each (suc j) d (omega (arith, lt))))
 
-others_differ : (ss : List Shown) (i : ℕ) (s : Shown) → AllPairs (λ a b. a.oid ≢ b.oid) ss → i < length ss → s ≡ get_or ss i s → AllByRecursion (Differs s) (drop (i + 1) ss)
-others_differ [] i s pairs lt is = absurd (omega (arith, lt))
-others_differ (t ∷ ss) zero s pairs lt is = rw is (all_from (Differs t) ss (λ j d below. pairs 0 (suc j) d (omega arith) (omega (arith, below))))
-others_differ (t ∷ ss) (suc i) s pairs lt is = rw (ap (λ n. drop n (t ∷ ss)) (let e : suc i + 1 ≡ suc (i + 1) = omega arith in e)) (others_differ ss i s (λ a b d below within. pairs (suc a) (suc b) d (omega (arith, below)) (omega (arith, within))) (omega (arith, lt)) is)
+differ_behind : (front : List Shown) (s : Shown) (done : List Shown) → AllPairs (λ a b. a.oid ≢ b.oid) (front ++ s ∷ done) → AllByRecursion (Differs s) done
+differ_behind [] s done pairs = all_from (Differs s) done (λ j d below. pairs 0 (suc j) d (omega arith) (omega (arith, below)))
+differ_behind (t ∷ front) s done pairs = differ_behind front s done (λ a b d below within. pairs (suc a) (suc b) d (omega (arith, below)) (omega (arith, within)))
 
 -- one object more, from the last on
-pub one_placed : (w : ℕ) (ss : List Shown) (i j : ℕ) (s : Shown) (before after : List (ℕ × Line)) → j ≡ i + 1 → AllPairs (λ a b. a.oid ≢ b.oid) ss → i < length ss → s ≡ get_or ss i s
-    → before ≡ map (entry_of w) (by_oid (drop j ss)) → after ≡ insert_entry nat_cmp before s.oid (shown_line w s) → after ≡ map (entry_of w) (by_oid (drop i ss))
-one_placed w ss i j s before after next pairs lt is so put =
-    let here : drop i ss ≡ s ∷ drop (i + 1) ss = drop_more ss i s lt ∙ ap (λ x. x ∷ drop (i + 1) ss) (sym is) in
-    put ∙ ap (λ es. insert_entry nat_cmp es s.oid (shown_line w s)) (so ∙ ap (λ n. map (entry_of w) (by_oid (drop n ss))) next)
-    ∙ inserted w s (by_oid (drop (i + 1) ss)) (all_by_oid (Differs s) (drop (i + 1) ss) (others_differ ss i s pairs lt is))
-    ∙ ap (λ xs. map (entry_of w) (by_oid xs)) (sym here)
+pub one_placed : (w : ℕ) (all front done : List Shown) (s : Shown) (before after : List (ℕ × Line)) → all ≡ front ++ s ∷ done → AllPairs (λ a b. a.oid ≢ b.oid) all
+    → before ≡ map (entry_of w) (by_oid done) → after ≡ insert_entry nat_cmp before s.oid (shown_line w s) → after ≡ map (entry_of w) (by_oid (s ∷ done))
+one_placed w all front done s before after is pairs so put =
+    put ∙ ap (λ es. insert_entry nat_cmp es s.oid (shown_line w s)) so
+    ∙ inserted w s (by_oid done) (all_by_oid (Differs s) done (differ_behind front s done (subst (λ (ss : List Shown). AllPairs (λ a b. a.oid ≢ b.oid) ss) is pairs)))
 
 -- ---- the lines of the map's entries
 
 abbrev pub line_in : ℕ × Line → Line
 line_in e = e.1
 
-pub lines_in_order : (w : ℕ) (ss : List Shown) → map line_in (map (entry_of w) ss) ≡ map (λ s. Line.Shown w s.oid s.role) ss
+pub lines_in_order : (w : ℕ) (ss : List Shown) → map line_in (map (entry_of w) ss) ≡ map (shown_line w) ss
 lines_in_order w [] = refl
 lines_in_order w (s ∷ ss) = ap (λ ls. shown_line w s ∷ ls) (lines_in_order w ss)
 

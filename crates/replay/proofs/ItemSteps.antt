@@ -22,6 +22,7 @@ use Rattle.connection.specs.Telling.{TellsOn, tells_forth}
 use Rattle.txn_core.specs.declared.step_line.StepLine.{StepLine}
 use Rattle.txn_core.specs.Counting.{Lowers, left}
 use Rattle.txn_core.specs.Cores.{CoreView, MayBe, is_taken}
+use Rattle.txn_core.specs.Growing.{step_grows}
 use Rattle.txn_core.specs.Slots.{Possible, moment_of}
 use Rattle.txn_core.specs.StepLines.{IsCommitLine, IsFaultLine, IsVoteLine, step_lines}
 use Rattle.replay.specs.Handed.{HoldsWhereTold}
@@ -33,7 +34,6 @@ use Rattle.replay.proofs.Keeping.{kept_armed, kept_quiet, kept_restart, kept_ste
 use Rattle.replay.proofs.LostMarks.{marks_of_slots}
 use Rattle.replay.proofs.PrintSteps.{prints_none}
 use Rattle.replay.proofs.RestartMarks.{marks_before}
-use Rattle.replay.proofs.RestartSteps.{step_grows}
 use Rattle.replay.proofs.StepQueues.{fault_hits, step_hits, step_queued}
 
 -- ---- items that print nothing

@@ -1,4 +1,5 @@
 pub mod PrintSteps
+pub mod StepHalves
 pub mod Flushing
 pub mod WholeReport
 pub mod BreakingOff

@@ -57,3 +57,7 @@ calm_ok a b x e counts = counts_as counts (λ is. cc) (λ none. absurd none)
 -- the line that is named
 pub same_line : {T : Type 0} (r : Result T RunRefusal) (m n : ℕ) → r ≡ Err (RunRefusal.BadLine m) → IsErrOf r (RunRefusal.BadLine n) → n ≡ m
 same_line r m n e is = cc
+
+-- and of the line that a refusal names that is handed on
+pub handed_line : {T U : Type 0} (e was : RunRefusal) (q : Result U RunRefusal) (n : ℕ) → q ≡ Err e → e ≡ was → IsErrOf q (RunRefusal.BadLine n) → IsErrOf {T = T} (Err was) (RunRefusal.BadLine n)
+handed_line e was q n is same at = (let one : was ≡ RunRefusal.BadLine n = cc in ap (λ (k : RunRefusal). Err k) one)

@@ -1,13 +1,11 @@
 -- A step that a stop cut off, with the restart behind it, is one of the table's, whatever may have stood before it.
 use Rattle.std.proofs.Common.{◌≡◌, ℕ, false, List, map, replicate, Option, None, refl, sym, ap, ◌∙◌, subst, inl, inr}
-use Rattle.zbase.specs.History.{History, IsPrefixOf}
-use Rattle.zbase.specs.HistoryLaws.{prefix_added, prefix_refl, prefix_trans}
+use Rattle.zbase.specs.History.{History}
 use Rattle.evaluator.specs.Exec.{Eval}
 use Rattle.schedule.specs.declared.item.Item2.{Item2}
 use Rattle.schedule.specs.declared.line.Line.{Line}
 use Rattle.schedule.specs.Follows.{Follows}
 use Rattle.schedule.specs.Moments.{Terms, Doing, Free, Moment, Vote, clocked, emptied, lost_lines}
-use Rattle.schedule.specs.StepLaws.{TellsLast, steps_grow, steps_tell_last}
 use Rattle.schedule.specs.Stepping.{Opening, Steps, restarted}
 use Rattle.schedule.specs.StoppedSteps.{is_plain, stopped_step}
 use Rattle.fs_store.specs.Stores.{Out, StoreView}
@@ -19,11 +17,6 @@ use Rattle.replay.specs.Restarts.{Reopens, restart_lines}
 pub only : (s may : StoreView) → s.undecided ≡ None → Possible s may → may ≡ s
 only s may none (inl e) = e
 only s may none (inr (o, u, e)) = absurd cc
-
--- what is known is a prefix of what may stand
-pub possible_grows : (s may : StoreView) → Possible s may → IsPrefixOf s.history may.history
-possible_grows s may (inl e) = subst (λ (k : StoreView). IsPrefixOf s.history k.history) (sym e) (prefix_refl s.history)
-possible_grows s may (inr (o, u, e)) = subst (λ (k : StoreView). IsPrefixOf s.history k.history) (sym e) (prefix_added s.history o.transaction)
 
 -- a core at rest is at one moment: that of its store, with no request
 rest_moment : {E R S : Type 0} (eval : Eval R) (core : CoreView E R S) (may : StoreView) (m : Moment R) (now : ℕ) → IsAtRest eval core → core.store.undecided ≡ None → core.store.history ≡ may.history → core.store.end ≡ may.end → MayBe eval core m
@@ -57,16 +50,3 @@ restart_follows {E} {R} {S} eval terms w now old mid new lines lost openings fol
     let are : (restarted (lost_lines from) openings to).0 ≡ restart_lines lost openings new.store.history =
     ap (λ ls. restart_lines ls openings reopens.may.history) (same_lost eval old f.0 now f.1 ∙ sym lost_are) ∙ ap (restart_lines lost openings) (sym reopens.history) in
     (f.0, f.1, subst (λ k. Steps terms from w k (clocked m now)) are (subst (λ k. Steps terms from w (restarted (lost_lines from) openings to).0 k) after step))
-
--- what a step makes of the history that is known
-abbrev pub StepGrows : {E R S : Type 0} → CoreView E R S → CoreView E R S → List Line → Type 0
-StepGrows old new lines = IsPrefixOf old.store.history new.store.history × TellsLast lines new.store.history
-
-pub step_grows : {E R S : Type 0} (eval : Eval R) (terms : Terms R) (w now : ℕ) (old new : CoreView E R S) (lines : List Line) → Follows terms (MayBe eval old) now (MayBe eval new) now (Item2.Step w) lines → StepGrows old new lines
-step_grows {E} {R} {S} eval terms w now old new lines follows =
-    let m : Moment R = moment_of eval new.store new.slots in
-    let f = follows m (new.store, inl refl, refl) in
-    let was = f.1 in
-    let stood : f.0.standing ≡ was.0.history = ap (λ (k : Moment R). k.standing) was.2 in
-    let from_was : IsPrefixOf was.0.history new.store.history = subst (λ h. IsPrefixOf h new.store.history) stood (steps_grow terms (clocked f.0 now) (clocked m now) w lines f.2) in
-    (prefix_trans (possible_grows old.store was.0 was.1) from_was, steps_tell_last terms (clocked f.0 now) (clocked m now) w lines f.2)

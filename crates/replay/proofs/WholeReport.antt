@@ -14,6 +14,7 @@ use Rattle.fs_store.specs.Moments.{OpensTo}
 use Rattle.fs_store.specs.Stores.{StoreView}
 use Rattle.connection.specs.Telling.{TellsOn, tells_forth}
 use Rattle.txn_core.specs.Cores.{CoreView}
+use Rattle.txn_core.specs.Growing.{possible_grows}
 use Rattle.txn_core.specs.Slots.{Possible, moment_of}
 use Rattle.replay.specs.Handed.{AcknowledgesWhereTold}
 use Rattle.replay.specs.Held.{HoldsFile}
@@ -22,7 +23,6 @@ use Rattle.replay.specs.Printed.{Prints, closing, opening, terms_of}
 use Rattle.replay.specs.Replayed.{Replays}
 use Rattle.replay.proofs.Keeping.{RunLaw, acknowledges_to, kept_explained}
 use Rattle.replay.proofs.PrintSteps.{prints_then}
-use Rattle.replay.proofs.RestartSteps.{possible_grows}
 
 pub whole : {E R S : Type 0} (takes : List ℕ → Option R) (eval : Eval R) (limit end : ℕ) (given : List ℕ) (h0 : History) (items : List Item2) (lines : List Line) (core : CoreView E R S) (now : ℕ) (may : StoreView) (disk : Option Told) (arms : Arms) (old mid new : Option (List ℕ))
     → RunLaw R → IsLawful eval → IsHistory h0 → OpensTo given h0 end → Kept eval (terms_of takes eval limit end) given h0 items lines core now → Possible core.store may → IsHistory may.history → HoldsFile disk may.history → TellsOn core.store.disk.told disk → arms.hits ≡ core.store.disk.counter.arms.hits

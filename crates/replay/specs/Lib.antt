@@ -1,4 +1,5 @@
 pub mod Printed
+pub mod StepParts
 pub mod ShownInOrder
 pub mod Losing
 pub mod BrokenOff

@@ -3,20 +3,15 @@ use Rattle.std.specs.Prelude.{◌≡◌, ℕ, List, [], ◌∷◌, ◌++◌, len
 use Rattle.std.specs.Io.KnownBytes.{append_known}
 use Rattle.zbase.specs.History.{History}
 use Rattle.zbase.specs.Values.{last}
-use Rattle.evaluator.specs.Exec.{Eval}
-use Rattle.http_out.specs.Replies.{answer}
 use Rattle.schedule.specs.declared.line.Line.{Line}
 use Rattle.schedule.specs.Explained.{history_lines}
 use Rattle.schedule.specs.Lines.{report_text}
-use Rattle.schedule.specs.Moments.{Terms, Moment, lost_lines}
+use Rattle.schedule.specs.Moments.{Moment, lost_lines}
+pub use Rattle.txn_core.specs.Replying.{terms_of}
 
 -- the sink grew by these lines
 abbrev pub Prints : Option (List ℕ) → Option (List ℕ) → List Line → Type 0
 Prints old new lines = new ≡ append_known old (report_text lines)
-
--- what the reports of an evaluator rest on, over a file that ends there and may have so many bytes
-abbrev pub terms_of : {R : Type 0} → (List ℕ → Option R) → Eval R → ℕ → ℕ → Terms R
-terms_of takes eval limit end = record { takes = takes; eval = eval; answer = answer; limit = limit; opened = end }
 
 -- what opens a report
 abbrev pub opening : History → List Line

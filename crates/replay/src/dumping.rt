@@ -6,10 +6,10 @@ ghost use Rattle.fs_record.specs.declared.damage.Damage.{Damage as Kind};
 ghost use Rattle.fs_record.specs.Opening.{Damaged};
 ghost use Rattle.replay.specs.Dumped.{Dumps, of_scan, of_sink};
 
-use crate::history_out::put_transaction;
+use crate::history_out::{put_heading, put_transaction};
 use crate::printing::put_line;
 use fs_record::Damage;
-use fs_scan::{ScanRefusal, Walk, scan};
+use fs_scan::{ScanRefusal, Scanned, Walk, scan};
 use schedule::Line;
 use std::alloc::Global;
 use zdisk::Disk;
@@ -67,8 +67,8 @@ pub fn dump<D: Disk, K: Sink>(
     ensures disk { Counts (D.counter disk.old) (D.counter disk.new) (IsErrOf result DumpRefusal.Disk) }
     ensures sink { Counts (K.counter out.old) (K.counter out.new) (IsErrOf result DumpRefusal.Output) }
 {
-    let count = scan(alloc, disk)?.count;
-    put_line(alloc, &Line::History(count), held, out)?;
+    let Scanned { count, floor, .. } = scan(alloc, disk)?;
+    put_heading(alloc, count, floor, held, out)?;
     let mut walk = Walk::new(alloc);
     'each: loop {
         match walk.next(disk)? {

@@ -23,6 +23,13 @@ use zbase::{Bytes, Memory, Tid};
 use zdisk::MemoryDisk;
 use zio::{Pending, Sink};
 
+/// A run between two items: its core, how many bytes its file may have, and the last stamp of its clock.
+pub(crate) struct Run<E: Evaluator> {
+    pub(crate) core: Core<MemoryDisk, E>,
+    pub(crate) limit: u64,
+    pub(crate) clock: Tid,
+}
+
 /// Ends a core whose run is broken off.
 pub(crate) fn broken_off<T, E: Evaluator>(
     core: Core<MemoryDisk, E>,
@@ -63,23 +70,25 @@ fn give<E: Evaluator>(
 // stop left.
 fn run_step<E: Evaluator, K: Sink>(
     alloc: Global,
-    core: Core<MemoryDisk, E>,
-    limit: u64,
+    run: Run<E>,
     worker: u32,
-    clock: Tid,
     held: &mut Pending,
     out: &mut K,
-) -> Result<Core<MemoryDisk, E>, RunRefusal>
+) -> Result<Run<E>, RunRefusal>
     requires worker { worker < WORKERS }
-    requires told { IsTold core.store }
-    requires limit { (limit ≡ core.store.limit) × (limit ≤ most_length) }
-    ensures limit { IfOk result (λ new. new.store.limit ≡ core.store.limit) }
-    ensures ok { IfOk result (λ new. GoesOn E.takes E.meaning limit core clock (Item2.Step worker ∷ []) new clock (due (K.written out.old) held.old)
-        (due (K.written out.new) held.new)) }
+    requires told { IsTold run.core.store }
+    requires limit { (run.limit ≡ run.core.store.limit) × (run.limit ≤ most_length) }
+    ensures limit { IfOk result (λ new. (new.limit ≡ run.limit) × (new.core.store.limit ≡ run.limit)) }
+    ensures ok { IfOk result (λ new. GoesOn E.takes E.meaning run.limit run.core run.clock (Item2.Step worker ∷ []) new.core new.clock
+        (due (K.written out.old) held.old) (due (K.written out.new) held.new)) }
     ensures refused { IfErr result IsOfPrinting }
     ensures counts { Counts (K.counter out.old) (K.counter out.new) (IsErrOf result RunRefusal.Output) }
 {
-    let mut core = core;
+    let Run {
+        mut core,
+        limit,
+        clock,
+    } = run;
     core.is_sound();
     // Where nothing waits in the queue, the step can't fail.
     let _running = core.stopped();
@@ -87,10 +96,11 @@ fn run_step<E: Evaluator, K: Sink>(
     core.is_sound();
     core.store().is_sound();
     if core.stopped() {
-        return restart(alloc, core, limit, worker, held, out);
+        let core = restart(alloc, core, limit, worker, held, out)?;
+        return Ok(Run { core, limit, clock });
     }
-    match put_step(alloc, worker, &line, held, out) {
-        Ok(()) => Ok(core),
+    match put_step(alloc, worker, line, held, out) {
+        Ok(()) => Ok(Run { core, limit, clock }),
         Err(refusal) => broken_off(core, RunRefusal::from(refusal)),
     }
 }
@@ -98,29 +108,31 @@ fn run_step<E: Evaluator, K: Sink>(
 /// Runs the item with this line number. What a refusal leaves of the core is closed.
 pub(crate) fn run_item<E: Evaluator, K: Sink>(
     alloc: Global,
-    core: Core<MemoryDisk, E>,
-    limit: u64,
+    run: Run<E>,
     number: u64,
     item: &Item2,
-    clock: &mut Tid,
     held: &mut Pending,
     out: &mut K,
-) -> Result<Core<MemoryDisk, E>, RunRefusal>
-    requires told { IsTold core.store }
-    requires limit { (limit ≡ core.store.limit) × (limit ≤ most_length) }
-    ensures limit { IfOk result (λ new. new.store.limit ≡ core.store.limit) }
-    ensures ok { IfOk result (λ new. GoesOn E.takes E.meaning limit core clock.old (item.now ∷ []) new clock.new (due (K.written out.old) held.old)
-        (due (K.written out.new) held.new)) }
+) -> Result<Run<E>, RunRefusal>
+    requires told { IsTold run.core.store }
+    requires limit { (run.limit ≡ run.core.store.limit) × (run.limit ≤ most_length) }
+    ensures limit { IfOk result (λ new. (new.limit ≡ run.limit) × (new.core.store.limit ≡ run.limit)) }
+    ensures ok { IfOk result (λ new. GoesOn E.takes E.meaning run.limit run.core run.clock (item.now ∷ []) new.core new.clock
+        (due (K.written out.old) held.old) (due (K.written out.new) held.new)) }
     ensures bad_line { (n end : ℕ) → IsErrOf result (RunRefusal.BadLine n)
-        → (n ≡ number) × CannotRun (terms_of E.takes E.meaning limit end) (clocked (moment_of E.meaning core.store core.slots) clock.old) item.now
+        → (n ≡ number) × CannotRun (terms_of E.takes E.meaning run.limit end) (clocked (moment_of E.meaning run.core.store run.core.slots) run.clock) item.now
         × (due (K.written out.new) held.new ≡ due (K.written out.old) held.old) }
     ensures refused { IfErr result IsOfItems }
     ensures counts { Counts (K.counter out.old) (K.counter out.new) (IsErrOf result RunRefusal.Output) }
 {
-    let mut core = core;
+    let Run {
+        mut core,
+        limit,
+        clock,
+    } = run;
     match item {
         Item2::Request(worker, bytes) => match give(&mut core, *worker, bytes) {
-            Ok(true) => Ok(core),
+            Ok(true) => Ok(Run { core, limit, clock }),
             Ok(false) => broken_off(core, RunRefusal::BadLine(number)),
             Err(_) => broken_off(core, RunRefusal::Memory),
         },
@@ -128,18 +140,19 @@ pub(crate) fn run_item<E: Evaluator, K: Sink>(
             if *worker >= WORKERS as u32 {
                 return broken_off(core, RunRefusal::BadLine(number));
             }
-            run_step(alloc, core, limit, *worker, *clock, held, out)
+            run_step(alloc, Run { core, limit, clock }, *worker, held, out)
         }
-        Item2::Clock(stamp) => {
-            *clock = *stamp;
-            Ok(core)
-        }
+        Item2::Clock(stamp) => Ok(Run {
+            core,
+            limit,
+            clock: *stamp,
+        }),
         Item2::Stop(calls, seed) => {
             if *calls == 0 {
                 return broken_off(core, RunRefusal::BadLine(number));
             }
             match core.arm_stop(*calls, *seed) {
-                Ok(()) => Ok(core),
+                Ok(()) => Ok(Run { core, limit, clock }),
                 Err(_) => broken_off(core, RunRefusal::Memory),
             }
         }
@@ -148,7 +161,7 @@ pub(crate) fn run_item<E: Evaluator, K: Sink>(
                 return broken_off(core, RunRefusal::BadLine(number));
             }
             match core.arm_fail(*calls, *seed) {
-                Ok(()) => Ok(core),
+                Ok(()) => Ok(Run { core, limit, clock }),
                 Err(_) => broken_off(core, RunRefusal::Memory),
             }
         }

@@ -17,7 +17,6 @@ mod laws;
 mod losing;
 mod printing;
 mod refusal;
-mod replies;
 mod restarting;
 mod running;
 

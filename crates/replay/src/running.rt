@@ -12,7 +12,7 @@ ghost use Rattle.replay.specs.Refusals.{IsOfItems, IsOfOpening};
 ghost use Rattle.replay.specs.Replayed.{AreOpened, Breaks, Replays, Runs};
 
 use crate::ending::end_run;
-use crate::item::{broken_off, run_item};
+use crate::item::{Run, broken_off, run_item};
 use crate::printing::put_line;
 use crate::refusal::RunRefusal;
 use evaluator::Evaluator;
@@ -88,13 +88,21 @@ fn run_items<E: Evaluator, K: Sink>(
         Ok(()) => {}
         Err(refusal) => return broken_off(core, RunRefusal::from(refusal)),
     }
-    let mut core = core;
-    let mut clock = Tid(0);
+    let mut run = Run {
+        core,
+        limit,
+        clock: Tid(0),
+    };
     let mut number: u64 = 2;
     for item in items {
-        core = run_item(alloc, core, limit, number, item, &mut clock, held, out)?;
+        run = run_item(alloc, run, number, item, held, out)?;
         number = number.saturating_add(1);
     }
+    let Run {
+        core,
+        limit: _,
+        clock: _,
+    } = run;
     Ok(core)
 }
 

@@ -1,7 +1,6 @@
 use Rattle.std.proofs.Common.{◌∷◌, [], ◌++◌, ◌∙◌, subst, ap, map}
 use Rattle.zio.specs.Sinks.{due}
 use Rattle.zbase.specs.Faults.{counts_as, counts_then}
-use Rattle.schedule.specs.declared.line.Line.{Line}
 use Rattle.schedule.specs.Causes.{by_oid}
 use Rattle.replay.specs.Printed.{Prints}
 use Rattle.replay.proofs.InOrder.{all_lines, line_in, lines_in_order, one_line_more}
@@ -25,5 +24,5 @@ returns-clause-ok g c =
     let so = c.loop-entry.invariant.printed in
     let w = c.args.worker in
     let entries = c.into_iter-entry-iterator.ensures.into_iter_gives ∙ c.iter-entry-items.ensures.rest ∙ c.in-Ok.ensures in
-    let done = all_lines so.0 c.loop-entry.entry-iterator c.into_iter-entry-iterator.result so.1 c.in-None.ensures.steps.0 ∙ ap (map line_in) entries ∙ lines_in_order w (by_oid c.as_slice.result.now) ∙ ap (λ ss. map (λ s. Line.Shown w s.oid s.role) (by_oid ss)) c.as_slice.ensures in
+    let done = all_lines so.0 c.loop-entry.entry-iterator c.into_iter-entry-iterator.result so.1 c.in-None.ensures.steps.0 ∙ ap (map line_in) entries ∙ lines_in_order w (by_oid c.args.shown) in
     subst (λ ls. Prints (due (g.K.Sink.written c.args.out.now) c.args.held.now) (due (g.K.Sink.written c.loop-entry.out) c.loop-entry.held) ls) done so.2

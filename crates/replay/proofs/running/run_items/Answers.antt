@@ -1,15 +1,13 @@
 use Rattle.std.proofs.Common.{◌≡◌, ◌+◌, [], ◌∷◌, ◌++◌, ◌∙◌, Err, ap, sym, subst, refl, arith, take}
 use Rattle.std.proofs.lemmas.List.{take_all, take_more}
 use Rattle.std.proofs.lemmas.Result.{err_from_is_err_and}
-use Rattle.std.specs.Prelude.{IsErrOf}
-use Rattle.zbase.specs.Faults.{Counts, counts_as, counts_then}
+use Rattle.zbase.specs.Faults.{counts_as, counts_then}
 use Rattle.zio.specs.Sinks.{due}
-use Rattle.replay.specs.declared.refusal.RunRefusal.{RunRefusal}
 use Rattle.replay.specs.Kept.{Kept}
 use Rattle.replay.specs.Printed.{Prints, opening, terms_of}
 use Rattle.replay.proofs.BreakingOff.{broken_off}
 use Rattle.replay.proofs.Keeping.{kept_first}
-use Rattle.replay.proofs.LineRefusals.{no_line, outside_counts}
+use Rattle.replay.proofs.LineRefusals.{handed_line, no_line, outside_counts, run_counts}
 use Rattle.replay.proofs.PrintSteps.{prints_then}
 use Rattle.replay.proofs.running.run_items.Goals as goal
 
@@ -22,7 +20,7 @@ returns-in-Err-clause-counts g c = outside_counts _ _ c.put_opening.result c.bro
 pub loop-item-init : goal.loop-item-init
 loop-item-init g c = record {
   told = c.requires.opened.1.told;
-  limit = c.requires.limit.0;
+  limit = (refl, sym c.requires.limit.0);
   ran = λ given is. ([], kept_first g.E.Evaluator.meaning (terms_of g.E.Evaluator.takes g.E.Evaluator.meaning c.args.limit c.args.core.store.end) given c.args.core is refl, rw c.store-2.ensures at c.in-Ok.ensures.ok);
   number = refl;
   counts = counts_as c.in-Ok.ensures.counts (λ e. cc) (λ none. absurd none);
@@ -38,41 +36,43 @@ loop-item-preserved g c =
     let more : take i items ++ item ∷ [] ≡ take (i + 1) items = sym (take_more items i item c.loop-item-test.true ∙ ap (λ x. take i items ++ x ∷ []) (sym c.item-item.is)) in
     let opened = c.requires.opened in
     let before = c.loop-item.invariant.ran opened.0 opened.1 in
+    let limit = c.loop-item.invariant.limit in
+    let ok = rw limit.0 at c.in_ok-run.ensures.ok in
     record {
-      told = (c.in_ok-core.ensures.ok first.store.end opened.0 first.store.history (take i items) before.0 before.1).1.told;
-      limit = c.loop-item.invariant.limit ∙ sym c.in_ok-core.ensures.limit;
+      told = (ok first.store.end opened.0 first.store.history (take i items) before.0 before.1).1.told;
+      limit = (c.in_ok-run.ensures.limit.0 ∙ limit.0, c.in_ok-run.ensures.limit.1 ∙ limit.0);
       ran = λ given is.
           (let ran = c.loop-item.invariant.ran given is in
-          let did = c.in_ok-core.ensures.ok first.store.end given first.store.history (take i items) ran.0 ran.1 in (
+          let did = ok first.store.end given first.store.history (take i items) ran.0 ran.1 in (
             ran.0 ++ did.0,
-            subst (λ xs. Kept g.E.Evaluator.meaning terms given first.store.history xs (ran.0 ++ did.0) c.in_ok-core.core c.run_item.new.clock) more did.1,
+            subst (λ xs. Kept g.E.Evaluator.meaning terms given first.store.history xs (ran.0 ++ did.0) c.in_ok-run.run'.core c.in_ok-run.run'.clock) more did.1,
             prints_then _ _ _ (opening first.store.history ++ ran.0) did.0 ran.2 did.2,
           ));
       number = omega (arith, c.saturating_add-number.ensures, c.loop-item.invariant.number, c.loop-item-test.true);
-      counts = counts_then c.loop-item.invariant.counts (λ none. none) (counts_as c.in_ok-core.ensures.counts (λ e. cc) (λ none. absurd none));
+      counts = counts_then c.loop-item.invariant.counts (λ none. none) (counts_as c.in_ok-run.ensures.counts (λ e. cc) (λ none. absurd none));
     }
 
-pub returns-in_err-core-clause-bad_line : goal.returns-in_err-core-clause-bad_line
-returns-in_err-core-clause-bad_line g c n is =
+pub returns-in_err-run-clause-bad_line : goal.returns-in_err-run-clause-bad_line
+returns-in_err-run-clause-bad_line g c n is =
     let p = err_from_is_err_and c.from_residual.result c.from_residual.ensures.1 in
     let first = c.args.core in
     let terms = terms_of g.E.Evaluator.takes g.E.Evaluator.meaning c.args.limit first.store.end in
     let opened = c.requires.opened in
     let ran = c.loop-item.invariant.ran opened.0 opened.1 in
-    let bad = c.in_err-core.ensures.bad_line n first.store.end (sym (p.1 ∙ ap (λ (k : _). Err k) p.2) ∙ is) in
+    let bad = rw c.loop-item.invariant.limit.0 at (c.in_err-run.ensures.bad_line n first.store.end (handed_line _ c.in_err-run.field-0.0 c.from_residual.result n p.1 p.2 is)) in
     let grew = subst (λ w. Prints (due (g.K.Sink.written c.args.out.now) c.args.held.now) w (opening first.store.history ++ ran.0)) (sym bad.2) ran.2 in
-    broken_off g.E.Evaluator.meaning terms opened.0 first.store.history c.args.items.now c.loop-item.item-index c.item-item.result n ran.0 c.loop-item.core c.loop-item.clock _ _
+    broken_off g.E.Evaluator.meaning terms opened.0 first.store.history c.args.items.now c.loop-item.item-index c.item-item.result n ran.0 c.loop-item.run.core c.loop-item.run.clock _ _
     c.runs_are_serial.ensures g.met.E.Evaluator.lawful ((rw c.store.ensures at c.is_sound-2.ensures.history) opened.1.told) c.loop-item-test.true c.item-item.is (bad.0 ∙ c.loop-item.invariant.number) ran.1 grew bad.1
 
-pub returns-in_err-core-clause-counts : goal.returns-in_err-core-clause-counts
-returns-in_err-core-clause-counts g c =
+pub returns-in_err-run-clause-counts : goal.returns-in_err-run-clause-counts
+returns-in_err-run-clause-counts g c =
     let p = err_from_is_err_and c.from_residual.result c.from_residual.ensures.1 in
-    counts_then c.loop-item.invariant.counts (λ none. none) (subst (λ r. Counts (g.K.Sink.counter c.loop-item.out) (g.K.Sink.counter c.run_item.new.out) (IsErrOf r RunRefusal.Output)) (sym (p.1 ∙ ap (λ (k : _). Err k) p.2)) c.in_err-core.ensures.counts)
+    counts_then c.loop-item.invariant.counts (λ none. none) (run_counts _ _ _ c.in_err-run.field-0.0 c.from_residual.result p.1 p.2 c.in_err-run.ensures.counts)
 
 pub returns-clause-ran : goal.returns-clause-ran
 returns-clause-ran g c = λ given is.
     (let ran = c.loop-item.invariant.ran given is in
-    (c.loop-item.clock, ran.0, rw (take_all c.loop-item.item-index c.args.items.now c.loop-item-test.false) at ran.1, ran.2))
+    (c.loop-item.run.clock, ran.0, rw (take_all c.loop-item.item-index c.args.items.now c.loop-item-test.false) at ran.1, ran.2))
 
 pub returns-clause-counts : goal.returns-clause-counts
 returns-clause-counts g c = counts_as c.loop-item.invariant.counts (λ none. absurd none) (λ e. cc)
