@@ -238,7 +238,8 @@ fn by_word(
 ) -> Result<Option<Val>, NameRefusal>
     requires { run (objects viewer.now.known.now) (here oid) ≡ Ok object.now }
     ensures is { Shows told (λ v. v) shown.new result
-        (looked (objects viewer.now.known.now) shown.old (spec.by_word viewer.now.who.now (spec.word_of name.now) name.now whole.now oid (shape_of object.now))) }
+        (looked (objects viewer.now.known.now) shown.old
+        (spec.by_word viewer.now.who.now (spec.word_of name.now) name.now whole.now oid (shape_of object.now))) }
     ensures shown { OnlyHits shown.old shown.new result }
 {
     match word_of(name) {
@@ -267,7 +268,8 @@ fn in_one(
     whole: &Wrapped,
     oid: Oid,
 ) -> Result<Option<Val>, NameRefusal>
-    ensures is { Shows told (λ v. v) shown.new result (looked (objects viewer.now.known.now) shown.old (spec.in_one viewer.now.who.now name.now whole.now oid)) }
+    ensures is { Shows told (λ v. v) shown.new result
+        (looked (objects viewer.now.known.now) shown.old (spec.in_one viewer.now.who.now name.now whole.now oid)) }
     ensures shown { OnlyHits shown.old shown.new result }
 {
     let object = see(viewer.known, oid)?;
@@ -282,7 +284,8 @@ fn search(
     name: &str,
     whole: &Wrapped,
 ) -> Result<Option<Val>, NameRefusal>
-    ensures is { Shows told (λ v. v) shown.new result (looked (objects viewer.now.known.now) shown.old (spec.searched viewer.now.who.now name.now whole.now whole.now)) }
+    ensures is { Shows told (λ v. v) shown.new result
+        (looked (objects viewer.now.known.now) shown.old (spec.searched viewer.now.who.now name.now whole.now whole.now)) }
     ensures shown { OnlyHits shown.old shown.new result }
 {
     let mut left = whole.order();

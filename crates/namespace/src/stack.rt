@@ -107,7 +107,8 @@ fn in_layers(
     name: &str,
     layers: &[Layer],
 ) -> Result<Option<Val>, NameRefusal>
-    ensures is { Shows told (λ v. v) shown.new result (looked (objects viewer.now.known.now) shown.old (spec.in_layers viewer.now.who.now name.now (reverse layers.now))) }
+    ensures is { Shows told (λ v. v) shown.new result
+        (looked (objects viewer.now.known.now) shown.old (spec.in_layers viewer.now.who.now name.now (reverse layers.now))) }
     ensures shown { OnlyHits shown.old shown.new result }
 {
     let mut left = layers;
@@ -130,7 +131,8 @@ fn in_base(
     client: &Wrapped,
     request: &[Named],
 ) -> Result<Option<Val>, NameRefusal>
-    ensures is { Shows told (λ v. v) shown.new result (looked (objects viewer.now.known.now) shown.old (spec.in_base viewer.now.who.now name.now client.now request.now)) }
+    ensures is { Shows told (λ v. v) shown.new result
+        (looked (objects viewer.now.known.now) shown.old (spec.in_base viewer.now.who.now name.now client.now request.now)) }
     ensures shown { OnlyHits shown.old shown.new result }
 {
     let hit = in_object(viewer, shown, name, client)?;

@@ -57,7 +57,8 @@ pub fn settings_may_change()
 /// An object keeps the rules with a user's local roles put among them, in place of those that the user had, where there
 /// are then at most `MOST_LOCALS` such users, and with those of any users left out.
 pub fn local_roles_may_change()
-    ensures put { (o : Object) (l : Local) → IsObject o → IsLocal l → length (put_local l o.locals) ≤ MOST_LOCALS → IsObject (with_locals (put_local l o.locals) o) }
+    ensures put { (o : Object) (l : Local) → IsObject o → IsLocal l → length (put_local l o.locals) ≤ MOST_LOCALS
+        → IsObject (with_locals (put_local l o.locals) o) }
     ensures fewer { (o : Object) (keep : Local → Bool) → IsObject o → IsObject (with_locals (filter keep o.locals) o) }
 {}
 
