@@ -1,4 +1,5 @@
 ghost use Rattle.evaluator.specs.Cells.{eval_cell, takes_cell};
+ghost use Rattle.evaluator.specs.Facts.{look};
 ghost use Rattle.evaluator.specs.CellLaws.{cell_changes, cell_replies, cells_ask_few, cells_lawful};
 
 use crate::runs::ran;
@@ -48,7 +49,7 @@ impl Evaluator for Starving {
 
     ghost few_asks = { cells_ask_few };
 
-    ghost changes = { cell_changes };
+    ghost changes = { λ facts. cell_changes (look facts) };
 
     ghost replies = { cell_replies };
 }
