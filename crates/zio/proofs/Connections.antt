@@ -1,7 +1,11 @@
 -- Connections in memory by their places.
-use Rattle.std.proofs.Common.{◌≡◌, ℕ, zero, suc, ◌+◌, ◌<◌, ◌≤◌, ◌&&◌, ◌||◌, Bool, true, false, List, [], ◌∷◌, ◌++◌, length, get_or, map, Some, option_map, refl, ap, arith, slice_get, if◌then◌else◌}
+use Rattle.std.proofs.Common.{◌≡◌, ℕ, zero, suc, ◌+◌, ◌<◌, ◌≤◌, ◌&&◌, ◌||◌, Bool, true, false, List, [], ◌∷◌, ◌++◌, length, get_or, map, Option, None, Some, option_map, refl, sym, ap, arith, slice_get, if◌then◌else◌}
 use Rattle.std.proofs.Math.ListN.{set}
 use Rattle.std.specs.List.{list_any}
+use Rattle.std.specs.Option.{option_copied}
+use Rattle.std.specs.Slice.{IsItemAt}
+use Rattle.std.proofs.lemmas.Option.{slice_get_read, slice_get_past}
+use denote.Ref.{Bor}
 use Rattle.std.proofs.lemmas.Bool.Decides.{nat_tests}
 use Rattle.zio.specs.declared.memory_connection.MemoryConnection.{MemoryConnection}
 use Rattle.zio.specs.Hubs.{Connection, Peers, Accepts, has_number, change_at, is_open, left_at, opened}
@@ -86,32 +90,37 @@ connections-at n k zero (c ∷ cs) at =
 connections-at n k (suc i) (c ∷ cs) at = connections-at n (k + 1) i cs (omega arith)
 
 -- an open number is a place
-pub open_within : (cs : List MemoryConnection) (coming : List (List ℕ)) (p : Peers) (n : ℕ) → peers_of cs coming ≡ p → is_open n p ≡ true → n < length cs
-open_within cs coming p n seen opens = (open_at n 0 n cs (omega arith) (rw (← seen) at opens)).0
+pub open_within : (port : Option ℕ) (cs : List MemoryConnection) (coming : List (List ℕ)) (p : Peers) (n : ℕ) → peers_of port cs coming ≡ p → is_open n p ≡ true → n < length cs
+open_within port cs coming p n seen opens = (open_at n 0 n cs (omega arith) (rw (← seen) at opens)).0
 
 -- what a hub tells once the open connection x is e
-pub peers_changed : (cs : List MemoryConnection) (coming : List (List ℕ)) (p : Peers) (n : ℕ) (change : Connection → Connection) (x e : MemoryConnection) → peers_of cs coming ≡ p → is_open n p ≡ true → x ≡ get_or cs n x → change (connection n x) ≡ connection n e
-    → peers_of (set cs n e) coming ≡ change_at n change p
-peers_changed cs coming p n change x e seen opens at is =
+pub peers_changed : (port : Option ℕ) (cs : List MemoryConnection) (coming : List (List ℕ)) (p : Peers) (n : ℕ) (change : Connection → Connection) (x e : MemoryConnection) → peers_of port cs coming ≡ p → is_open n p ≡ true → x ≡ get_or cs n x → change (connection n x) ≡ connection n e
+    → peers_of port (set cs n e) coming ≡ change_at n change p
+peers_changed port cs coming p n change x e seen opens at is =
     let there = open_at n 0 n cs (omega arith) (rw (← seen) at opens) in
     let here : change (connection n (get_or cs n x)) ≡ connection n e = rw (← at) is in
     let all = changed n 0 n change cs x e (omega arith) there.0 (there.1 x) here in
     rw (← seen, all) refl
 
 -- what is left of the open connection x
-pub peers_left : (cs : List MemoryConnection) (coming : List (List ℕ)) (p : Peers) (n : ℕ) (x : MemoryConnection) → peers_of cs coming ≡ p → is_open n p ≡ true → x ≡ get_or cs n x → left_at n p.accepted ≡ x.left
-peers_left cs coming p n x seen opens at =
+pub peers_left : (port : Option ℕ) (cs : List MemoryConnection) (coming : List (List ℕ)) (p : Peers) (n : ℕ) (x : MemoryConnection) → peers_of port cs coming ≡ p → is_open n p ≡ true → x ≡ get_or cs n x → left_at n p.accepted ≡ x.left
+peers_left port cs coming p n x seen opens at =
     let there = open_at n 0 n cs (omega arith) (rw (← seen) at opens) in
     let left = left_here n 0 n cs x (omega arith) there.0 (there.1 x) in
     rw (← seen, left, ← at) refl
 
 -- the next connection, under the next number
-pub peers_accepted : (cs more : List MemoryConnection) (coming after : List (List ℕ)) (p : Peers) (n : ℕ) (c : MemoryConnection) (bytes : List ℕ) → peers_of cs coming ≡ p → coming ≡ bytes ∷ after → n ≡ length cs → more ≡ cs ++ c ∷ [] → connection n c ≡ opened n bytes
-    → Accepts p (peers_of more after) (Some n)
-peers_accepted cs more coming after p n c bytes seen first at pushed is =
+pub peers_accepted : (port : Option ℕ) (cs more : List MemoryConnection) (coming after : List (List ℕ)) (p : Peers) (n : ℕ) (c : MemoryConnection) (bytes : List ℕ) → peers_of port cs coming ≡ p → coming ≡ bytes ∷ after → n ≡ length cs → more ≡ cs ++ c ∷ [] → connection n c ≡ opened n bytes
+    → Accepts p (peers_of port more after) (Some n)
+peers_accepted port cs more coming after p n c bytes seen first at pushed is =
     let none : list_any (has_number n) (connections_from 0 cs) ≡ false = none_past n 0 cs (omega arith) in
     let last : connections_from 0 (cs ++ c ∷ []) ≡ connections_from 0 cs ++ connection n c ∷ [] = connections-push n 0 cs c (omega arith) in
-    (bytes, rw (← seen) first, rw (← seen) none, rw (← seen, pushed, ← is) last)
+    (bytes, rw (← seen) first, rw (← seen) none, rw (← seen, pushed, ← is) last, rw (← seen) refl)
 
 pub peers-at : (cs : List MemoryConnection) (n : ℕ) → slice_get (connections_from 0 cs) n ≡ option_map (connection n) (slice_get cs n)
 peers-at cs n = connections-at n 0 n cs (omega arith)
+
+-- what a look at a place answers is the element there
+pub found_at : {X : Type 0} (xs : List X) (i : ℕ) (r : Option (Bor X)) → IsItemAt xs i r → option_copied r ≡ slice_get xs i
+found_at xs i None is = sym (slice_get_past xs i is.3)
+found_at xs i (Some x) is = sym (slice_get_read xs (length xs) i x.now refl is.3.0 is.1)

@@ -4,6 +4,10 @@ use Rattle.std.specs.Option.{ForSome}
 use Rattle.zbase.specs.Limits.{greatest_number}
 use Rattle.zio.specs.Hubs.{Connection, Peers, Accepts, change_at, is_open, left_at}
 
+-- the hub listens on that port
+abbrev pub listening_on : ℕ → Peers → Peers
+listening_on port p = record { port = Some port; accepted = p.accepted; coming = p.coming }
+
 -- the connection is open, where the hub tells
 abbrev pub WasOpen : ℕ → Option Peers → Type 0
 WasOpen n peers = ForSome peers (λ p. is_open n p ≡ true)

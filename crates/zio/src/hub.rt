@@ -1,13 +1,14 @@
-ghost use Rattle.std.specs.Prelude.{◌≡◌, ◌<◌, IfOk, OnOk, OnErr, IsErrOf, option_map};
+ghost use Rattle.std.specs.Prelude.{◌≡◌, ◌<◌, IfOk, IfSome, OnOk, OnErr, IsErrOf, option_map};
 ghost use Rattle.std.specs.declared.option.Option.{Option};
 ghost use Rattle.std.specs.Io.{ReadsAtMost};
 ghost use Rattle.zbase.specs.Faults.{Counter, Counts};
-ghost use Rattle.zio.specs.Hubs.{Peers};
-ghost use Rattle.zio.specs.HubCalls.{WasOpen, Accepted, Reads, ReadFails, Writes, WriteFails, closed};
+ghost use Rattle.zio.specs.Hubs.{Peers, IsWaiting};
+ghost use Rattle.zio.specs.HubCalls.{listening_on, WasOpen, Accepted, Reads, ReadFails, Writes, WriteFails, closed};
 
 use crate::OutsideRefusal;
 
-/// A listening socket with the connections that it accepted. `read` may wait for a peer, and so may `accept`.
+/// A listening socket with the connections that it accepted. `read` may wait for a peer, and so may `accept`;
+/// `has_waiting` doesn't.
 ///
 /// Beside the count of all its faults a hub has one for `listen` and `accept` and one for `read` and
 /// `write_all`; where it tells, also one for the reads and one for the writes of each connection.
@@ -26,7 +27,8 @@ pub trait Hub {
 
     /// Listens on a port of this machine.
     fn listen(&mut self, port: u16) -> Result<(), OutsideRefusal>
-        ensures same { peers self.new ≡ peers self.old }
+        ensures ok { OnOk result (peers self.new ≡ option_map (listening_on port) (peers self.old)) }
+        ensures err { OnErr result (peers self.new ≡ peers self.old) }
         ensures counts { Counts (counter self.old) (counter self.new) (IsErrOf result OutsideRefusal.Failed) }
         ensures listening { Counts (listening self.old) (listening self.new) (IsErrOf result OutsideRefusal.Failed) }
         ensures streaming { streaming self.new ≡ streaming self.old };
@@ -39,6 +41,12 @@ pub trait Hub {
         ensures counts { Counts (counter self.old) (counter self.new) (IsErrOf result OutsideRefusal.Failed) }
         ensures listening { Counts (listening self.old) (listening self.new) (IsErrOf result OutsideRefusal.Failed) }
         ensures streaming { streaming self.new ≡ streaming self.old };
+
+    /// Whether a further connection can be accepted at once; where the hub tells, whether there is one.
+    fn has_waiting(&mut self) -> bool
+        ensures peers { peers self.new ≡ peers self.old }
+        ensures told { IfSome (peers self.old) (λ p. IsWaiting result p) }
+        ensures counts { (counter self.new ≡ counter self.old) × (listening self.new ≡ listening self.old) × (streaming self.new ≡ streaming self.old) };
 
     /// Reads into the front of the buffer. 0 for a buffer that isn't empty is the end of what the peer sent.
     fn read(&mut self, conn: u32, buf: &mut [u8]) -> Result<usize, OutsideRefusal>

@@ -29,6 +29,7 @@ pub use clock::Clock;
 pub use folder::Folder;
 pub use hub::Hub;
 pub use memory_clock::MemoryClock;
+pub use memory_connection::MemoryConnection;
 pub use memory_hub::MemoryHub;
 pub use memory_shelf::{MemoryFile, MemoryShelf};
 pub use memory_sink::MemorySink;

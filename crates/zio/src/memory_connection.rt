@@ -22,12 +22,12 @@ pub struct MemoryConnection {
 }
 
 impl MemoryConnection {
-    /// An open connection, whose peer has sent these bytes.
-    pub fn new(alloc: Global, bytes: Bytes) -> MemoryConnection
+    /// An open connection, whose peer has sent these bytes; a read gives `piece` of them at most.
+    pub fn new(alloc: Global, bytes: Bytes, piece: usize) -> MemoryConnection
         ensures { (n : ℕ) → connection n result ≡ opened n bytes }
     {
         MemoryConnection {
-            left: Unread::new(bytes),
+            left: Unread::in_pieces(bytes, piece),
             written: Bytes::new(alloc),
             is_open: true,
             read_faults: 0,

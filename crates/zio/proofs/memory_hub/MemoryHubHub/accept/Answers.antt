@@ -13,4 +13,4 @@ returns-clause-ok c =
     let cut : drop next coming ≡ c.replace-bytes.result ∷ drop (next + 1) coming = drop_more coming next c.index_mut.result.now (omega arith) ∙ ap (λ bytes. bytes ∷ drop (next + 1) coming) first in
     let number : c.in-Ok.number ≡ length c.self.inside.accepted.items = omega arith in
     let pushed = c.push_reserved.ensures.items ∙ rw c.try_reserve.ensures.items refl in
-    (peers_of c.push_reserved.new.self.items (drop (next + 1) coming), ap (λ (xs : List (List ℕ)). Some (peers_of c.push_reserved.new.self.items xs)) taken, peers_accepted c.self.inside.accepted.items _ (drop next coming) _ _ c.in-Ok.number c.new-2.result c.replace-bytes.result (ap (λ s. s.peers) c.self.view_is) cut number pushed (c.new-2.ensures c.in-Ok.number))
+    (peers_of c.self.inside.port c.push_reserved.new.self.items (drop (next + 1) coming), ap (λ (xs : List (List ℕ)). Some (peers_of c.self.inside.port c.push_reserved.new.self.items xs)) taken, peers_accepted c.self.inside.port c.self.inside.accepted.items _ (drop next coming) _ _ c.in-Ok.number c.new-2.result c.replace-bytes.result (ap (λ s. s.peers) c.self.view_is) cut number pushed (c.new-2.ensures c.in-Ok.number))
