@@ -13,6 +13,7 @@ pub mod Streams
 pub mod Inside
 pub mod Laws
 pub mod SizeLaws
+pub mod PathSizes
 pub mod StreamLaws
 pub mod FrontLaws
 pub mod Worked

@@ -215,6 +215,14 @@ impl Reader {
             .split_at(self.taken)
             .0
     }
+
+    /// The bytes that have come behind the last answered message.
+    pub fn rest(&self) -> &[u8]
+        ensures { result.now ≡ self.now.rest }
+    {
+        self.bytes.as_slice().split_at(self.at).1
+    }
+
     /// How many bytes the reader keeps.
     pub fn held(&self) -> usize
         ensures { result ≡ self.now.held }

@@ -1,0 +1,10 @@
+mod StepFacts
+mod Goings
+mod Lists
+mod Sweeps
+mod Joining
+mod Reporting
+mod Stepping
+mod Worked
+mod Replaying
+mod Rounding

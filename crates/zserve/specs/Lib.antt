@@ -1,0 +1,13 @@
+pub mod Happened
+pub mod Turns
+pub mod Tapes
+pub mod Stamped
+pub mod Safety
+pub mod Going
+pub mod Waiting
+pub mod Sweeping
+pub mod Rounds
+pub mod Reports
+pub mod Serving
+pub mod Giving
+pub mod Taping
