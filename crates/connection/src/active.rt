@@ -22,7 +22,7 @@ pub struct Active<E: Evaluator> {
 
 impl<E: Evaluator> Model for Active<E> {
     ghost use Rattle.std.specs.Prelude.{◌≡◌};
-    ghost use Rattle.evaluator.specs.Exec.{IsTrail};
+    ghost use Rattle.evaluator.specs.Exec.{IsTrail, WasTaken};
     ghost use Rattle.evaluator.specs.Facts.{look};
     ghost use Rattle.connection.specs.States.{ActiveView, AreReads, clashes_of};
 
@@ -35,7 +35,7 @@ impl<E: Evaluator> Model for Active<E> {
     } };
 
     ghost invariant = { λ a. (E.fits a.state a.facts a.request) × AreReads a.reads.items a.facts
-        × IsTrail (λ known. E.meaning (look known) a.request) a.facts };
+        × IsTrail (λ known. E.meaning (look known) a.request) a.facts × WasTaken E.takes a.request };
 }
 
 impl<E: Evaluator> Drop for Active<E> {
@@ -55,6 +55,7 @@ impl<E: Evaluator> Drop for Active<E> {
 
 impl<E: Evaluator> Active<E> {
     ghost use Rattle.std.specs.Prelude.{◌≡◌, [], None};
+    ghost use Rattle.evaluator.specs.Exec.{WasTaken};
     ghost use Rattle.connection.specs.States.{clashes_of};
 
     // An attempt that knows nothing yet.
@@ -65,6 +66,7 @@ impl<E: Evaluator> Active<E> {
         snapshot: Tid,
         evaluator: &E,
     ) -> Active<E>
+        requires { WasTaken E.takes request }
         ensures { result ≡ record {
           attempt = record { request = request; clashes = clashes_of conflicts; snapshot = snapshot; facts = [] };
           reads = [];
@@ -87,7 +89,7 @@ impl<E: Evaluator> Active<E> {
 impl<E: Evaluator> Active<E> {
     ghost use Rattle.std.specs.Prelude.{◌≡◌, ◌≤◌, None, IfOk, IfErr, IsErrAnd, OnErr, length};
     ghost use Rattle.zbase.specs.Faults.{Counts};
-    ghost use Rattle.evaluator.specs.Exec.{IsTrail, most_asks};
+    ghost use Rattle.evaluator.specs.Exec.{IsTrail, WasTaken, most_asks};
     ghost use Rattle.evaluator.specs.Facts.{look};
     ghost use Rattle.fs_store.specs.Moments.{KeepsOpening};
     ghost use Rattle.fs_store.specs.Seeing.{IsSeen};
@@ -106,8 +108,9 @@ impl<E: Evaluator> Active<E> {
         self.snapshot
     }
 
-    /// Each fact was asked for, given those before it; so there are at most 12,000.
+    /// The request was taken, and each fact was asked for, given those before it; so there are at most 12,000.
     pub fn is_sound(&self)
+        ensures taken { WasTaken E.takes self.now.attempt.request }
         ensures trail { IsTrail (λ known. E.meaning (look known) self.now.attempt.request) self.now.attempt.facts }
         ensures few { length self.now.attempt.facts ≤ most_asks }
     {

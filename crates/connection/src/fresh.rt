@@ -13,11 +13,14 @@ pub struct Fresh<E: Evaluator> {
 }
 
 impl<E: Evaluator> Model for Fresh<E> {
+    ghost use Rattle.evaluator.specs.Exec.{WasTaken};
     ghost use Rattle.connection.specs.States.{FreshView};
 
     ghost Value = { FreshView E.Request };
 
     ghost view = { λ fresh. record { request = fresh.request; conflicts = fresh.conflicts } };
+
+    ghost invariant = { λ fresh. WasTaken E.takes fresh.request };
 }
 
 impl<E: Evaluator> Drop for Fresh<E> {
@@ -34,6 +37,7 @@ impl<E: Evaluator> Fresh<E> {
     ghost use Rattle.std.specs.Prelude.{◌≡◌, [], false, IfErr, IfOk, IsErrAnd, None, OnErr, OnOk};
     ghost use Rattle.zbase.specs.Faults.{Counts};
     ghost use Rattle.zbase.specs.Values.{last};
+    ghost use Rattle.evaluator.specs.Exec.{WasTaken};
     ghost use Rattle.fs_store.specs.Moments.{KeepsOpening};
     ghost use Rattle.fs_store.specs.Seeing.{IsSeen};
     ghost use Rattle.fs_store.specs.Stores.{IsTold, Settles, on_disk};
@@ -43,8 +47,9 @@ impl<E: Evaluator> Fresh<E> {
     ghost use Rattle.connection.specs.States.{begun};
     ghost use Rattle.connection.specs.Telling.{TellsOn};
 
-    /// A request that was just given, without conflicts. Takes no memory.
+    /// A request that was just taken, without conflicts. Takes no memory.
     pub fn new(alloc: Global, request: E::Request) -> Fresh<E>
+        requires { WasTaken E.takes request }
         ensures { result ≡ record { request = request; conflicts = Conflicts.None } }
     {
         Fresh::again(alloc, request, Conflicts::None)
@@ -52,6 +57,7 @@ impl<E: Evaluator> Fresh<E> {
 
     // A request that begins anew behind these conflicts.
     pub(crate) fn again(alloc: Global, request: E::Request, conflicts: Conflicts) -> Fresh<E>
+        requires { WasTaken E.takes request }
         ensures { result ≡ record { request = request; conflicts = conflicts } }
     {
         Fresh {

@@ -17,6 +17,7 @@ pub struct Pending<E: Evaluator> {
 }
 
 impl<E: Evaluator> Model for Pending<E> {
+    ghost use Rattle.evaluator.specs.Exec.{WasTaken};
     ghost use Rattle.connection.specs.States.{PendingView, clashes_of};
 
     ghost Value = { PendingView E.Request };
@@ -26,17 +27,27 @@ impl<E: Evaluator> Model for Pending<E> {
       reply = p.reply;
       tid = p.voted;
     } };
+
+    ghost invariant = { λ p. WasTaken E.takes p.request };
 }
 
 impl<E: Evaluator> Pending<E> {
     ghost use Rattle.std.specs.Prelude.{◌≡◌, false, IfErr, IfOk, IsErr, None, OnErr, OnOk, Some};
     ghost use Rattle.zbase.specs.Faults.{Counts, Twice};
+    ghost use Rattle.evaluator.specs.Exec.{WasTaken};
     ghost use Rattle.fs_store.specs.Moments.{KeepsOpening, OpensToEither};
     ghost use Rattle.fs_store.specs.Seeing.{IsSeen};
     ghost use Rattle.fs_store.specs.Stores.{IsTold, IsVoteOf, Out, finished, staled, unsettled, voting};
     ghost use Rattle.fs_store.specs.declared.reads.Seen.{Seen};
     ghost use Rattle.fs_store.specs.declared.refusal.FinishRefusal.{FinishRefusal};
     ghost use Rattle.connection.specs.Telling.{TellsOn};
+
+    /// The request was taken.
+    pub fn is_sound(&self)
+        ensures { WasTaken E.takes self.now.attempt.request }
+    {
+        let _snapshot = self.snapshot;
+    }
 
     /// The id that the transaction has once it is finished.
     pub fn tid(&self) -> Tid

@@ -1,4 +1,4 @@
-ghost use Rattle.std.specs.Prelude.{◌≡◌, true, is_some, IfOk, IfErr};
+ghost use Rattle.std.specs.Prelude.{◌≡◌, [], true, is_some, IfOk, IfErr};
 ghost use Rattle.std.specs.List.{list_all};
 ghost use Rattle.dtml_lex.specs.declared.part.PartKind.TheVariants as kinds;
 ghost use Rattle.dtml_parse.specs.Trees as trees;
@@ -116,13 +116,20 @@ fn bound(alloc: Global, at: usize, attribute: &Attribute) -> Result<Binding, Dtm
     }
 }
 
+/// No binding yet, with room for so many.
+fn no_bindings(alloc: Global, count: usize) -> Result<Bindings, Memory>
+    ensures { IfOk result (λ bindings. bindings ≡ []) }
+{
+    Ok(Items::from_vec(Vec::with_capacity(alloc, count)?))
+}
+
 /// The bindings that the attributes are, which fit their form.
 fn bindings_of(alloc: Global, at: usize, attributes: &[Attribute]) -> Result<Bindings, DtmlRefusal>
     requires { list_all (λ attribute. is_some (table.binding attribute)) attributes.now ≡ true }
     ensures said { IfOk result (λ bindings. AreBound attributes.now (bounds_view bindings)) }
     ensures refused { IfErr result (IsBadExpression at (OneBindsNothing attributes.now)) }
 {
-    let mut bindings = Items::new(alloc);
+    let mut bindings = no_bindings(alloc, attributes.len())?;
     for attribute in attributes {
         let binding = bound(alloc, at, attribute)?;
         bindings.push(binding)?;

@@ -13,6 +13,10 @@ use Rattle.evaluator.specs.Facts.{fact, ask_of, look, TrueOf}
 abbrev pub Eval : Type 0 → Type 0
 Eval R = (Ask → Option Fact) → R → Outcome
 
+-- the request is one that some bytes are taken as
+abbrev pub WasTaken : {R : Type 0} → (List ℕ → Option R) → R → Type 0
+WasTaken takes q = (bytes : List ℕ) × (takes bytes ≡ Some q)
+
 -- where each ask is looked up in the history
 abbrev pub exec : {R : Type 0} → Eval R → History → R → Outcome
 exec eval h q = eval (λ ask. Some (fact h ask)) q

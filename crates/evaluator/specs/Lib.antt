@@ -11,4 +11,5 @@ pub mod Counting
 pub mod Cells
 pub mod CellLaws
 pub mod Permissions
+pub mod Named
 pub mod Worked

@@ -13,6 +13,7 @@ use Rattle.evaluator.specs.declared.outcome.Outcome.{Outcome}
 use Rattle.evaluator.specs.Cells.{eval_cell, line_reply, takes_cell, written}
 use Rattle.evaluator.specs.Exec.{exec}
 use Rattle.evaluator.specs.Facts.{fact, look}
+use Rattle.evaluator.specs.Named.{permission_named}
 use Rattle.evaluator.specs.Permissions.{permission_text}
 use Rattle.zbase.specs.Values.{before, upto}
 
@@ -153,3 +154,8 @@ no_requests = refl
 names : map permission_text (0 ∷ 1 ∷ 2 ∷ 3 ∷ 4 ∷ 5 ∷ 6 ∷ 7 ∷ 8 ∷ 9 ∷ 10 ∷ 11 ∷ 12 ∷ 13 ∷ 14 ∷ []) ≡ [] ∷ codes "View" ∷ codes "Access contents information" ∷ codes "Add Folders" ∷ codes "Add Documents, Images, and Files" ∷ codes "Change DTML Methods" ∷ codes "Change DTML Documents" ∷ codes "Delete objects" ∷ codes "Manage properties" ∷ codes "Change permissions" ∷ codes "Manage users" ∷ codes "Add User Folders" ∷ codes "Undo changes" ∷ codes "Change proxy roles" ∷ [] ∷ []
 unfolding permission_text
 names = refl
+
+-- each by its whole name alone
+numbers : map permission_named (codes "View" ∷ codes "Undo changes" ∷ codes "Change proxy roles" ∷ codes "view" ∷ codes "View " ∷ codes "Vie" ∷ [] ∷ []) ≡ Some 1 ∷ Some 12 ∷ Some 13 ∷ None ∷ None ∷ None ∷ None ∷ []
+unfolding permission_named permission_text
+numbers = refl

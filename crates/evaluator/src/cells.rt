@@ -227,7 +227,7 @@ impl Evaluator for Cells {
 
     ghost few_asks = { cells_ask_few };
 
-    ghost changes = { λ facts. cell_changes (look facts) };
+    ghost changes = { λ facts request reply draft _. cell_changes (look facts) request reply draft };
 
     ghost replies = { cell_replies };
 }

@@ -5,7 +5,7 @@ ghost use Rattle.evaluator.specs.declared.draft.Draft.{Draft};
 ghost use Rattle.evaluator.specs.declared.outcome.Outcome.TheVariants.{Answer, Change};
 ghost use Rattle.evaluator.specs.declared.reply.Reply.{Reply};
 ghost use Rattle.evaluator.specs.Change.{IsChange, IsReply};
-ghost use Rattle.evaluator.specs.Exec.{IsDecided, IsTrail, exec, is_lasting, most_asks};
+ghost use Rattle.evaluator.specs.Exec.{IsDecided, IsTrail, WasTaken, exec, is_lasting, most_asks};
 ghost use Rattle.evaluator.specs.Facts.{TrueOf, ask_of, fact, look};
 
 use crate::{Ask, Evaluator, Fact, Facts, Outcome};
@@ -35,8 +35,8 @@ pub struct Evaluated {
 ///
 /// The facts rest on the history alone: each is true, none is asked for twice, and there are at most 12,000, so
 /// that the evaluation ends. What it comes to is what the request comes to where the whole history is known. A
-/// change comes from the lasting facts alone, without the log and absent transactions. Changes and replies keep
-/// their rules.
+/// change comes from the lasting facts alone, without the log and absent transactions. Replies keep their rules, and
+/// so do changes of a request that was taken.
 pub fn outcome_over<E: Evaluator, S: Snapshot>(
     alloc: Global,
     evaluator: &mut E,
@@ -52,7 +52,8 @@ pub fn outcome_over<E: Evaluator, S: Snapshot>(
     ensures once { IfOk result (λ it. AllPairs (λ f g. ask_of f ≢ ask_of g) it.facts) }
     ensures lasting { IfOk result (λ it. (reply : Reply) (draft : Draft) → it.outcome ≡ Change reply draft
         → E.meaning (look (filter is_lasting it.facts)) request.now ≡ Change reply draft) }
-    ensures change { IfOk result (λ it. (reply : Reply) (draft : Draft) → it.outcome ≡ Change reply draft → IsChange (look it.facts) draft × IsReply reply) }
+    ensures change { IfOk result (λ it. (reply : Reply) (draft : Draft) → WasTaken E.takes request.now → it.outcome ≡ Change reply draft
+        → IsChange (look it.facts) draft × IsReply reply) }
     ensures reply { IfOk result (λ it. (reply : Reply) → it.outcome ≡ Answer reply → IsReply reply) }
 {
     let mut state = evaluator.fresh();

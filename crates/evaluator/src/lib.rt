@@ -18,6 +18,7 @@ mod evaluation;
 mod fact;
 mod laws;
 mod meaning;
+mod named;
 mod outcome;
 pub mod permission;
 mod reply;
@@ -32,6 +33,7 @@ pub use laws::{
     questions_are_lawful, questions_follow_one_another, questions_rest_on_what_is_known,
 };
 pub use meaning::Evaluator;
+pub use named::permission_named;
 pub use outcome::Outcome;
 pub use permission::permission_name;
 pub use reply::{Denial, Kind, Mark, Reply, Shown, ShownList};

@@ -6,7 +6,7 @@ ghost use Rattle.evaluator.specs.declared.outcome.Outcome.{Outcome};
 ghost use Rattle.evaluator.specs.declared.outcome.Outcome.TheVariants.{Answer, Change};
 ghost use Rattle.evaluator.specs.declared.reply.Reply.{Reply};
 ghost use Rattle.evaluator.specs.Change.{IsChange, IsReply};
-ghost use Rattle.evaluator.specs.Exec.{Eval, IsLawful, IsTrail, most_asks};
+ghost use Rattle.evaluator.specs.Exec.{Eval, IsLawful, IsTrail, WasTaken, most_asks};
 ghost use Rattle.evaluator.specs.Facts.{look};
 
 use crate::{Facts, Outcome};
@@ -58,10 +58,11 @@ pub trait Evaluator: Drop {
     /// No evaluation asks for more than 12,000 facts.
     ghost few_asks: { (facts : List Fact) (request : Self.Request) → IsTrail (λ known. meaning (look known) request) facts → length facts ≤ most_asks };
 
-    /// Every change keeps the rules of a change, and its reply those of a reply. It is promised for lists of facts, each
-    /// of which tells of what it was asked for, and not for what might be told of one object by another's fact.
+    /// Every change of a request that was taken keeps the rules of a change, and its reply those of a reply. It is promised
+    /// for lists of facts, each of which tells of what it was asked for, and not for what might be told of one object by
+    /// another's fact.
     ghost changes: { (facts : List Fact) (request : Self.Request) (reply : Reply) (draft : Draft)
-        → meaning (look facts) request ≡ Change reply draft → IsChange (look facts) draft × IsReply reply };
+        → WasTaken takes request → meaning (look facts) request ≡ Change reply draft → IsChange (look facts) draft × IsReply reply };
 
     /// Every answer keeps the rules of a reply.
     ghost replies: { (known : Ask → Option Fact) (request : Self.Request) (reply : Reply) → meaning known request ≡ Answer reply → IsReply reply };

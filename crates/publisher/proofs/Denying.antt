@@ -73,7 +73,11 @@ call_silent (refusals.NotYet o) = refl
 call_silent (refusals.Missing field) = refl
 call_silent (refusals.BadField field) = refl
 call_silent (refusals.TooLong field) = refl
+call_silent (refusals.NoSuchId id) = refl
+call_silent (refusals.Taken name) = refl
+call_silent refusals.TooMany = refl
 call_silent (refusals.BadSource c) = refl
+call_silent refusals.TooDeep = refl
 
 module _ (all : AreForUsers) (k : ℕ → Option (Seen Object)) (q : Request) (d : Denial) where
   abbrev Rightly : Type 0

@@ -147,7 +147,11 @@ call_not (refusals.NotYet o) = refl
 call_not (refusals.Missing field) = refl
 call_not (refusals.BadField field) = refl
 call_not (refusals.TooLong field) = refl
+call_not (refusals.NoSuchId id) = refl
+call_not (refusals.Taken name) = refl
+call_not refusals.TooMany = refl
 call_not (refusals.BadSource c) = refl
+call_not refusals.TooDeep = refl
 
 status_not : (f : Fault) → is_ok (fault_reply f) ≡ false
 status_not (faults.NotANumber name) = refl

@@ -28,8 +28,6 @@ use Rattle.form_fields.specs.Cookies.{cookies_of}
 use Rattle.form_fields.specs.Fields.{fields_of}
 use Rattle.http_in.specs.declared.message.Message.TheVariants.{Whole}
 use Rattle.http_in.specs.declared.message.Request.{Request}
-use Rattle.http_in.specs.Messages.{one_message}
-use Rattle.http_in.specs.Paths.{path_text}
 use Rattle.manage.specs.declared.call.Call.{Call}
 use Rattle.manage.specs.declared.changes.Change.{Change}
 use Rattle.manage.specs.Calling.{permission_at}
@@ -128,10 +126,6 @@ pub record IsGrantedChange (k : ℕ → Option (Seen Object)) (q : Request) (d :
 -- Each change was granted.
 abbrev pub ChangesAreGranted : Type 0
 ChangesAreGranted = (known : Ask → Option Fact) (q : Request) (x : Reply) (d : Draft) → Tells known → site known (Whole q) ≡ Outcome.Change x d → IsGrantedChange (shown_by known) q d
-
--- The description of a message's change is its path.
-abbrev pub DescriptionsArePaths : Type 0
-DescriptionsArePaths = (bytes : List ℕ) (q : Request) (user : Who) (change : Change) → one_message bytes ≡ Some (Whole q) → (draft_of q user change).description ≡ path_text q.path
 
 -- ---- contents stay apart
 

@@ -134,7 +134,11 @@ call_reply (calls.NotYet o) = not_yet o
 call_reply (calls.Missing field) = one_line 400 (codes "missing: " ++ field_text field)
 call_reply (calls.BadField field) = one_line 400 (codes "bad field: " ++ field_text field)
 call_reply (calls.TooLong field) = one_line 400 (codes "too long: " ++ field_text field)
+call_reply (calls.NoSuchId id) = one_line 400 (codes "no such id: " ++ id)
+call_reply (calls.Taken name) = one_line 400 (codes "taken: " ++ name)
+call_reply calls.TooMany = one_line 400 (codes "too many")
 call_reply (calls.BadSource cause) = one_line 400 (codes "bad source: " ++ template_text cause)
+call_reply calls.TooDeep = too_deep
 
 abbrev pub fault_reply : Fault → Reply
 fault_reply (NotANumber name) = one_line 400 (codes "not a number: " ++ name)

@@ -94,17 +94,9 @@ abbrev pub user_name : Who → List ℕ
 user_name users.Anonymous = []
 user_name (users.Known name roles home) = name
 
--- a text, where a description has room for it
-abbrev pub where_room : List ℕ → List ℕ
-where_room text = if nat_lt longest_text (length text) then [] else text
-
--- a path, as a description: no message has one for which there is no room
-abbrev pub described : List (List ℕ) → List ℕ
-described path = where_room (path_text path)
-
 -- a change is the user's, and is described by the path of its request
 abbrev pub draft_of : Request → Who → Change → Draft
-draft_of q user change = record { user = user_name user; description = described q.path; entries = change.entries }
+draft_of q user change = record { user = user_name user; description = path_text q.path; entries = change.entries }
 
 abbrev pub changed : Request → Who → Change → Objects Fault Answer
 changed q user change = Done (answer.Change done (draft_of q user change))

@@ -50,9 +50,8 @@ use Rattle.manage.specs.declared.call.Call.TheVariants as calls
 use Rattle.manage.specs.declared.refusal.FieldName.TheVariants.{Data}
 use Rattle.manage.specs.declared.refusal.ManageRefusal.TheVariants.{NotFound, NotYet, Missing}
 use Rattle.manage.specs.Calling.{permission_at}
-use Rattle.manage.specs.Changing.{change}
-use Rattle.manage.specs.Edits.{page_edit, edited}
-use Rattle.manage.specs.Fields.{lawful_text}
+use Rattle.manage.specs.Changing.{change, judged as call_judged, written}
+use Rattle.manage.specs.Fields.{field_kept, fields_kept, text_of, texts_of}
 use Rattle.namespace.specs.Looks.{Unauthorized}
 use Rattle.namespace.specs.Names.{named_for, in_layers, in_layer, in_base, in_object, searched, in_one, by_word, title_in, title_or_id_in, ids_in, values_in, reach_each, property_or_child, property_in, child_at}
 use Rattle.namespace.specs.Requests.{request_names}
@@ -131,81 +130,81 @@ at name = name ∷ []
 -- ---- pages
 
 front : comes_to (sent Get [] [] []) ≡ Ok (answers.Page (page_reply (codes "<b>T</b>") (shown 2 (codes "Anonymous") ∷ shown 0 (codes "Anonymous") ∷ [])))
-unfolding request with_fields with_credentials page scope_answer scope_page call_on call_with change_for change_by change page_edit edited lawful_text published walked stepped child page_at index found reached containers upwards finds verdict_on judged roles has locals_on local_roles shape_of known_user sought taken_at user_at permission_at fields_of pairs pairs_of raw_pairs split percent_decode named_by whole_number utf8_lossy utf8_valid_len is_utf8 encode cookies_of spelled_by groups_bytes groups_error scan_steps encode_symbols sha1 digest_bytes hash_after compress rounds schedule first_words named_for in_layers in_layer in_base in_object searched in_one by_word title_in title_or_id_in ids_in values_in reach_each property_or_child property_in child_at request_names word_at quotation_at value_at attribute_at next_attribute tag_end attributes_at tag_named tag_at name_at entity_at begins_part plain_len part_at nodes_at arms_at template_at head_at dots_at item_at chain chain_at comparison_at and_at or_at not_at token_at tokens_at expression_at rendered sourced object_rendered rendered_if argument needed var_text call_text unless_text object_turn turn each over_items loop_text with_text bound let_text item_text items_text arms_text else_text source_text evaluated first_of fitting shape quoted cased sized html_quote last_space chars first_chars
+unfolding request with_fields with_credentials page scope_answer scope_page call_on call_with change_for change_by change written call_judged fields_kept field_kept texts_of text_of published walked stepped child page_at index found reached containers upwards finds verdict_on judged roles has locals_on local_roles shape_of known_user sought taken_at user_at permission_at fields_of pairs pairs_of raw_pairs split percent_decode named_by whole_number utf8_lossy utf8_valid_len is_utf8 encode cookies_of spelled_by groups_bytes groups_error scan_steps encode_symbols sha1 digest_bytes hash_after compress rounds schedule first_words named_for in_layers in_layer in_base in_object searched in_one by_word title_in title_or_id_in ids_in values_in reach_each property_or_child property_in child_at request_names word_at quotation_at value_at attribute_at next_attribute tag_end attributes_at tag_named tag_at name_at entity_at begins_part plain_len part_at nodes_at arms_at template_at head_at dots_at item_at chain chain_at comparison_at and_at or_at not_at token_at tokens_at expression_at rendered sourced object_rendered rendered_if argument needed var_text call_text unless_text object_turn turn each over_items loop_text with_text bound let_text item_text items_text arms_text else_text source_text evaluated first_of fitting shape quoted cased sized html_quote last_space chars first_chars
 front = refl
 
 document : comes_to (sent Get (at (codes "d")) [] admin) ≡ Ok (answers.Page (page_reply (codes "hello") (shown 3 (codes "Anonymous") ∷ [])))
-unfolding request with_fields with_credentials page scope_answer scope_page call_on call_with change_for change_by change page_edit edited lawful_text published walked stepped child page_at index found reached containers upwards finds verdict_on judged roles has locals_on local_roles shape_of known_user sought taken_at user_at permission_at fields_of pairs pairs_of raw_pairs split percent_decode named_by whole_number utf8_lossy utf8_valid_len is_utf8 encode cookies_of spelled_by groups_bytes groups_error scan_steps encode_symbols sha1 digest_bytes hash_after compress rounds schedule first_words named_for in_layers in_layer in_base in_object searched in_one by_word title_in title_or_id_in ids_in values_in reach_each property_or_child property_in child_at request_names word_at quotation_at value_at attribute_at next_attribute tag_end attributes_at tag_named tag_at name_at entity_at begins_part plain_len part_at nodes_at arms_at template_at head_at dots_at item_at chain chain_at comparison_at and_at or_at not_at token_at tokens_at expression_at rendered sourced object_rendered rendered_if argument needed var_text call_text unless_text object_turn turn each over_items loop_text with_text bound let_text item_text items_text arms_text else_text source_text evaluated first_of fitting shape quoted cased sized html_quote last_space chars first_chars
+unfolding request with_fields with_credentials page scope_answer scope_page call_on call_with change_for change_by change written call_judged fields_kept field_kept texts_of text_of published walked stepped child page_at index found reached containers upwards finds verdict_on judged roles has locals_on local_roles shape_of known_user sought taken_at user_at permission_at fields_of pairs pairs_of raw_pairs split percent_decode named_by whole_number utf8_lossy utf8_valid_len is_utf8 encode cookies_of spelled_by groups_bytes groups_error scan_steps encode_symbols sha1 digest_bytes hash_after compress rounds schedule first_words named_for in_layers in_layer in_base in_object searched in_one by_word title_in title_or_id_in ids_in values_in reach_each property_or_child property_in child_at request_names word_at quotation_at value_at attribute_at next_attribute tag_end attributes_at tag_named tag_at name_at entity_at begins_part plain_len part_at nodes_at arms_at template_at head_at dots_at item_at chain chain_at comparison_at and_at or_at not_at token_at tokens_at expression_at rendered sourced object_rendered rendered_if argument needed var_text call_text unless_text object_turn turn each over_items loop_text with_text bound let_text item_text items_text arms_text else_text source_text evaluated first_of fitting shape quoted cased sized html_quote last_space chars first_chars
 document = refl
 
 private_page : comes_to (sent Get (at (codes "s")) [] admin) ≡ Ok (answers.Page (page_reply (codes "hush") (shown 4 (codes "Manager") ∷ [])))
-unfolding request with_fields with_credentials page scope_answer scope_page call_on call_with change_for change_by change page_edit edited lawful_text published walked stepped child page_at index found reached containers upwards finds verdict_on judged roles has locals_on local_roles shape_of known_user sought taken_at user_at permission_at fields_of pairs pairs_of raw_pairs split percent_decode named_by whole_number utf8_lossy utf8_valid_len is_utf8 encode cookies_of spelled_by groups_bytes groups_error scan_steps encode_symbols sha1 digest_bytes hash_after compress rounds schedule first_words named_for in_layers in_layer in_base in_object searched in_one by_word title_in title_or_id_in ids_in values_in reach_each property_or_child property_in child_at request_names word_at quotation_at value_at attribute_at next_attribute tag_end attributes_at tag_named tag_at name_at entity_at begins_part plain_len part_at nodes_at arms_at template_at head_at dots_at item_at chain chain_at comparison_at and_at or_at not_at token_at tokens_at expression_at rendered sourced object_rendered rendered_if argument needed var_text call_text unless_text object_turn turn each over_items loop_text with_text bound let_text item_text items_text arms_text else_text source_text evaluated first_of fitting shape quoted cased sized html_quote last_space chars first_chars
+unfolding request with_fields with_credentials page scope_answer scope_page call_on call_with change_for change_by change written call_judged fields_kept field_kept texts_of text_of published walked stepped child page_at index found reached containers upwards finds verdict_on judged roles has locals_on local_roles shape_of known_user sought taken_at user_at permission_at fields_of pairs pairs_of raw_pairs split percent_decode named_by whole_number utf8_lossy utf8_valid_len is_utf8 encode cookies_of spelled_by groups_bytes groups_error scan_steps encode_symbols sha1 digest_bytes hash_after compress rounds schedule first_words named_for in_layers in_layer in_base in_object searched in_one by_word title_in title_or_id_in ids_in values_in reach_each property_or_child property_in child_at request_names word_at quotation_at value_at attribute_at next_attribute tag_end attributes_at tag_named tag_at name_at entity_at begins_part plain_len part_at nodes_at arms_at template_at head_at dots_at item_at chain chain_at comparison_at and_at or_at not_at token_at tokens_at expression_at rendered sourced object_rendered rendered_if argument needed var_text call_text unless_text object_turn turn each over_items loop_text with_text bound let_text item_text items_text arms_text else_text source_text evaluated first_of fitting shape quoted cased sized html_quote last_space chars first_chars
 private_page = refl
 
 by_head : comes_to (sent Head (at (codes "d")) [] []) ≡ Ok (answers.Page (page_reply (codes "hello") (shown 3 (codes "Anonymous") ∷ [])))
-unfolding request with_fields with_credentials page scope_answer scope_page call_on call_with change_for change_by change page_edit edited lawful_text published walked stepped child page_at index found reached containers upwards finds verdict_on judged roles has locals_on local_roles shape_of known_user sought taken_at user_at permission_at fields_of pairs pairs_of raw_pairs split percent_decode named_by whole_number utf8_lossy utf8_valid_len is_utf8 encode cookies_of spelled_by groups_bytes groups_error scan_steps encode_symbols sha1 digest_bytes hash_after compress rounds schedule first_words named_for in_layers in_layer in_base in_object searched in_one by_word title_in title_or_id_in ids_in values_in reach_each property_or_child property_in child_at request_names word_at quotation_at value_at attribute_at next_attribute tag_end attributes_at tag_named tag_at name_at entity_at begins_part plain_len part_at nodes_at arms_at template_at head_at dots_at item_at chain chain_at comparison_at and_at or_at not_at token_at tokens_at expression_at rendered sourced object_rendered rendered_if argument needed var_text call_text unless_text object_turn turn each over_items loop_text with_text bound let_text item_text items_text arms_text else_text source_text evaluated first_of fitting shape quoted cased sized html_quote last_space chars first_chars
+unfolding request with_fields with_credentials page scope_answer scope_page call_on call_with change_for change_by change written call_judged fields_kept field_kept texts_of text_of published walked stepped child page_at index found reached containers upwards finds verdict_on judged roles has locals_on local_roles shape_of known_user sought taken_at user_at permission_at fields_of pairs pairs_of raw_pairs split percent_decode named_by whole_number utf8_lossy utf8_valid_len is_utf8 encode cookies_of spelled_by groups_bytes groups_error scan_steps encode_symbols sha1 digest_bytes hash_after compress rounds schedule first_words named_for in_layers in_layer in_base in_object searched in_one by_word title_in title_or_id_in ids_in values_in reach_each property_or_child property_in child_at request_names word_at quotation_at value_at attribute_at next_attribute tag_end attributes_at tag_named tag_at name_at entity_at begins_part plain_len part_at nodes_at arms_at template_at head_at dots_at item_at chain chain_at comparison_at and_at or_at not_at token_at tokens_at expression_at rendered sourced object_rendered rendered_if argument needed var_text call_text unless_text object_turn turn each over_items loop_text with_text bound let_text item_text items_text arms_text else_text source_text evaluated first_of fitting shape quoted cased sized html_quote last_space chars first_chars
 by_head = refl
 
 -- a user of the folder's own user folder
 in_a_folder : comes_to (sent Get (codes "H" ∷ codes "e" ∷ []) [] eve) ≡ Ok (answers.Page (page_reply (codes "deep") (shown 7 (codes "Manager") ∷ [])))
-unfolding request with_fields with_credentials page scope_answer scope_page call_on call_with change_for change_by change page_edit edited lawful_text published walked stepped child page_at index found reached containers upwards finds verdict_on judged roles has locals_on local_roles shape_of known_user sought taken_at user_at permission_at fields_of pairs pairs_of raw_pairs split percent_decode named_by whole_number utf8_lossy utf8_valid_len is_utf8 encode cookies_of spelled_by groups_bytes groups_error scan_steps encode_symbols sha1 digest_bytes hash_after compress rounds schedule first_words named_for in_layers in_layer in_base in_object searched in_one by_word title_in title_or_id_in ids_in values_in reach_each property_or_child property_in child_at request_names word_at quotation_at value_at attribute_at next_attribute tag_end attributes_at tag_named tag_at name_at entity_at begins_part plain_len part_at nodes_at arms_at template_at head_at dots_at item_at chain chain_at comparison_at and_at or_at not_at token_at tokens_at expression_at rendered sourced object_rendered rendered_if argument needed var_text call_text unless_text object_turn turn each over_items loop_text with_text bound let_text item_text items_text arms_text else_text source_text evaluated first_of fitting shape quoted cased sized html_quote last_space chars first_chars
+unfolding request with_fields with_credentials page scope_answer scope_page call_on call_with change_for change_by change written call_judged fields_kept field_kept texts_of text_of published walked stepped child page_at index found reached containers upwards finds verdict_on judged roles has locals_on local_roles shape_of known_user sought taken_at user_at permission_at fields_of pairs pairs_of raw_pairs split percent_decode named_by whole_number utf8_lossy utf8_valid_len is_utf8 encode cookies_of spelled_by groups_bytes groups_error scan_steps encode_symbols sha1 digest_bytes hash_after compress rounds schedule first_words named_for in_layers in_layer in_base in_object searched in_one by_word title_in title_or_id_in ids_in values_in reach_each property_or_child property_in child_at request_names word_at quotation_at value_at attribute_at next_attribute tag_end attributes_at tag_named tag_at name_at entity_at begins_part plain_len part_at nodes_at arms_at template_at head_at dots_at item_at chain chain_at comparison_at and_at or_at not_at token_at tokens_at expression_at rendered sourced object_rendered rendered_if argument needed var_text call_text unless_text object_turn turn each over_items loop_text with_text bound let_text item_text items_text arms_text else_text source_text evaluated first_of fitting shape quoted cased sized html_quote last_space chars first_chars
 in_a_folder = refl
 
 -- a user of a folder above
 from_above : comes_to (sent Get (codes "H" ∷ codes "e" ∷ []) [] admin) ≡ Ok (answers.Page (page_reply (codes "deep") (shown 7 (codes "Manager") ∷ [])))
-unfolding request with_fields with_credentials page scope_answer scope_page call_on call_with change_for change_by change page_edit edited lawful_text published walked stepped child page_at index found reached containers upwards finds verdict_on judged roles has locals_on local_roles shape_of known_user sought taken_at user_at permission_at fields_of pairs pairs_of raw_pairs split percent_decode named_by whole_number utf8_lossy utf8_valid_len is_utf8 encode cookies_of spelled_by groups_bytes groups_error scan_steps encode_symbols sha1 digest_bytes hash_after compress rounds schedule first_words named_for in_layers in_layer in_base in_object searched in_one by_word title_in title_or_id_in ids_in values_in reach_each property_or_child property_in child_at request_names word_at quotation_at value_at attribute_at next_attribute tag_end attributes_at tag_named tag_at name_at entity_at begins_part plain_len part_at nodes_at arms_at template_at head_at dots_at item_at chain chain_at comparison_at and_at or_at not_at token_at tokens_at expression_at rendered sourced object_rendered rendered_if argument needed var_text call_text unless_text object_turn turn each over_items loop_text with_text bound let_text item_text items_text arms_text else_text source_text evaluated first_of fitting shape quoted cased sized html_quote last_space chars first_chars
+unfolding request with_fields with_credentials page scope_answer scope_page call_on call_with change_for change_by change written call_judged fields_kept field_kept texts_of text_of published walked stepped child page_at index found reached containers upwards finds verdict_on judged roles has locals_on local_roles shape_of known_user sought taken_at user_at permission_at fields_of pairs pairs_of raw_pairs split percent_decode named_by whole_number utf8_lossy utf8_valid_len is_utf8 encode cookies_of spelled_by groups_bytes groups_error scan_steps encode_symbols sha1 digest_bytes hash_after compress rounds schedule first_words named_for in_layers in_layer in_base in_object searched in_one by_word title_in title_or_id_in ids_in values_in reach_each property_or_child property_in child_at request_names word_at quotation_at value_at attribute_at next_attribute tag_end attributes_at tag_named tag_at name_at entity_at begins_part plain_len part_at nodes_at arms_at template_at head_at dots_at item_at chain chain_at comparison_at and_at or_at not_at token_at tokens_at expression_at rendered sourced object_rendered rendered_if argument needed var_text call_text unless_text object_turn turn each over_items loop_text with_text bound let_text item_text items_text arms_text else_text source_text evaluated first_of fitting shape quoted cased sized html_quote last_space chars first_chars
 from_above = refl
 
 -- a user of another folder is nobody here
 from_elsewhere : comes_to (sent Get (at (codes "s")) [] eve) ≡ Err (Cause (faults.Page (Unauthorized 4 VIEW)))
-unfolding request with_fields with_credentials page scope_answer scope_page call_on call_with change_for change_by change page_edit edited lawful_text published walked stepped child page_at index found reached containers upwards finds verdict_on judged roles has locals_on local_roles shape_of known_user sought taken_at user_at permission_at fields_of pairs pairs_of raw_pairs split percent_decode named_by whole_number utf8_lossy utf8_valid_len is_utf8 encode cookies_of spelled_by groups_bytes groups_error scan_steps encode_symbols sha1 digest_bytes hash_after compress rounds schedule first_words named_for in_layers in_layer in_base in_object searched in_one by_word title_in title_or_id_in ids_in values_in reach_each property_or_child property_in child_at request_names word_at quotation_at value_at attribute_at next_attribute tag_end attributes_at tag_named tag_at name_at entity_at begins_part plain_len part_at nodes_at arms_at template_at head_at dots_at item_at chain chain_at comparison_at and_at or_at not_at token_at tokens_at expression_at rendered sourced object_rendered rendered_if argument needed var_text call_text unless_text object_turn turn each over_items loop_text with_text bound let_text item_text items_text arms_text else_text source_text evaluated first_of fitting shape quoted cased sized html_quote last_space chars first_chars
+unfolding request with_fields with_credentials page scope_answer scope_page call_on call_with change_for change_by change written call_judged fields_kept field_kept texts_of text_of published walked stepped child page_at index found reached containers upwards finds verdict_on judged roles has locals_on local_roles shape_of known_user sought taken_at user_at permission_at fields_of pairs pairs_of raw_pairs split percent_decode named_by whole_number utf8_lossy utf8_valid_len is_utf8 encode cookies_of spelled_by groups_bytes groups_error scan_steps encode_symbols sha1 digest_bytes hash_after compress rounds schedule first_words named_for in_layers in_layer in_base in_object searched in_one by_word title_in title_or_id_in ids_in values_in reach_each property_or_child property_in child_at request_names word_at quotation_at value_at attribute_at next_attribute tag_end attributes_at tag_named tag_at name_at entity_at begins_part plain_len part_at nodes_at arms_at template_at head_at dots_at item_at chain chain_at comparison_at and_at or_at not_at token_at tokens_at expression_at rendered sourced object_rendered rendered_if argument needed var_text call_text unless_text object_turn turn each over_items loop_text with_text bound let_text item_text items_text arms_text else_text source_text evaluated first_of fitting shape quoted cased sized html_quote last_space chars first_chars
 from_elsewhere = refl
 
 without_credentials : comes_to (sent Get (at (codes "s")) [] []) ≡ Err (Cause (faults.Page (Unauthorized 4 VIEW)))
-unfolding request with_fields with_credentials page scope_answer scope_page call_on call_with change_for change_by change page_edit edited lawful_text published walked stepped child page_at index found reached containers upwards finds verdict_on judged roles has locals_on local_roles shape_of known_user sought taken_at user_at permission_at fields_of pairs pairs_of raw_pairs split percent_decode named_by whole_number utf8_lossy utf8_valid_len is_utf8 encode cookies_of spelled_by groups_bytes groups_error scan_steps encode_symbols sha1 digest_bytes hash_after compress rounds schedule first_words named_for in_layers in_layer in_base in_object searched in_one by_word title_in title_or_id_in ids_in values_in reach_each property_or_child property_in child_at request_names word_at quotation_at value_at attribute_at next_attribute tag_end attributes_at tag_named tag_at name_at entity_at begins_part plain_len part_at nodes_at arms_at template_at head_at dots_at item_at chain chain_at comparison_at and_at or_at not_at token_at tokens_at expression_at rendered sourced object_rendered rendered_if argument needed var_text call_text unless_text object_turn turn each over_items loop_text with_text bound let_text item_text items_text arms_text else_text source_text evaluated first_of fitting shape quoted cased sized html_quote last_space chars first_chars
+unfolding request with_fields with_credentials page scope_answer scope_page call_on call_with change_for change_by change written call_judged fields_kept field_kept texts_of text_of published walked stepped child page_at index found reached containers upwards finds verdict_on judged roles has locals_on local_roles shape_of known_user sought taken_at user_at permission_at fields_of pairs pairs_of raw_pairs split percent_decode named_by whole_number utf8_lossy utf8_valid_len is_utf8 encode cookies_of spelled_by groups_bytes groups_error scan_steps encode_symbols sha1 digest_bytes hash_after compress rounds schedule first_words named_for in_layers in_layer in_base in_object searched in_one by_word title_in title_or_id_in ids_in values_in reach_each property_or_child property_in child_at request_names word_at quotation_at value_at attribute_at next_attribute tag_end attributes_at tag_named tag_at name_at entity_at begins_part plain_len part_at nodes_at arms_at template_at head_at dots_at item_at chain chain_at comparison_at and_at or_at not_at token_at tokens_at expression_at rendered sourced object_rendered rendered_if argument needed var_text call_text unless_text object_turn turn each over_items loop_text with_text bound let_text item_text items_text arms_text else_text source_text evaluated first_of fitting shape quoted cased sized html_quote last_space chars first_chars
 without_credentials = refl
 
 with_another_password : comes_to (sent Get (at (codes "s")) [] stranger) ≡ Err (Cause (faults.Page (Unauthorized 4 VIEW)))
-unfolding request with_fields with_credentials page scope_answer scope_page call_on call_with change_for change_by change page_edit edited lawful_text published walked stepped child page_at index found reached containers upwards finds verdict_on judged roles has locals_on local_roles shape_of known_user sought taken_at user_at permission_at fields_of pairs pairs_of raw_pairs split percent_decode named_by whole_number utf8_lossy utf8_valid_len is_utf8 encode cookies_of spelled_by groups_bytes groups_error scan_steps encode_symbols sha1 digest_bytes hash_after compress rounds schedule first_words named_for in_layers in_layer in_base in_object searched in_one by_word title_in title_or_id_in ids_in values_in reach_each property_or_child property_in child_at request_names word_at quotation_at value_at attribute_at next_attribute tag_end attributes_at tag_named tag_at name_at entity_at begins_part plain_len part_at nodes_at arms_at template_at head_at dots_at item_at chain chain_at comparison_at and_at or_at not_at token_at tokens_at expression_at rendered sourced object_rendered rendered_if argument needed var_text call_text unless_text object_turn turn each over_items loop_text with_text bound let_text item_text items_text arms_text else_text source_text evaluated first_of fitting shape quoted cased sized html_quote last_space chars first_chars
+unfolding request with_fields with_credentials page scope_answer scope_page call_on call_with change_for change_by change written call_judged fields_kept field_kept texts_of text_of published walked stepped child page_at index found reached containers upwards finds verdict_on judged roles has locals_on local_roles shape_of known_user sought taken_at user_at permission_at fields_of pairs pairs_of raw_pairs split percent_decode named_by whole_number utf8_lossy utf8_valid_len is_utf8 encode cookies_of spelled_by groups_bytes groups_error scan_steps encode_symbols sha1 digest_bytes hash_after compress rounds schedule first_words named_for in_layers in_layer in_base in_object searched in_one by_word title_in title_or_id_in ids_in values_in reach_each property_or_child property_in child_at request_names word_at quotation_at value_at attribute_at next_attribute tag_end attributes_at tag_named tag_at name_at entity_at begins_part plain_len part_at nodes_at arms_at template_at head_at dots_at item_at chain chain_at comparison_at and_at or_at not_at token_at tokens_at expression_at rendered sourced object_rendered rendered_if argument needed var_text call_text unless_text object_turn turn each over_items loop_text with_text bound let_text item_text items_text arms_text else_text source_text evaluated first_of fitting shape quoted cased sized html_quote last_space chars first_chars
 with_another_password = refl
 
 -- ---- the order of refusals
 
 fields_first : comes_to (sent Get (at (codes "none")) (codes "n:int=x") bad) ≡ Err (Cause (faults.NotANumber (codes "n")))
-unfolding request with_fields with_credentials page scope_answer scope_page call_on call_with change_for change_by change page_edit edited lawful_text published walked stepped child page_at index found reached containers upwards finds verdict_on judged roles has locals_on local_roles shape_of known_user sought taken_at user_at permission_at fields_of pairs pairs_of raw_pairs split percent_decode named_by whole_number utf8_lossy utf8_valid_len is_utf8 encode cookies_of spelled_by groups_bytes groups_error scan_steps encode_symbols sha1 digest_bytes hash_after compress rounds schedule first_words named_for in_layers in_layer in_base in_object searched in_one by_word title_in title_or_id_in ids_in values_in reach_each property_or_child property_in child_at request_names word_at quotation_at value_at attribute_at next_attribute tag_end attributes_at tag_named tag_at name_at entity_at begins_part plain_len part_at nodes_at arms_at template_at head_at dots_at item_at chain chain_at comparison_at and_at or_at not_at token_at tokens_at expression_at rendered sourced object_rendered rendered_if argument needed var_text call_text unless_text object_turn turn each over_items loop_text with_text bound let_text item_text items_text arms_text else_text source_text evaluated first_of fitting shape quoted cased sized html_quote last_space chars first_chars
+unfolding request with_fields with_credentials page scope_answer scope_page call_on call_with change_for change_by change written call_judged fields_kept field_kept texts_of text_of published walked stepped child page_at index found reached containers upwards finds verdict_on judged roles has locals_on local_roles shape_of known_user sought taken_at user_at permission_at fields_of pairs pairs_of raw_pairs split percent_decode named_by whole_number utf8_lossy utf8_valid_len is_utf8 encode cookies_of spelled_by groups_bytes groups_error scan_steps encode_symbols sha1 digest_bytes hash_after compress rounds schedule first_words named_for in_layers in_layer in_base in_object searched in_one by_word title_in title_or_id_in ids_in values_in reach_each property_or_child property_in child_at request_names word_at quotation_at value_at attribute_at next_attribute tag_end attributes_at tag_named tag_at name_at entity_at begins_part plain_len part_at nodes_at arms_at template_at head_at dots_at item_at chain chain_at comparison_at and_at or_at not_at token_at tokens_at expression_at rendered sourced object_rendered rendered_if argument needed var_text call_text unless_text object_turn turn each over_items loop_text with_text bound let_text item_text items_text arms_text else_text source_text evaluated first_of fitting shape quoted cased sized html_quote last_space chars first_chars
 fields_first = refl
 
 then_credentials : comes_to (sent Get (at (codes "none")) [] bad) ≡ Err (Cause (faults.BadCredentials))
-unfolding request with_fields with_credentials page scope_answer scope_page call_on call_with change_for change_by change page_edit edited lawful_text published walked stepped child page_at index found reached containers upwards finds verdict_on judged roles has locals_on local_roles shape_of known_user sought taken_at user_at permission_at fields_of pairs pairs_of raw_pairs split percent_decode named_by whole_number utf8_lossy utf8_valid_len is_utf8 encode cookies_of spelled_by groups_bytes groups_error scan_steps encode_symbols sha1 digest_bytes hash_after compress rounds schedule first_words named_for in_layers in_layer in_base in_object searched in_one by_word title_in title_or_id_in ids_in values_in reach_each property_or_child property_in child_at request_names word_at quotation_at value_at attribute_at next_attribute tag_end attributes_at tag_named tag_at name_at entity_at begins_part plain_len part_at nodes_at arms_at template_at head_at dots_at item_at chain chain_at comparison_at and_at or_at not_at token_at tokens_at expression_at rendered sourced object_rendered rendered_if argument needed var_text call_text unless_text object_turn turn each over_items loop_text with_text bound let_text item_text items_text arms_text else_text source_text evaluated first_of fitting shape quoted cased sized html_quote last_space chars first_chars
+unfolding request with_fields with_credentials page scope_answer scope_page call_on call_with change_for change_by change written call_judged fields_kept field_kept texts_of text_of published walked stepped child page_at index found reached containers upwards finds verdict_on judged roles has locals_on local_roles shape_of known_user sought taken_at user_at permission_at fields_of pairs pairs_of raw_pairs split percent_decode named_by whole_number utf8_lossy utf8_valid_len is_utf8 encode cookies_of spelled_by groups_bytes groups_error scan_steps encode_symbols sha1 digest_bytes hash_after compress rounds schedule first_words named_for in_layers in_layer in_base in_object searched in_one by_word title_in title_or_id_in ids_in values_in reach_each property_or_child property_in child_at request_names word_at quotation_at value_at attribute_at next_attribute tag_end attributes_at tag_named tag_at name_at entity_at begins_part plain_len part_at nodes_at arms_at template_at head_at dots_at item_at chain chain_at comparison_at and_at or_at not_at token_at tokens_at expression_at rendered sourced object_rendered rendered_if argument needed var_text call_text unless_text object_turn turn each over_items loop_text with_text bound let_text item_text items_text arms_text else_text source_text evaluated first_of fitting shape quoted cased sized html_quote last_space chars first_chars
 then_credentials = refl
 
 then_the_path : comes_to (sent Get (at (codes "none")) [] stranger) ≡ Err (Cause (faults.Path (publishing.NotFound (codes "none"))))
-unfolding request with_fields with_credentials page scope_answer scope_page call_on call_with change_for change_by change page_edit edited lawful_text published walked stepped child page_at index found reached containers upwards finds verdict_on judged roles has locals_on local_roles shape_of known_user sought taken_at user_at permission_at fields_of pairs pairs_of raw_pairs split percent_decode named_by whole_number utf8_lossy utf8_valid_len is_utf8 encode cookies_of spelled_by groups_bytes groups_error scan_steps encode_symbols sha1 digest_bytes hash_after compress rounds schedule first_words named_for in_layers in_layer in_base in_object searched in_one by_word title_in title_or_id_in ids_in values_in reach_each property_or_child property_in child_at request_names word_at quotation_at value_at attribute_at next_attribute tag_end attributes_at tag_named tag_at name_at entity_at begins_part plain_len part_at nodes_at arms_at template_at head_at dots_at item_at chain chain_at comparison_at and_at or_at not_at token_at tokens_at expression_at rendered sourced object_rendered rendered_if argument needed var_text call_text unless_text object_turn turn each over_items loop_text with_text bound let_text item_text items_text arms_text else_text source_text evaluated first_of fitting shape quoted cased sized html_quote last_space chars first_chars
+unfolding request with_fields with_credentials page scope_answer scope_page call_on call_with change_for change_by change written call_judged fields_kept field_kept texts_of text_of published walked stepped child page_at index found reached containers upwards finds verdict_on judged roles has locals_on local_roles shape_of known_user sought taken_at user_at permission_at fields_of pairs pairs_of raw_pairs split percent_decode named_by whole_number utf8_lossy utf8_valid_len is_utf8 encode cookies_of spelled_by groups_bytes groups_error scan_steps encode_symbols sha1 digest_bytes hash_after compress rounds schedule first_words named_for in_layers in_layer in_base in_object searched in_one by_word title_in title_or_id_in ids_in values_in reach_each property_or_child property_in child_at request_names word_at quotation_at value_at attribute_at next_attribute tag_end attributes_at tag_named tag_at name_at entity_at begins_part plain_len part_at nodes_at arms_at template_at head_at dots_at item_at chain chain_at comparison_at and_at or_at not_at token_at tokens_at expression_at rendered sourced object_rendered rendered_if argument needed var_text call_text unless_text object_turn turn each over_items loop_text with_text bound let_text item_text items_text arms_text else_text source_text evaluated first_of fitting shape quoted cased sized html_quote last_space chars first_chars
 then_the_path = refl
 
 -- a call is none by HEAD, and none on a user folder; one that isn't built yet is so for everyone
 then_what_is_called_on : comes_to (sent Head (codes "d" ∷ codes "manage_edit" ∷ []) [] stranger) ≡ Err (Cause (faults.Call (NotFound calls.Edit)))
-unfolding request with_fields with_credentials page scope_answer scope_page call_on call_with change_for change_by change page_edit edited lawful_text published walked stepped child page_at index found reached containers upwards finds verdict_on judged roles has locals_on local_roles shape_of known_user sought taken_at user_at permission_at fields_of pairs pairs_of raw_pairs split percent_decode named_by whole_number utf8_lossy utf8_valid_len is_utf8 encode cookies_of spelled_by groups_bytes groups_error scan_steps encode_symbols sha1 digest_bytes hash_after compress rounds schedule first_words named_for in_layers in_layer in_base in_object searched in_one by_word title_in title_or_id_in ids_in values_in reach_each property_or_child property_in child_at request_names word_at quotation_at value_at attribute_at next_attribute tag_end attributes_at tag_named tag_at name_at entity_at begins_part plain_len part_at nodes_at arms_at template_at head_at dots_at item_at chain chain_at comparison_at and_at or_at not_at token_at tokens_at expression_at rendered sourced object_rendered rendered_if argument needed var_text call_text unless_text object_turn turn each over_items loop_text with_text bound let_text item_text items_text arms_text else_text source_text evaluated first_of fitting shape quoted cased sized html_quote last_space chars first_chars
+unfolding request with_fields with_credentials page scope_answer scope_page call_on call_with change_for change_by change written call_judged fields_kept field_kept texts_of text_of published walked stepped child page_at index found reached containers upwards finds verdict_on judged roles has locals_on local_roles shape_of known_user sought taken_at user_at permission_at fields_of pairs pairs_of raw_pairs split percent_decode named_by whole_number utf8_lossy utf8_valid_len is_utf8 encode cookies_of spelled_by groups_bytes groups_error scan_steps encode_symbols sha1 digest_bytes hash_after compress rounds schedule first_words named_for in_layers in_layer in_base in_object searched in_one by_word title_in title_or_id_in ids_in values_in reach_each property_or_child property_in child_at request_names word_at quotation_at value_at attribute_at next_attribute tag_end attributes_at tag_named tag_at name_at entity_at begins_part plain_len part_at nodes_at arms_at template_at head_at dots_at item_at chain chain_at comparison_at and_at or_at not_at token_at tokens_at expression_at rendered sourced object_rendered rendered_if argument needed var_text call_text unless_text object_turn turn each over_items loop_text with_text bound let_text item_text items_text arms_text else_text source_text evaluated first_of fitting shape quoted cased sized html_quote last_space chars first_chars
 then_what_is_called_on = refl
 
 no_call_there : comes_to (sent Post (codes "acl_users" ∷ codes "manage_edit" ∷ []) [] admin) ≡ Err (Cause (faults.Call (NotFound calls.Edit)))
-unfolding request with_fields with_credentials page scope_answer scope_page call_on call_with change_for change_by change page_edit edited lawful_text published walked stepped child page_at index found reached containers upwards finds verdict_on judged roles has locals_on local_roles shape_of known_user sought taken_at user_at permission_at fields_of pairs pairs_of raw_pairs split percent_decode named_by whole_number utf8_lossy utf8_valid_len is_utf8 encode cookies_of spelled_by groups_bytes groups_error scan_steps encode_symbols sha1 digest_bytes hash_after compress rounds schedule first_words named_for in_layers in_layer in_base in_object searched in_one by_word title_in title_or_id_in ids_in values_in reach_each property_or_child property_in child_at request_names word_at quotation_at value_at attribute_at next_attribute tag_end attributes_at tag_named tag_at name_at entity_at begins_part plain_len part_at nodes_at arms_at template_at head_at dots_at item_at chain chain_at comparison_at and_at or_at not_at token_at tokens_at expression_at rendered sourced object_rendered rendered_if argument needed var_text call_text unless_text object_turn turn each over_items loop_text with_text bound let_text item_text items_text arms_text else_text source_text evaluated first_of fitting shape quoted cased sized html_quote last_space chars first_chars
+unfolding request with_fields with_credentials page scope_answer scope_page call_on call_with change_for change_by change written call_judged fields_kept field_kept texts_of text_of published walked stepped child page_at index found reached containers upwards finds verdict_on judged roles has locals_on local_roles shape_of known_user sought taken_at user_at permission_at fields_of pairs pairs_of raw_pairs split percent_decode named_by whole_number utf8_lossy utf8_valid_len is_utf8 encode cookies_of spelled_by groups_bytes groups_error scan_steps encode_symbols sha1 digest_bytes hash_after compress rounds schedule first_words named_for in_layers in_layer in_base in_object searched in_one by_word title_in title_or_id_in ids_in values_in reach_each property_or_child property_in child_at request_names word_at quotation_at value_at attribute_at next_attribute tag_end attributes_at tag_named tag_at name_at entity_at begins_part plain_len part_at nodes_at arms_at template_at head_at dots_at item_at chain chain_at comparison_at and_at or_at not_at token_at tokens_at expression_at rendered sourced object_rendered rendered_if argument needed var_text call_text unless_text object_turn turn each over_items loop_text with_text bound let_text item_text items_text arms_text else_text source_text evaluated first_of fitting shape quoted cased sized html_quote last_space chars first_chars
 no_call_there = refl
 
 no_call_yet : comes_to (sent Post (at (codes "manage_addFolder")) [] []) ≡ Err (Cause (faults.Call (NotYet 0)))
-unfolding request with_fields with_credentials page scope_answer scope_page call_on call_with change_for change_by change page_edit edited lawful_text published walked stepped child page_at index found reached containers upwards finds verdict_on judged roles has locals_on local_roles shape_of known_user sought taken_at user_at permission_at fields_of pairs pairs_of raw_pairs split percent_decode named_by whole_number utf8_lossy utf8_valid_len is_utf8 encode cookies_of spelled_by groups_bytes groups_error scan_steps encode_symbols sha1 digest_bytes hash_after compress rounds schedule first_words named_for in_layers in_layer in_base in_object searched in_one by_word title_in title_or_id_in ids_in values_in reach_each property_or_child property_in child_at request_names word_at quotation_at value_at attribute_at next_attribute tag_end attributes_at tag_named tag_at name_at entity_at begins_part plain_len part_at nodes_at arms_at template_at head_at dots_at item_at chain chain_at comparison_at and_at or_at not_at token_at tokens_at expression_at rendered sourced object_rendered rendered_if argument needed var_text call_text unless_text object_turn turn each over_items loop_text with_text bound let_text item_text items_text arms_text else_text source_text evaluated first_of fitting shape quoted cased sized html_quote last_space chars first_chars
+unfolding request with_fields with_credentials page scope_answer scope_page call_on call_with change_for change_by change written call_judged fields_kept field_kept texts_of text_of published walked stepped child page_at index found reached containers upwards finds verdict_on judged roles has locals_on local_roles shape_of known_user sought taken_at user_at permission_at fields_of pairs pairs_of raw_pairs split percent_decode named_by whole_number utf8_lossy utf8_valid_len is_utf8 encode cookies_of spelled_by groups_bytes groups_error scan_steps encode_symbols sha1 digest_bytes hash_after compress rounds schedule first_words named_for in_layers in_layer in_base in_object searched in_one by_word title_in title_or_id_in ids_in values_in reach_each property_or_child property_in child_at request_names word_at quotation_at value_at attribute_at next_attribute tag_end attributes_at tag_named tag_at name_at entity_at begins_part plain_len part_at nodes_at arms_at template_at head_at dots_at item_at chain chain_at comparison_at and_at or_at not_at token_at tokens_at expression_at rendered sourced object_rendered rendered_if argument needed var_text call_text unless_text object_turn turn each over_items loop_text with_text bound let_text item_text items_text arms_text else_text source_text evaluated first_of fitting shape quoted cased sized html_quote last_space chars first_chars
 no_call_yet = refl
 
 then_the_user : comes_to (sent Post (codes "d" ∷ codes "manage_edit" ∷ []) [] stranger) ≡ Err (Cause (faults.Denied 3 CHANGE_DTML_DOCUMENTS))
-unfolding request with_fields with_credentials page scope_answer scope_page call_on call_with change_for change_by change page_edit edited lawful_text published walked stepped child page_at index found reached containers upwards finds verdict_on judged roles has locals_on local_roles shape_of known_user sought taken_at user_at permission_at fields_of pairs pairs_of raw_pairs split percent_decode named_by whole_number utf8_lossy utf8_valid_len is_utf8 encode cookies_of spelled_by groups_bytes groups_error scan_steps encode_symbols sha1 digest_bytes hash_after compress rounds schedule first_words named_for in_layers in_layer in_base in_object searched in_one by_word title_in title_or_id_in ids_in values_in reach_each property_or_child property_in child_at request_names word_at quotation_at value_at attribute_at next_attribute tag_end attributes_at tag_named tag_at name_at entity_at begins_part plain_len part_at nodes_at arms_at template_at head_at dots_at item_at chain chain_at comparison_at and_at or_at not_at token_at tokens_at expression_at rendered sourced object_rendered rendered_if argument needed var_text call_text unless_text object_turn turn each over_items loop_text with_text bound let_text item_text items_text arms_text else_text source_text evaluated first_of fitting shape quoted cased sized html_quote last_space chars first_chars
+unfolding request with_fields with_credentials page scope_answer scope_page call_on call_with change_for change_by change written call_judged fields_kept field_kept texts_of text_of published walked stepped child page_at index found reached containers upwards finds verdict_on judged roles has locals_on local_roles shape_of known_user sought taken_at user_at permission_at fields_of pairs pairs_of raw_pairs split percent_decode named_by whole_number utf8_lossy utf8_valid_len is_utf8 encode cookies_of spelled_by groups_bytes groups_error scan_steps encode_symbols sha1 digest_bytes hash_after compress rounds schedule first_words named_for in_layers in_layer in_base in_object searched in_one by_word title_in title_or_id_in ids_in values_in reach_each property_or_child property_in child_at request_names word_at quotation_at value_at attribute_at next_attribute tag_end attributes_at tag_named tag_at name_at entity_at begins_part plain_len part_at nodes_at arms_at template_at head_at dots_at item_at chain chain_at comparison_at and_at or_at not_at token_at tokens_at expression_at rendered sourced object_rendered rendered_if argument needed var_text call_text unless_text object_turn turn each over_items loop_text with_text bound let_text item_text items_text arms_text else_text source_text evaluated first_of fitting shape quoted cased sized html_quote last_space chars first_chars
 then_the_user = refl
 
 then_the_call : comes_to (sent Post (codes "d" ∷ codes "manage_edit" ∷ []) [] admin) ≡ Err (Cause (faults.Call (Missing Data)))
-unfolding request with_fields with_credentials page scope_answer scope_page call_on call_with change_for change_by change page_edit edited lawful_text published walked stepped child page_at index found reached containers upwards finds verdict_on judged roles has locals_on local_roles shape_of known_user sought taken_at user_at permission_at fields_of pairs pairs_of raw_pairs split percent_decode named_by whole_number utf8_lossy utf8_valid_len is_utf8 encode cookies_of spelled_by groups_bytes groups_error scan_steps encode_symbols sha1 digest_bytes hash_after compress rounds schedule first_words named_for in_layers in_layer in_base in_object searched in_one by_word title_in title_or_id_in ids_in values_in reach_each property_or_child property_in child_at request_names word_at quotation_at value_at attribute_at next_attribute tag_end attributes_at tag_named tag_at name_at entity_at begins_part plain_len part_at nodes_at arms_at template_at head_at dots_at item_at chain chain_at comparison_at and_at or_at not_at token_at tokens_at expression_at rendered sourced object_rendered rendered_if argument needed var_text call_text unless_text object_turn turn each over_items loop_text with_text bound let_text item_text items_text arms_text else_text source_text evaluated first_of fitting shape quoted cased sized html_quote last_space chars first_chars
+unfolding request with_fields with_credentials page scope_answer scope_page call_on call_with change_for change_by change written call_judged fields_kept field_kept texts_of text_of published walked stepped child page_at index found reached containers upwards finds verdict_on judged roles has locals_on local_roles shape_of known_user sought taken_at user_at permission_at fields_of pairs pairs_of raw_pairs split percent_decode named_by whole_number utf8_lossy utf8_valid_len is_utf8 encode cookies_of spelled_by groups_bytes groups_error scan_steps encode_symbols sha1 digest_bytes hash_after compress rounds schedule first_words named_for in_layers in_layer in_base in_object searched in_one by_word title_in title_or_id_in ids_in values_in reach_each property_or_child property_in child_at request_names word_at quotation_at value_at attribute_at next_attribute tag_end attributes_at tag_named tag_at name_at entity_at begins_part plain_len part_at nodes_at arms_at template_at head_at dots_at item_at chain chain_at comparison_at and_at or_at not_at token_at tokens_at expression_at rendered sourced object_rendered rendered_if argument needed var_text call_text unless_text object_turn turn each over_items loop_text with_text bound let_text item_text items_text arms_text else_text source_text evaluated first_of fitting shape quoted cased sized html_quote last_space chars first_chars
 then_the_call = refl
 
 -- ---- an edit
 
 edit : comes_to (sent Post (codes "d" ∷ codes "manage_edit" ∷ []) (codes "data=x") admin) ≡ Ok (answers.Change done (record { user = codes "admin"; description = codes "/d/manage_edit"; entries = Entry.Write (Name.Old 3) (record_text Second (held 0 (codes "d") [] (parts.Document (codes "x") []))) [] ∷ [] }))
-unfolding request with_fields with_credentials page scope_answer scope_page call_on call_with change_for change_by change page_edit edited lawful_text published walked stepped child page_at index found reached containers upwards finds verdict_on judged roles has locals_on local_roles shape_of known_user sought taken_at user_at permission_at fields_of pairs pairs_of raw_pairs split percent_decode named_by whole_number utf8_lossy utf8_valid_len is_utf8 encode cookies_of spelled_by groups_bytes groups_error scan_steps encode_symbols sha1 digest_bytes hash_after compress rounds schedule first_words named_for in_layers in_layer in_base in_object searched in_one by_word title_in title_or_id_in ids_in values_in reach_each property_or_child property_in child_at request_names word_at quotation_at value_at attribute_at next_attribute tag_end attributes_at tag_named tag_at name_at entity_at begins_part plain_len part_at nodes_at arms_at template_at head_at dots_at item_at chain chain_at comparison_at and_at or_at not_at token_at tokens_at expression_at rendered sourced object_rendered rendered_if argument needed var_text call_text unless_text object_turn turn each over_items loop_text with_text bound let_text item_text items_text arms_text else_text source_text evaluated first_of fitting shape quoted cased sized html_quote last_space chars first_chars
+unfolding request with_fields with_credentials page scope_answer scope_page call_on call_with change_for change_by change written call_judged fields_kept field_kept texts_of text_of published walked stepped child page_at index found reached containers upwards finds verdict_on judged roles has locals_on local_roles shape_of known_user sought taken_at user_at permission_at fields_of pairs pairs_of raw_pairs split percent_decode named_by whole_number utf8_lossy utf8_valid_len is_utf8 encode cookies_of spelled_by groups_bytes groups_error scan_steps encode_symbols sha1 digest_bytes hash_after compress rounds schedule first_words named_for in_layers in_layer in_base in_object searched in_one by_word title_in title_or_id_in ids_in values_in reach_each property_or_child property_in child_at request_names word_at quotation_at value_at attribute_at next_attribute tag_end attributes_at tag_named tag_at name_at entity_at begins_part plain_len part_at nodes_at arms_at template_at head_at dots_at item_at chain chain_at comparison_at and_at or_at not_at token_at tokens_at expression_at rendered sourced object_rendered rendered_if argument needed var_text call_text unless_text object_turn turn each over_items loop_text with_text bound let_text item_text items_text arms_text else_text source_text evaluated first_of fitting shape quoted cased sized html_quote last_space chars first_chars
 edit = refl

@@ -23,10 +23,7 @@ use std::alloc::Global;
 use zbase::{Memory, Text};
 use zknown::Known;
 
-/// The most bytes that a transaction's description has.
-const MOST_DESCRIPTION: usize = 65_535;
-
-// The segments of a path, each behind a slash.
+// The segments of a path, each behind a slash: what describes a change.
 fn path_text(alloc: Global, path: &[Text]) -> Result<Text, Memory>
     ensures { IfOk result (λ text. text ≡ paths.path_text path.now) }
 {
@@ -34,17 +31,6 @@ fn path_text(alloc: Global, path: &[Text]) -> Result<Text, Memory>
     for segment in path {
         text.push_str("/")?;
         text.push_str(segment.as_str())?;
-    }
-    Ok(text)
-}
-
-// A path, where a description has room for it, as it has for that of every message (`descriptions_are_paths`).
-fn described(alloc: Global, path: &[Text]) -> Result<Text, Memory>
-    ensures { IfOk result (λ text. text ≡ spec.described path.now) }
-{
-    let text = path_text(alloc, path)?;
-    if MOST_DESCRIPTION < text.len() {
-        return Ok(Text::new(alloc));
     }
     Ok(text)
 }
@@ -64,7 +50,7 @@ fn draft_of(alloc: Global, request: &Request, user: &Who, change: Change) -> Res
 {
     Ok(Draft {
         user: user_name(alloc, user)?,
-        description: described(alloc, request.path.as_slice())?,
+        description: path_text(alloc, request.path.as_slice())?,
         entries: change.entries,
     })
 }

@@ -5,23 +5,23 @@ ghost use Rattle.evaluator.specs.declared.fact.Fact.{Fact};
 ghost use Rattle.evaluator.specs.declared.outcome.Outcome.{Outcome};
 ghost use Rattle.evaluator.specs.declared.reply.Reply.{Reply};
 ghost use Rattle.evaluator.specs.Change.{IsChange, IsReply};
-ghost use Rattle.evaluator.specs.Exec.{IsLawful, IsTrail, most_asks};
+ghost use Rattle.evaluator.specs.Exec.{IsLawful, IsTrail, WasTaken, most_asks};
 ghost use Rattle.evaluator.specs.Facts.{look};
+ghost use Rattle.http_in.specs.Messages.{one_message};
 ghost use Rattle.http_in.specs.declared.message.Message.{Message};
-ghost use Rattle.publisher.specs.Access.{ChangesAreGranted, ContentsStayApart, DescriptionsArePaths, PagesShowRightly, RefusalsAreDenied};
+ghost use Rattle.publisher.specs.Access.{ChangesAreGranted, ContentsStayApart, PagesShowRightly, RefusalsAreDenied};
 ghost use Rattle.publisher.specs.Site.{site};
 
 use dtml_render::{pages_are_for_their_users, pages_are_their_users_own};
-use http_in::paths_are_short;
 
 /// What a message means to a site keeps the laws of an evaluator: what is decided on true facts is decided so on the whole
 /// history, a change rests on lasting facts alone, what is asked for isn't known, no message asks for more than 12,000
-/// facts, and changes and replies keep their rules.
+/// facts, replies keep their rules, and so do changes of messages that were taken from bytes.
 pub fn messages_are_lawful()
     ensures lawful { IsLawful site }
     ensures few_asks { (facts : List Fact) (message : Message) → IsTrail (λ known. site (look known) message) facts → length facts ≤ most_asks }
     ensures changes { (facts : List Fact) (message : Message) (reply : Reply) (draft : Draft)
-        → site (look facts) message ≡ Outcome.Change reply draft → IsChange (look facts) draft × IsReply reply }
+        → WasTaken one_message message → site (look facts) message ≡ Outcome.Change reply draft → IsChange (look facts) draft × IsReply reply }
     ensures replies { (known : Ask → Option Fact) (message : Message) (reply : Reply) → site known message ≡ Outcome.Answer reply → IsReply reply }
 {}
 
@@ -41,13 +41,6 @@ pub fn pages_show_rightly()
 pub fn changes_are_granted()
     ensures { ChangesAreGranted }
 {}
-
-/// The description of a message's change is the message's path: there is always room for it.
-pub fn descriptions_are_paths()
-    ensures { DescriptionsArePaths }
-{
-    paths_are_short();
-}
 
 /// Contents that a user may not view make no difference to his pages: over two histories that differ at their ends in such
 /// contents alone, where no object has proxy roles, a request for a page has one reply, unless one of both has too much to

@@ -18,10 +18,7 @@ mod site;
 mod state;
 
 pub use answer::Answer;
-pub use laws::{
-    changes_are_granted, contents_stay_apart, descriptions_are_paths, messages_are_lawful,
-    pages_show_rightly,
-};
+pub use laws::{changes_are_granted, contents_stay_apart, messages_are_lawful, pages_show_rightly};
 pub use refusal::SiteRefusal;
 pub use site::Site;
 pub use state::SiteState;

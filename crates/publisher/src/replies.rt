@@ -245,7 +245,13 @@ fn call_halted(alloc: Global, cause: &ManageRefusal) -> Result<Halted, Memory>
         ManageRefusal::TooLong(field) => {
             Ok(refused(line_of(alloc, 400, "too long: ", field_name(*field))?))
         }
+        ManageRefusal::NoSuchId(id) => {
+            Ok(refused(line_of(alloc, 400, "no such id: ", id.as_str())?))
+        }
+        ManageRefusal::Taken(name) => Ok(refused(line_of(alloc, 400, "taken: ", name.as_str())?)),
+        ManageRefusal::TooMany => Ok(refused(line(alloc, 400, "too many")?)),
         ManageRefusal::BadSource(cause) => Ok(refused(bad_source(alloc, *cause)?)),
+        ManageRefusal::TooDeep => Ok(refused(line(alloc, 500, "too deep")?)),
     }
 }
 

@@ -1,4 +1,4 @@
-ghost use Rattle.std.specs.Prelude.{◌≡◌, None, IfOk, false};
+ghost use Rattle.std.specs.Prelude.{◌≡◌, ◌<◌, None, IfOk, false};
 
 use crate::stores::store_of;
 use evaluator::{CellRequest, Cells};
@@ -6,10 +6,13 @@ use fs_store::Store;
 use std::alloc::Global;
 use std::test::Fail;
 use txn_core::{Core, GiveRefusal};
-use zbase::{Oid, Tid};
+use zbase::Tid;
 use zdisk::MemoryDisk;
 
-const COPY: CellRequest = CellRequest::Copy(Oid(1), Oid(1));
+/// A copy of the first object to itself.
+const COPY: &[u8] = b"copy 0000000000000001 0000000000000001";
+
+const LOG: &[u8] = b"log";
 
 /// A core over a store.
 fn core_of(alloc: Global, store: Store<MemoryDisk>) -> Result<Core<MemoryDisk, Cells>, Fail>
@@ -36,9 +39,23 @@ fn reopened(core: Core<MemoryDisk, Cells>) -> Result<(Store<MemoryDisk>, bool), 
     Ok((store, taken[5]))
 }
 
+/// What a worker answers to the request that bytes are; none where they are no request.
+fn given(
+    core: &mut Core<MemoryDisk, Cells>,
+    worker: u32,
+    bytes: &[u8],
+) -> Option<Result<(), (GiveRefusal, CellRequest)>>
+    requires { worker < 16 }
+{
+    match core.take(bytes) {
+        Ok(Some(request)) => Some(core.give(worker, request)),
+        Ok(None) | Err(_) => None,
+    }
+}
+
 /// Gives worker 5 a copy and steps it so often at a stamp. Whether it took the request.
 fn copies(core: &mut Core<MemoryDisk, Cells>, stamp: u64, count: usize) -> bool {
-    let is_given = core.give(5, COPY).is_ok();
+    let is_given = given(core, 5, COPY) == Some(Ok(()));
     for _ in 0..count {
         let _line = core.step(5, Tid(stamp));
     }
@@ -87,13 +104,13 @@ fn a_vote_that_is_out_at_the_end_never_stands(rt: HostRuntime) -> Result<(), Fai
 
 /// Whether worker 3 takes a request, no other until that has ended, and then one again.
 fn takes_one_at_a_time(core: &mut Core<MemoryDisk, Cells>) -> bool {
-    let refused = Err((GiveRefusal::WorkerTaken, CellRequest::Log));
-    let mut is_so = core.give(3, COPY) == Ok(());
+    let refused = Some(Err((GiveRefusal::WorkerTaken, CellRequest::Log)));
+    let mut is_so = given(core, 3, COPY) == Some(Ok(()));
     for _ in 0..5usize {
-        is_so = core.give(3, CellRequest::Log) == refused && is_so;
+        is_so = given(core, 3, LOG) == refused && is_so;
         let _line = core.step(3, Tid(0));
     }
-    core.give(3, CellRequest::Log) == Ok(()) && is_so
+    given(core, 3, LOG) == Some(Ok(())) && is_so
 }
 
 #[test]

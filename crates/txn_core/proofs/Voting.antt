@@ -12,7 +12,7 @@ use Rattle.evaluator.specs.declared.reply.Reply.{Reply}
 use Rattle.evaluator.specs.declared.ask.Ask.{Ask}
 use Rattle.evaluator.specs.declared.fact.Fact.{Fact}
 use Rattle.evaluator.specs.Change.{IsChange, IsReply, made}
-use Rattle.evaluator.specs.Exec.{Eval}
+use Rattle.evaluator.specs.Exec.{Eval, WasTaken}
 use Rattle.evaluator.specs.Facts.{look}
 use Rattle.evaluator.specs.Settle.{settle, size}
 use Rattle.schedule.specs.declared.line.Line.{Line}
@@ -286,14 +286,18 @@ voted_change {R} eval old new a x d p carries ready stands attempt reply =
     let change : comes_to eval a.attempt ≡ Outcome.Change x d = ready_change eval old a x d ready stands in
     (d, rw (attempt, reply) change, subst (λ (k : Attempt R). IsTold new → AsksStand eval new k) (sym attempt) (asks_carried eval old new a.attempt carries stands.5))
 
+-- the evaluator's law of changes
+abbrev Changes : {R : Type 0} → Eval R → (List ℕ → Option R) → Type 0
+Changes {R} eval takes = (facts : List Fact) (q : R) (x : Reply) (d : Draft) → WasTaken takes q → eval (look facts) q ≡ Outcome.Change x d → IsChange (look facts) d × IsReply x
+
 -- the draft that is ready keeps the rules of a change, by the law of the evaluator
-pub ready_draft : {R : Type 0} (eval : Eval R) (st : StoreView) (a : ActiveView R) → ((facts : List Fact) (q : R) (x : Reply) (d : Draft) → eval (look facts) q ≡ Outcome.Change x d → IsChange (look facts) d × IsReply x) → ComputedStands eval st a
+pub ready_draft : {R : Type 0} (eval : Eval R) (takes : List ℕ → Option R) (st : StoreView) (a : ActiveView R) → Changes eval takes → WasTaken takes a.attempt.request → ComputedStands eval st a
     → (x : Reply) × (d : Draft) × (a.ready ≡ Some (x, d)) × IsDraft d
-ready_draft eval st a changes s = (s.0, s.1, s.2, (look a.attempt.facts, (changes a.attempt.facts a.attempt.request s.0 s.1 s.3).0))
+ready_draft eval takes st a changes taken s = (s.0, s.1, s.2, (look a.attempt.facts, (changes a.attempt.facts a.attempt.request s.0 s.1 taken s.3).0))
 
 -- replies keep their rules, by the laws of the evaluator
 pub read_reply : {R : Type 0} (eval : Eval R) (a : ActiveView R) (x : Reply) → ((known : Ask → Option Fact) (q : R) (y : Reply) → eval known q ≡ Outcome.Answer y → IsReply y) → comes_to eval a.attempt ≡ Outcome.Answer x → IsReply x
 read_reply eval a x replies e = replies (look a.attempt.facts) a.attempt.request x e
 
-pub commit_reply : {R : Type 0} (eval : Eval R) (st : StoreView) (p : PendingView R) → ((facts : List Fact) (q : R) (x : Reply) (d : Draft) → eval (look facts) q ≡ Outcome.Change x d → IsChange (look facts) d × IsReply x) → ChangeStands eval st p → IsReply p.reply
-commit_reply eval st p changes s = (changes p.attempt.facts p.attempt.request p.reply s.0 s.1).1
+pub commit_reply : {R : Type 0} (eval : Eval R) (takes : List ℕ → Option R) (st : StoreView) (p : PendingView R) → Changes eval takes → WasTaken takes p.attempt.request → ChangeStands eval st p → IsReply p.reply
+commit_reply eval takes st p changes taken s = (changes p.attempt.facts p.attempt.request p.reply s.0 taken s.1).1

@@ -95,6 +95,7 @@ fn vote<D: Disk + Drop, E: Evaluator>(
     ensures twice { IsVoteLine result.1 → Twice store.old.disk.counter store.new.disk.counter }
 {
     store.is_sound();
+    active.is_sound();
     match active.vote(store, worker, now) {
         Ok(pending) => {
             let tid = pending.tid();
@@ -132,6 +133,7 @@ fn finish<D: Disk + Drop, E: Evaluator>(
     ensures twice { IsVoteLine result.1 → Twice store.old.disk.counter store.new.disk.counter }
 {
     store.is_sound();
+    pending.is_sound();
     let voted = pending.tid();
     match pending.finish(store) {
         Ok((reply, tid)) => (Slot::Idle, StepLine::Commit(reply, tid)),

@@ -63,6 +63,7 @@ impl<D: Disk + Drop, E: Evaluator> Model for Core<D, E> {
 }
 
 impl<D: Disk + Drop, E: Evaluator> Core<D, E> {
+    ghost use Rattle.evaluator.specs.Exec.{WasTaken};
     ghost use Rattle.txn_core.specs.Cores.{HasVoted, IsAtRest, IsIdle, MayBe, is_taken};
 
     /// A core whose workers have no request. For want of memory the parts come back.
@@ -112,14 +113,15 @@ impl<D: Disk + Drop, E: Evaluator> Core<D, E> {
         self.evaluator.take(bytes)
     }
 
-    /// Gives a request to a worker, which is refused exactly where the worker has one; then the request comes back.
-    /// Takes no memory.
+    /// Gives a request that was taken to a worker, which is refused exactly where the worker has one; then the request
+    /// comes back. Takes no memory.
     pub fn give(
         &mut self,
         worker: u32,
         request: E::Request,
     ) -> Result<(), (GiveRefusal, E::Request)>
-        requires { worker < WORKERS }
+        requires worker { worker < WORKERS }
+        requires taken { WasTaken E.takes request }
         ensures idle { OnOk result (IsIdle self.old worker) }
         ensures taken { IfErr result (λ _. IsIdle self.old worker → ⊥) }
         ensures given { OnOk result ((terms : Terms E.Request) (now : ℕ) (bytes : List ℕ) → terms.takes bytes ≡ Some request →

@@ -36,6 +36,6 @@ returns-in_default g c =
       few = g.met.E.Evaluator.few_asks facts request asked.trail;
       once = asked.once;
       lasting = λ reply draft e. g.met.E.Evaluator.lawful.lasting facts request reply draft (sym value ∙ e);
-      change = λ reply draft e. g.met.E.Evaluator.changes facts request reply draft (sym value ∙ e);
+      change = λ reply draft taken e. g.met.E.Evaluator.changes facts request reply draft taken (sym value ∙ e);
       reply = λ reply e. g.met.E.Evaluator.replies (look facts) request reply (sym value ∙ e);
     }

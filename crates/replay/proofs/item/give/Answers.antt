@@ -4,6 +4,9 @@ use Rattle.replay.proofs.Giving.{not_idle}
 use Rattle.replay.proofs.item.give.Goals.{in-Ok, in-Err}
 use Rattle.replay.proofs.item.give.Goals as goal
 
+pub give-requires-clause-taken : goal.give-requires-clause-taken
+give-requires-clause-taken g c = (c.args.bytes.now, ap g.E.Evaluator.takes (sym c.as_slice.ensures) ∙ sym c.in_ok-request.ensures ∙ c.in-Some.is)
+
 pub returns-then-worker-clause-refused : goal.returns-then-worker-clause-refused
 returns-then-worker-clause-refused g c = λ _. inr (not_idle c.args.core.now c.args.worker c.is_sound.ensures.workers c.if-worker.true)
 

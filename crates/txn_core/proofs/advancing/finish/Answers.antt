@@ -20,7 +20,7 @@ returns-in-Err-clause-advances g c =
     unknown {E = g.row.E.Denot} {R = g.row.E-Request.Denot} {S = g.row.E-State.Denot} g.E.Evaluator.meaning c.args.worker c.args.now c.args.store.now c.finish.new.store c.args.pending c.tid-voted.result carries c.requires.vote c.in-Err.ensures.stale c.tid-voted.ensures
 
 pub returns-in-Ok-clause-answered : goal.returns-in-Ok-clause-answered
-returns-in-Ok-clause-answered g c = rw c.in-Ok.ensures.reply.0 (commit_reply g.E.Evaluator.meaning c.args.store.now c.args.pending g.met.E.Evaluator.changes c.requires.change)
+returns-in-Ok-clause-answered g c = rw c.in-Ok.ensures.reply.0 (commit_reply g.E.Evaluator.meaning g.E.Evaluator.takes c.args.store.now c.args.pending g.met.E.Evaluator.changes c.is_sound-2.ensures c.requires.change)
 
 pub returns-in-Err-clause-calm : goal.returns-in-Err-clause-calm
 returns-in-Err-clause-calm g c = λ told calm fresh. absurd (calm tt)

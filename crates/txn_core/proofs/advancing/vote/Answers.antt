@@ -12,7 +12,7 @@ use Rattle.txn_core.proofs.Voting.{computed_busy, ends_lower, ready_draft}
 use Rattle.txn_core.proofs.advancing.vote.Goals as goal
 
 pub vote-requires-clause-ready : goal.vote-requires-clause-ready
-vote-requires-clause-ready g c = ready_draft g.E.Evaluator.meaning c.args.store.now c.args.active g.met.E.Evaluator.changes c.requires.stands
+vote-requires-clause-ready g c = ready_draft g.E.Evaluator.meaning g.E.Evaluator.takes c.args.store.now c.args.active g.met.E.Evaluator.changes c.is_sound-2.ensures.taken c.requires.stands
 
 pub returns-in-Ok-clause-advances : goal.returns-in-Ok-clause-advances
 returns-in-Ok-clause-advances g c =

@@ -9,13 +9,13 @@ use Rattle.connection.proofs.Asking.{answer_decided, change_decided, has_asked}
 use Rattle.connection.proofs.active.Active.turn.Goals as goal
 
 pub invariant_of-self : goal.invariant_of-self
-invariant_of-self g c = (rw append-nil at (c.eval.ensures.fits []), c.self.invariant.1, c.self.invariant.2)
+invariant_of-self g c = (rw append-nil at (c.eval.ensures.fits []), c.self.invariant.1, c.self.invariant.2, c.self.invariant.3)
 
 pub invariant_of-self-in-Answer-1 : goal.invariant_of-self-in-Answer-1
-invariant_of-self-in-Answer-1 g c = (rw append-nil at (c.eval.ensures.fits []), c.self.invariant.1, c.self.invariant.2)
+invariant_of-self-in-Answer-1 g c = (rw append-nil at (c.eval.ensures.fits []), c.self.invariant.1, c.self.invariant.2, c.self.invariant.3)
 
 pub invariant_of-self-in-Change : goal.invariant_of-self-in-Change
-invariant_of-self-in-Change g c = (rw append-nil at (c.eval.ensures.fits []), c.self.invariant.1, c.self.invariant.2)
+invariant_of-self-in-Change g c = (rw append-nil at (c.eval.ensures.fits []), c.self.invariant.1, c.self.invariant.2, c.self.invariant.3)
 
 pub invariant_of-self-in-Ok-learn : goal.invariant_of-self-in-Ok-learn
 invariant_of-self-in-Ok-learn g c =
@@ -23,13 +23,13 @@ invariant_of-self-in-Ok-learn g c =
     let learns = c.in-Ok-learn.ensures.ok in
     let found = learns.0 in
     let wanted : given (look c.self.inside.facts) c.self.inside.request ≡ Outcome.Need (ask_of found) = sym c.in-Ok.ensures.value ∙ c.in-Need.is ∙ ap (λ a. Outcome.Need a) (sym learns.1.0) in
-    rw learns.2 (c.eval.ensures.fits (found ∷ []), rw learns.2 at c.learn.ensures.reads, trail_push (λ known. given (look known) c.self.inside.request) c.self.inside.facts found c.self.invariant.2 wanted)
+    rw learns.2 (c.eval.ensures.fits (found ∷ []), rw learns.2 at c.learn.ensures.reads, trail_push (λ known. given (look known) c.self.inside.request) c.self.inside.facts found c.self.invariant.2 wanted, c.self.invariant.3)
 
 pub invariant_of-self-in-Err-Disk : goal.invariant_of-self-in-Err-Disk
-invariant_of-self-in-Err-Disk g c = rw c.in-Err-Disk.ensures.err (rw append-nil at (c.eval.ensures.fits []), rw c.in-Err-Disk.ensures.err at c.learn.ensures.reads, c.self.invariant.2)
+invariant_of-self-in-Err-Disk g c = rw c.in-Err-Disk.ensures.err (rw append-nil at (c.eval.ensures.fits []), rw c.in-Err-Disk.ensures.err at c.learn.ensures.reads, c.self.invariant.2, c.self.invariant.3)
 
 pub invariant_of-self-in-Err-Memory : goal.invariant_of-self-in-Err-Memory
-invariant_of-self-in-Err-Memory g c = rw c.in-Err-Memory.ensures.err (rw append-nil at (c.eval.ensures.fits []), rw c.in-Err-Memory.ensures.err at c.learn.ensures.reads, c.self.invariant.2)
+invariant_of-self-in-Err-Memory g c = rw c.in-Err-Memory.ensures.err (rw append-nil at (c.eval.ensures.fits []), rw c.in-Err-Memory.ensures.err at c.learn.ensures.reads, c.self.invariant.2, c.self.invariant.3)
 
 pub returns-in-Answer-clause-asked : goal.returns-in-Answer-clause-asked
 returns-in-Answer-clause-asked g c =
