@@ -1,8 +1,9 @@
 #!/usr/bin/env python3
 """Runs `zope check` over files of 10,000 and of 1,000,000 records beside `sha1sum` of them.
 
-Each object has one record; the ids rise, or come in random order. The cost of a record is the command's time by the
-number of records; it is also told without the time that starting the program takes.
+Each object has one record; the ids rise, come in random order, or lie 65,536 apart; or they rise in a single
+transaction. The cost of a record is the command's time by the number of records; it is also told without the time that
+starting the program takes.
 """
 
 import argparse
@@ -56,11 +57,11 @@ def compare(made, order, given):
     their digests and an empty file."""
     files = {}
     for records in (0, given.few, given.records):
-        oids = list(range(records))
+        oids = [number << 16 for number in range(records)] if order == "apart" else list(range(records))
         if order == "random":
             random.Random(1).shuffle(oids)
         path = made / f"{order}-{records}.fs"
-        files[records] = path, write_file(path, oids, given.size)
+        files[records] = path, write_file(path, oids, given.size, max(records, 1) if order == "one" else 1000)
     kept = {}
     for _ in range(given.rounds):
         for records, (path, end) in files.items():
@@ -80,7 +81,7 @@ def main():
     given = words.parse_args()
     # builds the program where that is due
     subprocess.run([PROGRAM, "check", HOME / "demo" / "site.fs"], stdout=subprocess.DEVNULL, check=True)
-    for order in ("rising", "random"):
+    for order in ("rising", "random", "apart", "one"):
         with tempfile.TemporaryDirectory() as made:
             files, kept = compare(pathlib.Path(made), order, given)
         started = kept[0][0]
@@ -89,7 +90,8 @@ def main():
             seconds, digest, end = kept[records][0], kept["sha1sum", records][0], files[records][1]
             print(f"{order} ids, {records} records, {end} bytes: {seconds:.4f} s, sha1sum {digest:.4f} s, ratio {seconds / digest:.2f}")
         # a child's greatest memory counts what it had of this process, which for the small file is more
-        print(f"{order} ids: memory {kept[given.records][1] / files[given.records][1]:.2f} times the file")
+        memory = kept[given.records][1]
+        print(f"{order} ids: memory {memory / files[given.records][1]:.2f} times the file, {(memory - kept[0][1]) / given.records:.1f} bytes a record")
         few, many = kept[given.few][0], kept[given.records][0]
         times = given.few / given.records
         print(f"{order} ids: a record of {given.records} costs {many / few * times:.2f} times one of {given.few}; without the start of the program {(many - started) / (few - started) * times:.2f} times")

@@ -3,7 +3,7 @@
 
     bench/gate.py [REVISION [CRATE..]]
 
-With crates it is these and those below them alone.
+With crates it is these and those below them alone, where the kit's gate takes crates.
 
 Ten times a second it looks at the processor time of each process that proves. A row of the table is a crate: the minutes of
 one processor for its proof and its program, and for its wrong bodies; the tests of a crate, and a crate whose name ends in
@@ -60,10 +60,16 @@ def watch(session, ended, spent):
         time.sleep(0.1)
 
 
+def words_of(crates):
+    """The gate from nothing. A kit whose gate keeps nothing between runs has no word for that, and takes no crates."""
+    keeps = "--anew" in subprocess.run(["rt", "help"], capture_output=True, text=True, check=False).stdout
+    return ["rt", "ci", *(["--anew", *crates] if keeps else [])]
+
+
 def run(clone, crates):
     """The run's status, its provers by process, its time by the clock and that of all processors, in seconds."""
     began, spent, ended = time.monotonic(), {}, threading.Event()
-    with subprocess.Popen(["rt", "ci", "--anew", *crates], cwd=clone, start_new_session=True) as gate:
+    with subprocess.Popen(words_of(crates), cwd=clone, start_new_session=True) as gate:
         watcher = threading.Thread(target=watch, args=(gate.pid, ended, spent))
         watcher.start()
         status = gate.wait()

@@ -3,9 +3,7 @@ use crate::telling::{
 };
 use cases::{Case, CasesRefusal, Part, Runner, add_bytes, add_line, add_number, put_word};
 use fs_record::DataHead;
-use fs_scan::{
-    Checked, ScanRefusal, Scanned, Walk, check, follow_from, read_head, scan, scan_bytes,
-};
+use fs_scan::{Checked, ScanRefusal, Scanned, Walk, check, follow_from, read_head, scan};
 use std::alloc::Global;
 use zbase::{Bytes, Value};
 use zdisk::{Disk, MemoryDisk};
@@ -13,8 +11,8 @@ use zdisk::{Disk, MemoryDisk};
 /// Files: `file` is one, and `failing disk NUMBER` a call of its disk that is to fail; each of these is read from a disk
 /// of its own. A file that has damage gives `damaged KIND PLACE` in place of the words, and a call that failed `fault`.
 ///
-/// - `scan end N torn N greatest HEX last HEX packed HEX transactions N`, the same of `scan_bytes` without a disk, `rows`
-///   with a line `HEX PLACE` for each object's last record, and `scan_calls N`;
+/// - `scan end N torn N greatest HEX last HEX packed HEX transactions N`, `rows` with a line `HEX PLACE` for each object's
+///   last record, and `scan_calls N`;
 /// - `check transactions N objects N last HEX end N torn N`, and `check_calls N`;
 /// - `walk` with the lines `transaction PLACE HEX STATUS USER DESCRIPTION EXTENSION` and `record HEX VALUE` up to `end` or
 ///   the damage; behind `fault` it goes on; `walk_calls N`;
@@ -77,7 +75,7 @@ fn put_places(
         return Ok(());
     };
     let mut rows = Bytes::new(alloc);
-    put_rows(alloc, &mut rows, scanned.rows.as_slice())?;
+    put_rows(alloc, &mut rows, scanned.newest.rows()?.as_slice())?;
     add_bytes(alloc, parts, "rows", rows)
 }
 
@@ -91,15 +89,12 @@ fn scanned(
     Ok((found, disk.calls()))
 }
 
-// Scans the file, on a disk and without one.
+// Scans the file.
 fn run_scan(alloc: Global, case: &Case, parts: &mut Vec<Part>) -> Result<(), CasesRefusal> {
     let (found, calls) = scanned(alloc, case)?;
     put_scan(alloc, parts, "scan", &found)?;
     put_places(alloc, parts, &found)?;
-    add_number(alloc, parts, "scan_calls", calls)?;
-    let bytes = case.bytes(alloc, "file")?;
-    let without = scan_bytes(alloc, bytes.as_slice());
-    put_scan(alloc, parts, "scan_bytes", &without)
+    add_number(alloc, parts, "scan_calls", calls)
 }
 
 // What a check of the case's disk says, and how many calls it made.

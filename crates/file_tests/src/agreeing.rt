@@ -2,7 +2,7 @@
 
 use crate::naive::{Answer, Passed, Said, history, read_file};
 use fs_record::Damage;
-use fs_scan::{Checked, ScanRefusal, Scanned, Walk, Whole, check_bytes, scan};
+use fs_scan::{Checked, ScanRefusal, Scanned, Walk, Whole, check, scan};
 use std::alloc::Global;
 use std::mem;
 use std::test::*;
@@ -23,7 +23,7 @@ use Has::{Back, Data};
 type Made = (u8, &'static [(u64, Has)]);
 
 /// Files without damage.
-const FILES: [&[Made]; 10] = [
+const FILES: [&[Made]; 11] = [
     &[],
     &[(b' ', &[])],
     &[(b' ', &[(0, Data(3))])],
@@ -56,6 +56,19 @@ const FILES: [&[Made]; 10] = [
         (b' ', &[(1, Data(3)), (2, Data(2))]),
         (b'u', &[(7, Data(1))]),
         (b' ', &[(1, Back(1)), (2, Data(4))]),
+    ],
+    // the first id and the last one there is, and ids that have no row in common
+    &[
+        (
+            b' ',
+            &[
+                (u64::MAX, Data(1)),
+                (131_072, Data(2)),
+                (0, Data(1)),
+                (65_536, Data(1)),
+            ],
+        ),
+        (b' ', &[(u64::MAX, Back(1)), (65_536, Back(0))]),
     ],
 ];
 
@@ -151,7 +164,7 @@ fn file_of(alloc: Global, transactions: &[Made]) -> Result<Vec<u8>, Memory> {
 
 fn said(alloc: Global, scanned: &Scanned, checked: &Checked) -> Result<Said, Memory> {
     let mut newest = Vec::new(alloc);
-    for row in scanned.rows.as_slice() {
+    for row in scanned.newest.rows()?.as_slice() {
         newest.push((row.oid.0, row.place))?;
     }
     Ok(Said {
@@ -169,7 +182,7 @@ fn said(alloc: Global, scanned: &Scanned, checked: &Checked) -> Result<Said, Mem
 // What a scan and a check say of the bytes; an error where these two differ.
 fn scanned(alloc: Global, bytes: &[u8]) -> Result<Answer, Fail> {
     let mut disk = MemoryDisk::new(alloc, Bytes::from_slice(alloc, bytes)?);
-    match (scan(alloc, &mut disk), check_bytes(alloc, bytes)) {
+    match (scan(alloc, &mut disk), check(alloc, &mut disk)) {
         (Ok(scanned), Ok(checked)) => {
             let of_scan = (scanned.count, scanned.last, scanned.end, scanned.torn);
             let of_check = (

@@ -1,33 +1,42 @@
-ghost use Rattle.std.specs.Prelude.{◌≡◌, ◌==◌, if◌then◌else◌, ℕ, All, None, OnOk};
-ghost use Rattle.fs_index.specs.Places.{known};
+ghost use Rattle.std.specs.Prelude.{◌≡◌, ◌==◌, ◌++◌, ◌<◌, ◌%◌, ◌^◌, if◌then◌else◌, ℕ, All, IfOk, None, Some, OnOk, false, true};
+ghost use Rattle.std.specs.List.Sorted.{IsStrictlySortedBy};
+ghost use Rattle.std.specs.Map.{keys_of};
+ghost use Rattle.std.specs.BTreeMap.Range.{IsLeBy, IsLtBy, entries_between};
+ghost use Rattle.std.specs.Range.Bound.{IsForward};
+ghost use Rattle.std.specs.Ordering.{nat_cmp};
+ghost use Rattle.std.specs.declared.ops.Bound.TheVariants.{Included};
+ghost use Rattle.fs_index.specs.Listed.{Lists, known_rows};
+ghost use Rattle.fs_index.specs.Places.{is_in_row, Keeps, known};
 
+use crate::place::Place;
+use crate::row::{ROW, Row, add_known};
 use std::alloc::Global;
 use std::collections::BTreeMap;
 use std::marker::Model;
-use zbase::{Memory, Oid};
+use std::ops::Bound;
+use zbase::{Memory, Oid, Rows};
 
-/// How many places at most are kept in a row for each object, so that a few objects with great ids don't take much.
-const SPREAD: u64 = 8;
+/// How many objects of a row's ids there are when it begins.
+const FEW: usize = 32;
 
-/// By how many ids at most the row grows with an object, so that none has to wait till a long tree is taken over.
-const STRIDE: u64 = 16;
+/// How many numbers a row may have: the first six bytes of an id.
+const PREFIXES: u64 = 1 << 48;
 
 /// Places by object, counted in bytes from the file's start. An object may be there without a place: then room is kept
 /// for it.
 ///
-/// Ids are given out one after another, so the places of nearly all objects stand in a row, each at the number that is
-/// its object's id: one is found at once, however many there are. Ids that are far from the others, as of a file from
-/// elsewhere, are in a tree. Where there are enough objects for a row that reaches these, it takes them over, some with
-/// each object that comes.
+/// Ids are given out one after another, so the places of nearly all objects stand in rows of the ids that have the first
+/// six bytes in common, each at the number that the last two bytes are. One is found at once, however many there are. Ids
+/// that are far from the others, as of a file from elsewhere, are in a tree. Where there are enough objects for a row that
+/// reaches these, it takes them over, some with each object that comes.
 #[derive(Drop)]
 pub struct Index {
-    /// The places of the first ids; 0 where only room is kept, as FileStorage itself writes 0 for no record: there
-    /// stands the file's magic.
-    near: Vec<u64>,
-    /// The places of ids behind these, alike.
-    far: BTreeMap<u64, u64>,
-    /// For how many objects room was taken.
-    taken: u64,
+    alloc: Global,
+    /// By the first six bytes of their ids. In a row stands 0 where only room is kept, as FileStorage itself writes 0 for no
+    /// record: there stands the file's magic.
+    rows: BTreeMap<u64, Row>,
+    /// The places of ids that are in no row, alike.
+    few: BTreeMap<u64, Place>,
 }
 
 impl Model for Index {
@@ -35,11 +44,18 @@ impl Model for Index {
 
     ghost Value = { Slots };
 
-    ghost view = { λ index. record { near = index.near.items; far = index.far.entries } };
+    ghost view = { λ index. record { rows = index.rows.entries; few = index.few.entries } };
+}
+
+// The number of an id in its row.
+fn number_of(id: u64) -> usize
+    ensures { result ≡ id % 65536 }
+{
+    (id % ROW) as usize
 }
 
 impl Index {
-    ghost use Rattle.fs_index.specs.Places.{HasRoom, place_of, slot_of};
+    ghost use Rattle.fs_index.specs.Places.{HasRoom, is_in_row, Keeps, place_of, slot_of};
 
     /// No object has a place. Takes no memory.
     #[tactic(auto, unfolding(crate::specs::Places::slot_of))]
@@ -47,9 +63,9 @@ impl Index {
         ensures { (o : ℕ) → place_of result o ≡ None }
     {
         Index {
-            near: Vec::new(alloc),
-            far: BTreeMap::new(alloc),
-            taken: 0,
+            alloc,
+            rows: BTreeMap::new(alloc),
+            few: BTreeMap::new(alloc),
         }
     }
 
@@ -68,10 +84,22 @@ impl Index {
     fn slot(&self, id: u64) -> Option<u64>
         ensures { result ≡ slot_of self.now id }
     {
-        if id < self.near.len() as u64 {
-            Some(self.near[id as usize])
-        } else {
-            self.far.get(&id).copied()
+        if let Some(row) = self.rows.get(&(id / ROW)) {
+            if let Some(place) = row.get(number_of(id)) {
+                return Some(place);
+            }
+        }
+        self.few.get(&id).map(|place| place.number())
+    }
+
+    // Whether the object's place stands in a row.
+    #[tactic(auto, unfolding(crate::specs::Places::is_in_row))]
+    fn is_in_row(&self, id: u64) -> bool
+        ensures { result ≡ is_in_row self.now id }
+    {
+        match self.rows.get(&(id / ROW)) {
+            Some(row) => number_of(id) < row.len(),
+            None => false,
         }
     }
 
@@ -87,7 +115,6 @@ impl Index {
         Ok(())
     }
 
-    #[tactic(auto, unfolding(crate::specs::Places::slot_of))]
     fn reserve_one(&mut self, oid: Oid) -> Result<(), Memory>
         ensures places { (o : ℕ) → place_of self.new o ≡ place_of self.old o }
         ensures room { OnOk result (HasRoom self.new oid) }
@@ -98,14 +125,24 @@ impl Index {
             return Ok(());
         }
         self.lengthen(id)?;
-        self.add_far(id)?;
-        self.taken = self.taken.saturating_add(1);
-        Ok(())
+        self.add_few(id)?;
+        self.begin_row(id)
     }
 
-    // Keeps room in the tree for an object that has none, neither there nor in the row.
+    // Makes the row of an id longer towards it, where there is one, and enough objects in it.
+    fn lengthen(&mut self, id: u64) -> Result<(), Memory>
+        ensures { Keeps self.old self.new }
+    {
+        let number = id / ROW;
+        match self.rows.get_mut(&number) {
+            Some(row) => row.lengthen(&mut self.few, number, number_of(id)),
+            None => Ok(()),
+        }
+    }
+
+    // Keeps room in the tree for an object that has none, neither there nor in a row.
     #[tactic(auto, unfolding(crate::specs::Places::slot_of))]
-    fn add_far(&mut self, id: u64) -> Result<(), Memory>
+    fn add_few(&mut self, id: u64) -> Result<(), Memory>
         ensures places { (o : ℕ) → place_of self.new o ≡ place_of self.old o }
         ensures room { OnOk result (HasRoom self.new id) }
         ensures keeps { (o : ℕ) → HasRoom self.old o → HasRoom self.new o }
@@ -113,60 +150,116 @@ impl Index {
         if self.slot(id).is_some() {
             return Ok(());
         }
-        match self.far.insert(id, 0) {
+        match self.few.insert(id, Place::new(0)) {
             Ok(_) => Ok(()),
             Err(_) => Err(Memory),
         }
     }
 
-    // Makes the row longer towards an id, where there are enough objects for it.
-    fn lengthen(&mut self, id: u64) -> Result<(), Memory>
-        ensures places { (o : ℕ) → place_of self.new o ≡ place_of self.old o }
-        ensures keeps { (o : ℕ) → HasRoom self.old o → HasRoom self.new o }
+    // Whether the tree has enough ids for a row of this number.
+    fn are_enough(&self, number: u64) -> bool
+        requires { number < 2 ^ 48 }
     {
-        for _ in 0..STRIDE {
-            let next = self.near.len() as u64;
-            if id < next || self.taken < next / SPREAD {
-                return Ok(());
+        let first = number * ROW;
+        let mut left = FEW;
+        for _ in self.few.range(first..=first + (ROW - 1)) {
+            if left <= 1 {
+                return true;
             }
-            self.add_near()?;
+            left -= 1;
         }
-        Ok(())
+        false
     }
 
-    // Makes the row longer by the next id, whose place comes out of the tree.
-    #[tactic(auto, unfolding(crate::specs::Places::slot_of))]
-    fn add_near(&mut self) -> Result<(), Memory>
-        ensures places { (o : ℕ) → place_of self.new o ≡ place_of self.old o }
-        ensures keeps { (o : ℕ) → HasRoom self.old o → HasRoom self.new o }
+    // Begins the row of an id, where there is none, and there are enough objects for it.
+    fn begin_row(&mut self, id: u64) -> Result<(), Memory>
+        ensures { Keeps self.old self.new }
     {
-        let id = self.near.len() as u64;
-        let place = match self.far.get(&id) {
-            Some(place) => *place,
-            None => 0,
-        };
-        self.near.push(place)?;
-        let _ = self.far.remove(&id);
-        Ok(())
+        let number = id / ROW;
+        match self.rows.get(&number) {
+            Some(_) => return Ok(()),
+            None => {}
+        }
+        if !self.are_enough(number) {
+            return Ok(());
+        }
+        match self.rows.insert(number, Row::new(self.alloc, FEW)) {
+            Ok(_) => Ok(()),
+            Err(_) => Err(Memory),
+        }
     }
 
     /// Puts an object at a place, in the stead of its earlier one; at 0 it has none. It takes no memory and can't fail,
     /// since the object is there, or room is kept for it.
-    #[tactic(auto, unfolding(crate::specs::Places::slot_of))]
     pub fn put(&mut self, oid: Oid, place: u64)
-        requires { HasRoom self.old oid }
+        requires room { HasRoom self.old oid }
+        requires fits { place < 2 ^ 48 }
         ensures places { (o : ℕ) → place_of self.new o ≡ (if oid == o then known place else place_of self.old o) }
         ensures keeps { (o : ℕ) → HasRoom self.old o → HasRoom self.new o }
     {
-        let id = oid.0;
-        if id < self.near.len() as u64 {
-            self.near[id as usize] = place;
+        if self.is_in_row(oid.0) {
+            self.put_in_row(oid.0, place);
         } else {
-            match self.far.insert(id, place) {
-                Ok(_) => {}
-                Err(_) => unreachable!(),
+            self.put_few(oid.0, place);
+        }
+    }
+
+    // Puts a place in its row.
+    fn put_in_row(&mut self, id: u64, place: u64)
+        requires row { is_in_row self.old id ≡ true }
+        requires fits { place < 2 ^ 48 }
+        ensures { (o : ℕ) → slot_of self.new o ≡ (if id == o then Some place else slot_of self.old o) }
+    {
+        match self.rows.get_mut(&(id / ROW)) {
+            Some(row) => row.put(number_of(id), place),
+            None => unreachable!(),
+        }
+    }
+
+    // Puts a place in the tree.
+    #[tactic(auto, unfolding(crate::specs::Places::slot_of, crate::specs::Places::is_in_row))]
+    fn put_few(&mut self, id: u64, place: u64)
+        requires row { is_in_row self.old id ≡ false }
+        requires room { HasRoom self.old id }
+        requires fits { place < 2 ^ 48 }
+        ensures { (o : ℕ) → slot_of self.new o ≡ (if id == o then Some place else slot_of self.old o) }
+    {
+        match self.few.insert(id, Place::new(place)) {
+            Ok(_) => {}
+            Err(_) => unreachable!(),
+        }
+    }
+
+    // Adds the places that the tree has from an id on and before a bound.
+    fn list_few(&self, rows: &mut Rows, from: u64, to: Bound<u64>) -> Result<(), Memory>
+        requires { IsForward (IsLeBy nat_cmp) (IsLtBy nat_cmp) (Included from) to }
+        ensures listed { OnOk result (rows.new ≡ rows.old ++ known_rows (entries_between nat_cmp (Included from) to self.now.few)) }
+        ensures ordered { IsStrictlySortedBy nat_cmp (keys_of self.now.few) }
+    {
+        for (id, place) in self.few.range((Bound::Included(from), to)) {
+            add_known(rows, *id, place.number())?;
+        }
+        Ok(())
+    }
+
+    /// Each object's place, by rising id. It goes over the index once.
+    pub fn rows(&self) -> Result<Rows, Memory>
+        ensures { IfOk result (Lists self.now) }
+    {
+        let mut rows = Rows::new(self.alloc);
+        let mut from = 0;
+        for (number, row) in self.rows.range(0..PREFIXES) {
+            let first = *number * ROW;
+            self.list_few(&mut rows, from, Bound::Excluded(first))?;
+            row.list(&mut rows, first)?;
+            // none where the row ends with the last id
+            match first.checked_add(row.reach()) {
+                Some(behind) => from = behind,
+                None => return Ok(rows),
             }
         }
+        self.list_few(&mut rows, from, Bound::Included(u64::MAX))?;
+        Ok(rows)
     }
 }
 

@@ -5,5 +5,8 @@
 #![tactic(auto)]
 
 mod index;
+mod place;
+mod row;
 
 pub use index::Index;
+pub use place::Place;

@@ -1,10 +1,11 @@
 -- The objects that have a value, counted by each object's last record.
-use Rattle.std.proofs.Common.{◌≡◌, ℕ, ◌+◌, ◌<◌, ◌≤◌, Bool, true, false, cond, eqb, ◌&&◌, ◌||◌, List, [], ◌∷◌, ◌++◌, length, map, filter, Option, Some, None, refl, sym, ap, ap₂, subst, ◌∙◌, arith, inl, inr}
+use Rattle.std.proofs.Common.{◌≡◌, ℕ, ◌+◌, ◌<◌, ◌≤◌, ◌^◌, IfSome, Bool, true, false, cond, eqb, ◌&&◌, ◌||◌, List, [], ◌∷◌, ◌++◌, length, map, filter, Option, Some, None, refl, sym, ap, ap₂, subst, ◌∙◌, arith, inl, inr}
 use Rattle.std.specs.Prelude.{◌⊎◌, ◌==◌, find, option_map, if◌then◌else◌}
 use Rattle.std.specs.Option.{is_some}
 use Rattle.std.specs.List.{list_any, AllByRecursion}
 use Rattle.std.proofs.lemmas.List.{length-map}
-use Rattle.std.proofs.lemmas.Bool.{eqb-true, eq-eqb, ne_eqb, false≢true}
+use Rattle.std.proofs.lemmas.Bool.{cases_lt, eqb-true, eq-eqb, ne_eqb, false≢true}
+use Rattle.zdisk.specs.Disk.{Told, content}
 use Rattle.zbase.specs.Values.{Revision, revisions, newest, value_of, value}
 use Rattle.zbase.specs.declared.ids.Row.{Row}
 use Rattle.fs_record.specs.File.{Earlier, Front, rows, is_row}
@@ -13,7 +14,9 @@ use Rattle.fs_record.specs.Standing.{IsRevision, LastStands}
 use Rattle.fs_record.specs.StandingLaws.{each_stands, last_stands}
 use Rattle.fs_scan.specs.declared.opening.Scanned.{Scanned}
 use Rattle.fs_scan.specs.declared.checking.Checked.{Checked}
-use Rattle.fs_scan.specs.Newest.{last_row, place_for, place_in, OidsRiseFrom, AreNewest}
+use Rattle.fs_index.specs.Listed.{Lists, OidsRiseFrom, place_for}
+use Rattle.fs_index.specs.Places.{Slots}
+use Rattle.fs_scan.specs.Newest.{IsNewest, last_row, place_in}
 use Rattle.fs_scan.specs.Present.{AllStand, ArePlaces, means_value, IdsRiseFrom, HaveValues}
 use Rattle.fs_scan.specs.Scanned.{Tells}
 use Rattle.fs_scan.specs.Checked.{Checks}
@@ -87,6 +90,27 @@ places_in : (records : List Earlier) (newest rs : List Row) → ((oid : ℕ) →
 places_in records newest [] each have = tt
 places_in records newest (r ∷ rs) each have = (is_there r.oid r.place (rows records) (sym (each r.oid) ∙ have.0), places_in records newest rs each have.1)
 
+-- each object's last data record, by rising ids
+record AreNewest (all newest : List Row) : Type 0 where
+  rise : OidsRiseFrom 0 newest
+  each : (oid : ℕ) → place_for oid newest ≡ last_row oid None all
+
+-- an object with a record has an id of eight bytes
+no_more : (bytes : List ℕ) (records : List Earlier) (oid : ℕ) (found : Option ℕ) → AllStand bytes records → last_row oid None (rows records) ≡ found → 2 ^ 64 ≤ oid → found ≡ None
+no_more bytes records oid None all e le = refl
+no_more bytes records oid (Some place) all e le =
+    let found = all oid place (is_there oid place (rows records) e) in
+    absurd (omega (arith, le, found.1.stands.fits.head.oid, found.1.object))
+
+are_newest : (bytes : List ℕ) (records : List Earlier) (index : Slots) (rs : List Row) → AllStand bytes records → IsNewest (rows records) index → Lists index rs → AreNewest (rows records) rs
+are_newest bytes records index rs all newest lists = record {
+  rise = lists.rise;
+  each = λ oid. elim (cases_lt oid (2 ^ 64)) [
+    | inl lt ↦ lists.each oid lt ∙ newest oid
+    | inr le ↦ lists.ids oid le ∙ sym (no_more bytes records oid (last_row oid None (rows records)) all refl le)
+  ];
+}
+
 -- each row of the last records is a record's
 are_places : (records : List Earlier) (newest : List Row) → AreNewest (rows records) newest → ArePlaces records newest
 are_places records newest are = places_in records newest newest are.each (have_places 0 newest are.rise)
@@ -144,7 +168,7 @@ value_told bytes front n o cut =
     value_by (cut.1.file ++ cut.0) front.records o _ (newest (revisions front.history) o) refl
     (subst (λ (p : ℕ). LastStands (cut.1.file ++ cut.0) front.records o p (newest (revisions front.history) o)) (sym (row_place o None (rows front.records))) (last_stands cut.1.file cut.0 front cut.1.is_file o))
 
-pub have_values : (bytes : List ℕ) (front : Front) (n : ℕ) (rs : List Row) → Cut bytes front n → AreNewest (rows front.records) rs → HaveValues front.history (length (filter (λ (row : Row). means_value front.records row.place) rs))
+have_values : (bytes : List ℕ) (front : Front) (n : ℕ) (rs : List Row) → Cut bytes front n → AreNewest (rows front.records) rs → HaveValues front.history (length (filter (λ (row : Row). means_value front.records row.place) rs))
 have_values bytes front n rs cut are = record {
   oids = oids_of (means_value front.records) rs;
   rise = ids_rise 0 0 (means_value front.records) rs are.rise (omega arith);
@@ -152,14 +176,27 @@ have_values bytes front n rs cut are = record {
   count = sym (length-map (filter (λ (row : Row). means_value front.records row.place) rs) (λ (row : Row). row.oid));
 }
 
--- what a scan tells, with the number of its rows that mean a value
-pub checks : (bytes : List ℕ) (s : Scanned) (c : Checked) → (t : Tells bytes s) → ((records : List Earlier) → AllStand bytes records → ArePlaces records s.rows → c.objects ≡ length (filter (λ (row : Row). means_value records row.place) s.rows))
+-- what a scan tells, with the number of its objects that mean a value
+checks_told : (bytes : List ℕ) (s : Scanned) (c : Checked) (rs : List Row) → (t : Tells bytes s) → Lists s.newest rs → ((records : List Earlier) → AllStand bytes records → ArePlaces records rs → c.objects ≡ length (filter (λ (row : Row). means_value records row.place) rs))
     → c.end ≡ s.end → c.torn ≡ s.torn → c.last ≡ s.last → c.transactions ≡ s.count → Checks bytes c
-checks bytes s c t counted end torn last count = record {
-  front = t.front;
-  cut = subst (Cut bytes t.front) (sym end) t.cut;
-  torn = ap₂ (λ (x y : ℕ). x + y) end torn ∙ t.torn;
-  last = last ∙ t.last;
-  transactions = count ∙ t.count;
-  objects = subst (HaveValues t.front.history) (sym (counted t.front.records (all_stand bytes t.front s.end t.cut) (are_places t.front.records s.rows t.rows))) (have_values bytes t.front s.end s.rows t.cut t.rows);
-}
+checks_told bytes s c rs t lists counted end torn last count =
+    let all = all_stand bytes t.front s.end t.cut in
+    let are = are_newest bytes t.front.records s.newest rs all t.newest lists in
+    record {
+      front = t.front;
+      cut = subst (Cut bytes t.front) (sym end) t.cut;
+      torn = ap₂ (λ (x y : ℕ). x + y) end torn ∙ t.torn;
+      last = last ∙ t.last;
+      transactions = count ∙ t.count;
+      objects = subst (HaveValues t.front.history) (sym (counted t.front.records all (are_places t.front.records rs are))) (have_values bytes t.front s.end rs t.cut are);
+    }
+
+-- the same, where the disk tells
+pub checks : (disk given : Option Told) (s : Scanned) (c : Checked) (rs : List Row) → given ≡ disk → IfSome disk (λ told. Tells (content told) s) → Lists s.newest rs
+    → IfSome given (λ told. (records : List Earlier) → AllStand (content told) records → ArePlaces records rs → c.objects ≡ length (filter (λ (row : Row). means_value records row.place) rs))
+    → c.end ≡ s.end → c.torn ≡ s.torn → c.last ≡ s.last → c.transactions ≡ s.count → IfSome disk (λ told. Checks (content told) c)
+checks None given s c rs same tells lists counted end torn last count = tt
+checks (Some told) given s c rs same tells lists counted end torn last count =
+    checks_told (content told) s c rs tells lists
+    (subst (λ (g : Option Told). IfSome g (λ told. (records : List Earlier) → AllStand (content told) records → ArePlaces records rs → c.objects ≡ length (filter (λ (row : Row). means_value records row.place) rs))) same counted)
+    end torn last count

@@ -4,7 +4,6 @@ pub mod Backwards
 pub mod CopiedTexts
 pub mod DataAt
 pub mod DataPlaces
-pub mod KeptPages
 pub mod KeptPlaces
 pub mod OneByOne
 pub mod RisingPlaces

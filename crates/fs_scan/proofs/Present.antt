@@ -1,10 +1,12 @@
 -- What is read of a record where it stands, and the records to which it points back.
-use Rattle.std.proofs.Common.{◌≡◌, ◌≢◌, ℕ, zero, suc, get_or, filter, ◌+◌, ◌<◌, ◌≤◌, ◌^◌, Bool, true, false, cond, eqb, ◌||◌, List, [], ◌∷◌, ◌++◌, length, take, drop, Option, Some, None, refl, sym, ap, subst, ◌∙◌, append_assoc, arith}
-use Rattle.std.specs.Option.{is_some}
+use Rattle.std.proofs.Common.{◌≡◌, ◌≢◌, ℕ, zero, suc, get_or, filter, ◌+◌, ◌-◌, ◌<◌, ◌≤◌, ◌^◌, Bool, true, false, cond, eqb, IfSome, ◌||◌, List, [], ◌∷◌, ◌++◌, length, take, drop, Option, Some, None, refl, sym, ap, subst, ◌∙◌, append_assoc, arith, inl, inr}
+use Rattle.std.specs.Prelude.{◌⊎◌}
+use Rattle.std.specs.Option.{ForSome, is_some}
+use Rattle.zdisk.specs.Disk.{Told, bytes_at, content}
 use Rattle.std.specs.List.{list_any}
 use Rattle.std.proofs.lemmas.List.Filters.{length-filter_more}
 use Rattle.zbase.specs.declared.ids.Row.{Row}
-use Rattle.std.proofs.lemmas.List.{length-append, length-drop, drop_at}
+use Rattle.std.proofs.lemmas.List.{length-append, length-drop, drop_at, drop-append-le, take-append-drop}
 use Rattle.std.proofs.lemmas.Bool.{eq-eqb, ne_eqb, false≢true}
 use Rattle.zbase.specs.Numbers.{be64, be16}
 use Rattle.zbase.specs.NumberLaws.{length-be64, length-be16, same_be64}
@@ -77,6 +79,39 @@ points_back bytes long d more place read long_fits fits e none there lt =
     let r = length_is bytes long d more read long_fits fits e in
     body_back d.body place (drop 42 bytes) (drop 50 bytes) more fits.body (sym r.0 ∙ none) r.1 there lt
 
+-- ---- the same, where a disk tells, by so many bytes at the record's front
+
+-- what is said of the back pointer that was found there
+abbrev pub PointsTo : Option Told → ℕ → Option ℕ → Type 0
+PointsTo disk at back = IfSome disk (λ told. (d : Data) (more : List ℕ) → FitsData d → drop at (content told) ≡ data_spelling d ++ more → back ≡ back_in d.body)
+
+pub short_at : (disk : Option Told) (len at left : ℕ) → ForSome disk (λ told. len ≡ length (content told)) → left ≡ len - at → left < 50 → PointsTo disk at None
+short_at None len at left whole is few = tt
+short_at (Some told) len at left whole is few = λ d more fits e. no_room (drop at (content told)) d more e (omega (arith, length-drop at (content told), whole told refl, is, few))
+
+-- a number in the front stands in the whole
+in_whole : (n m long : ℕ) (front rest : List ℕ) → length front ≡ 50 → n ≤ 50 → m ≤ 50 → front ≡ take 50 rest → drop n front ≡ be64 long ++ drop m front → drop n rest ≡ be64 long ++ drop m rest
+in_whole n m long front rest size le lem is read =
+    let whole : rest ≡ front ++ drop 50 rest = sym (take-append-drop 50 rest) ∙ ap (λ (x : List ℕ). x ++ drop 50 rest) (sym is) in
+    let behind : drop m front ++ drop 50 rest ≡ drop m rest = sym (drop-append-le m front (drop 50 rest) (omega (arith, size, lem))) ∙ ap (drop m) (sym whole) in
+    ap (drop n) whole
+    ∙ drop-append-le n front (drop 50 rest) (omega (arith, size, le))
+    ∙ ap (λ (x : List ℕ). x ++ drop 50 rest) read
+    ∙ append_assoc (be64 long) (drop m front) (drop 50 rest)
+    ∙ ap (λ (x : List ℕ). be64 long ++ x) behind
+
+pub full_at : (disk : Option Told) (at long : ℕ) (front : List ℕ) → length front ≡ 50 → IfSome disk (λ told. front ≡ bytes_at told at (length front)) → drop 34 front ≡ be64 long ++ drop 42 front → long < 2 ^ 64 → long ≢ 0 → PointsTo disk at None
+full_at None at long front size is read lt some = tt
+full_at (Some told) at long front size is read lt some = λ d more fits e.
+    has_data (drop at (content told)) long d more (in_whole 34 42 long front (drop at (content told)) size (omega arith) (omega arith) (is ∙ ap (λ (n : ℕ). take n (drop at (content told))) size) read) lt fits e some
+
+pub back_there : (disk : Option Told) (at long place : ℕ) (front : List ℕ) → length front ≡ 50 → IfSome disk (λ told. front ≡ bytes_at told at (length front)) → drop 34 front ≡ be64 long ++ drop 42 front → long < 2 ^ 64 → long ≡ 0 → drop 42 front ≡ be64 place ++ drop 50 front → place < 2 ^ 64 → PointsTo disk at (Some place)
+back_there None at long place front size is read lt none there fits_place = tt
+back_there (Some told) at long place front size is read lt none there fits_place = λ d more fits e.
+    let rest = drop at (content told) in
+    let taken = is ∙ ap (λ (n : ℕ). take n rest) size in
+    points_back rest long d more place (in_whole 34 42 long front rest size (omega arith) (omega arith) taken read) lt fits e none (in_whole 42 50 place front rest size (omega arith) (omega arith) taken there) fits_place
+
 -- ---- the way back
 
 abbrev pub Leads : List Earlier → ℕ → ℕ → Option ℕ → Type 0
@@ -101,11 +136,45 @@ leads bytes rest records oid at o e says all is =
     subst (Leads records oid at) (sym (says s.written s.behind s.fits (e ∙ s.spelled)))
     (body_leads records oid at s.written.body (found.1.value ∙ s.value) (subst (λ (o : ℕ). is_right_body (rows records) o s.written.body ≡ true) found.1.object s.right) s.before)
 
--- a record stands before the end
-pub within : (bytes : List ℕ) (records : List Earlier) (oid at : ℕ) → AllStand bytes records → IsPlace records oid at → length bytes ≤ at → ⊥
-within bytes records oid at all is le =
-    let s = (all oid at is).1.stands in
-    too_short (drop at bytes) s.written s.behind s.fits s.spelled (omega (arith, length-drop at bytes))
+-- ---- the way back, where a disk tells
+
+-- the record that was come to is the object's, and means what the first one means
+abbrev pub Came : Option Told → ℕ → ℕ → Type 0
+Came disk place at = IfSome disk (λ told. (records : List Earlier) (oid : ℕ) → AllStand (content told) records → IsPlace records oid place → IsPlace records oid at × (value_at at records ≡ value_at place records))
+
+-- what is said of whether it means a value
+abbrev pub HasValue : Option Told → ℕ → Bool → Type 0
+HasValue disk place has = IfSome disk (λ told. (records : List Earlier) (oid : ℕ) → AllStand (content told) records → IsPlace records oid place → has ≡ means_value records place)
+
+pub came_first : (disk : Option Told) (place : ℕ) → Came disk place place
+came_first None place = tt
+came_first (Some told) place = λ records oid all is. (is, refl)
+
+on_way : (told : Told) (given : Option Told) (at : ℕ) (back : Option ℕ) (records : List Earlier) (oid : ℕ) → given ≡ Some told → PointsTo given at back → AllStand (content told) records → IsPlace records oid at → Leads records oid at back
+on_way told given at back records oid same points all is = leads (content told) (drop at (content told)) records oid at back refl (subst (λ (g : Option Told). PointsTo g at back) same points) all is
+
+pub has_one : (disk given : Option Told) (place at : ℕ) → given ≡ disk → Came disk place at → PointsTo given at None → HasValue disk place true
+has_one None given place at same came points = tt
+has_one (Some told) given place at same came points = λ records oid all is.
+    let here = came records oid all is in
+    sym (on_way told given at None records oid same points all here.0) ∙ ap is_some here.1
+
+pub has_none : (disk given : Option Told) (place at back : ℕ) → given ≡ disk → Came disk place at → PointsTo given at (Some back) → (back ≡ 0) ⊎ (at ≤ back) → HasValue disk place false
+has_none None given place at back same came points ends = tt
+has_none (Some told) given place at back same came points ends = λ records oid all is.
+    let here = came records oid all is in
+    let way = on_way told given at (Some back) records oid same points all here.0 in
+    elim ends [
+      | inl none ↦ sym (way.1 none) ∙ ap is_some here.1
+      | inr behind ↦ absurd (omega (arith, way.0, behind))
+    ]
+
+pub came_on : (disk given : Option Told) (place at back : ℕ) → given ≡ disk → Came disk place at → PointsTo given at (Some back) → back ≢ 0 → Came disk place back
+came_on None given place at back same came points some = tt
+came_on (Some told) given place at back same came points some = λ records oid all is.
+    let here = came records oid all is in
+    let way = (on_way told given at (Some back) records oid same points all here.0).2 some in
+    (way.0, way.1 ∙ here.1)
 
 -- ---- counting
 
@@ -121,3 +190,30 @@ counts_on records rows i count next row has is lt means put counted =
     put ∙ ap (λ (n : ℕ). n + cond has 1 0) counted
     ∙ ap (λ (b : Bool). length (filter (λ (row : Row). means_value records row.place) (take i rows)) + cond b 1 0) (means ∙ ap (λ (r : Row). means_value records r.place) is)
     ∙ sym (length-filter_more (λ (row : Row). means_value records row.place) rows i row lt)
+
+-- so many of the first rows mean a value, where a disk tells
+abbrev pub Counted : Option Told → List Row → ℕ → ℕ → Type 0
+Counted disk rows i count = IfSome disk (λ told. (records : List Earlier) → AllStand (content told) records → ArePlaces records rows → count ≡ length (filter (λ (row : Row). means_value records row.place) (take i rows)))
+
+pub count_none : (disk : Option Told) (rows : List Row) → Counted disk rows 0 0
+count_none None rows = tt
+count_none (Some told) rows = λ records all places. refl
+
+pub count_one : (disk given : Option Told) (rows : List Row) (i count next : ℕ) (row : Row) (has : Bool) → given ≡ disk → row ≡ get_or rows i row → i < length rows → HasValue given row.place has → next ≡ count + cond has 1 0 → Counted disk rows i count → Counted disk rows (i + 1) next
+count_one None given rows i count next row has same is lt value put counted = tt
+count_one (Some told) given rows i count next row has same is lt value put counted = λ records all places.
+    counts_on records rows i count next row has is lt
+    (subst (λ (g : Option Told). HasValue g row.place has) same value records row.oid all (subst (λ (r : Row). IsPlace records r.oid r.place) (sym is) (place_of records rows i row places lt)))
+    put (counted records all places)
+
+pub count_all : (disk : Option Told) (rows : List Row) (i count : ℕ) → take i rows ≡ rows → Counted disk rows i count → IfSome disk (λ told. (records : List Earlier) → AllStand (content told) records → ArePlaces records rows → count ≡ length (filter (λ (row : Row). means_value records row.place) rows))
+count_all None rows i count all counted = tt
+count_all (Some told) rows i count all counted = λ records stand places. counted records stand places ∙ ap (λ (rs : List Row). length (filter (λ (row : Row). means_value records row.place) rs)) all
+
+pub next_count : (has : Bool) (count next : ℕ) → (has ≡ true → next ≡ count + 1) → (has ≡ false → next ≡ count) → next ≡ count + cond has 1 0
+next_count true count next more same = more refl
+next_count false count next more same = omega (arith, same refl)
+
+pub few_more : (has : Bool) (count next i : ℕ) → next ≡ count + cond has 1 0 → count ≤ i → next ≤ i + 1
+few_more true count next i e le = omega arith
+few_more false count next i e le = omega arith

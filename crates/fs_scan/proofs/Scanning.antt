@@ -1,20 +1,18 @@
 -- A scan that has come to a place.
-use Rattle.std.proofs.Common.{◌≡◌, ℕ, ◌+◌, ◌*◌, ◌≤◌, Bool, true, false, List, [], ◌∷◌, ◌++◌, length, drop, refl, sym, ap, subst, ◌∙◌, append_assoc, arith, inl, inr}
-use Rattle.std.specs.Prelude.{◌==◌, IsErrOf, Err, if◌then◌else◌}
+use Rattle.std.proofs.Common.{◌≡◌, ℕ, ◌+◌, ◌*◌, ◌≤◌, Bool, true, false, List, [], ◌∷◌, ◌++◌, length, drop, refl, sym, ap, subst, ◌∙◌, append_assoc, arith, inr}
+use Rattle.std.specs.Prelude.{◌==◌, if◌then◌else◌}
 use Rattle.std.proofs.lemmas.List.{length-append, drop-drop}
 use Rattle.zbase.specs.declared.ids.Row.{Row}
 use Rattle.zbase.specs.Values.{last}
 use Rattle.fs_record.specs.declared.damage.Damage.{Damage as Kind}
-use Rattle.fs_record.specs.declared.damage.Damage.TheVariants.{BadMagic}
 use Rattle.fs_record.specs.Spelling.{Block, block_spelling}
 use Rattle.fs_record.specs.SpellingLaws.{length-block}
 use Rattle.fs_record.specs.File.{rows, magic, front_of, bytes_of, AreRight}
 use Rattle.fs_record.specs.Opening.{is_end, SplitsAt, Damaged}
 use Rattle.fs_scan.specs.declared.extent.Extent.{Extent}
 use Rattle.fs_scan.specs.declared.opening.Scanned.{Scanned}
-use Rattle.fs_scan.specs.declared.opening.ScanRefusal.{ScanRefusal}
 use Rattle.fs_scan.specs.Extent.{block_in}
-use Rattle.fs_scan.specs.Newest.{greatest_of, AreNewest}
+use Rattle.fs_scan.specs.Newest.{greatest_of, IsNewest}
 use Rattle.fs_scan.specs.Rising.{RiseWithin}
 use Rattle.fs_scan.specs.Scanned.{Tells}
 use Rattle.fs_scan.specs.Taking.{Takes, IsDamageAt}
@@ -83,7 +81,7 @@ split bytes at id floor count places c = record {
 }
 
 -- the end was met
-pub told : (bytes : List ℕ) (places : List Row) (s : Scanned) → ScansTo bytes s.end s.last s.floor s.count places → is_end (drop s.end bytes) ≡ true → s.end + s.torn ≡ length bytes → s.greatest ≡ greatest_of places → AreNewest places s.rows → Tells bytes s
+pub told : (bytes : List ℕ) (places : List Row) (s : Scanned) → ScansTo bytes s.end s.last s.floor s.count places → is_end (drop s.end bytes) ≡ true → s.end + s.torn ≡ length bytes → s.greatest ≡ greatest_of places → IsNewest places s.newest → Tells bytes s
 told bytes places s c e torn greatest newest = record {
   front = front_of c.blocks;
   cut = (drop s.end bytes, split bytes s.end s.last s.floor s.count places c, e);
@@ -92,7 +90,7 @@ told bytes places s c e torn greatest newest = record {
   last = sym c.ids;
   floor = sym c.floors;
   count = sym c.counted;
-  rows = subst (λ (rs : List Row). AreNewest rs s.rows) (sym c.stood) newest;
+  newest = subst (λ (rs : List Row). IsNewest rs s.newest) (sym c.stood) newest;
 }
 
 -- a damage was met
@@ -101,20 +99,6 @@ damaged bytes at id floor count places kind c e d =
     let front = front_of c.blocks in
     let place : front.place ≡ at = block_place c.blocks c.right ∙ sym c.at_end in
     inr (front, drop at bytes, split bytes at id floor count places c, e, rw (place, c.ids, c.stood) d)
-
-pub no_magic : (bytes : List ℕ) → ((more : List ℕ) → bytes ≡ magic ++ more → ⊥) → Damaged bytes 0 BadMagic
-no_magic bytes none = inl (refl, refl, none)
-
-pub same_damage : (bytes : List ℕ) (k kind : Kind) (at place : ℕ) → Damaged bytes at k → IsErrOf {T = Scanned} (Err (ScanRefusal.Damaged k at)) (ScanRefusal.Damaged kind place) → Damaged bytes place kind
-same_damage bytes k kind at place d e =
-    let ks : k ≡ kind = cc in
-    let ps : at ≡ place = cc in
-    subst (λ (n : ℕ). Damaged bytes n kind) ps (subst (λ (x : Kind). Damaged bytes at x) ks d)
-
--- with what the scan keeps behind the transaction
-pub goes_on : (bytes : List ℕ) (at id floor count id2 floor2 count2 : ℕ) (old new : List Row) (e : Extent) → ScansTo bytes at id floor count old → Takes (drop at bytes) at id old new e
-    → id2 ≡ (if e.head.status == 117 then id else e.head.tid) → floor2 ≡ (if e.head.status == 112 then e.head.tid else floor) → count2 ≡ (if e.head.status == 117 then count else count + 1) → ScansTo bytes (at + (e.long + 8)) id2 floor2 count2 new
-goes_on bytes at id floor count id2 floor2 count2 old new e c k i f n = rw (i, f, n) (went bytes at id floor count old new e c k)
 
 -- ---- what it has cost
 

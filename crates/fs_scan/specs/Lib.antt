@@ -3,7 +3,6 @@ pub mod Marked
 pub mod Extent
 pub mod Taking
 pub mod Rising
-pub mod Pages
 pub mod Newest
 pub mod OnlyReads
 pub mod Wholes

@@ -4,7 +4,7 @@ use Rattle.zbase.specs.Values.{last}
 use Rattle.fs_record.specs.File.{AreRight, Front, bytes_of, rows}
 use Rattle.fs_record.specs.Opening.{Cut}
 use Rattle.fs_record.specs.Spelling.{Block}
-use Rattle.fs_scan.specs.Newest.{greatest_of, AreNewest}
+use Rattle.fs_scan.specs.Newest.{greatest_of, IsNewest}
 use Rattle.fs_scan.specs.declared.opening.Scanned.{Scanned}
 
 -- what is told of bytes that open
@@ -16,7 +16,7 @@ pub record Tells (bytes : List ℕ) (s : Scanned) : Type 0 where
   pub last : s.last ≡ last front.history
   pub floor : s.floor ≡ front.history.floor
   pub count : s.count ≡ length front.history.transactions
-  pub rows : AreNewest (rows front.records) s.rows
+  pub newest : IsNewest (rows front.records) s.newest
 
 -- the bytes begin with a file of these transactions
 abbrev pub BeginWith : List ℕ → List Block → Type 0

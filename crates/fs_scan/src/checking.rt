@@ -1,4 +1,5 @@
-ghost use Rattle.std.specs.Prelude.{◌≡◌, ◌++◌, ℕ, List, filter, length, IfOk, IfSome, IsErrOf};
+ghost use Rattle.std.specs.Prelude.{◌≡◌, ◌++◌, ℕ, List, drop, filter, length, IfOk, IfSome, IsErr, IsErrOf};
+ghost use Rattle.std.specs.Option.{ForSome};
 ghost use Rattle.zdisk.specs.Disk.{content};
 ghost use Rattle.fs_record.specs.declared.damage.Damage.{Damage as Kind};
 ghost use Rattle.fs_record.specs.File.{Earlier};
@@ -10,10 +11,10 @@ ghost use Rattle.fs_scan.specs.Checked.{Checks};
 ghost use Rattle.fs_scan.specs.OnlyReads.{OnlyReads};
 ghost use Rattle.fs_scan.specs.Present.{AllStand, ArePlaces, back_in, means_value};
 
-use crate::opening::{ScanRefusal, read_whole, scan_bytes};
+use crate::opening::{ScanRefusal, scan};
 use fs_record::{BACK_RECORD_LEN, DATA_HEAD_LEN, DATA_LENGTH_AT};
 use std::alloc::Global;
-use zbase::{Row, Tid, u64_at};
+use zbase::{Failed, Row, Tid, u64_at};
 use zdisk::Disk;
 
 /// The numbers of a file that opens.
@@ -31,68 +32,77 @@ pub struct Checked {
     pub torn: u64,
 }
 
-/// Where the data record at the front points back to, none where it has data.
-///
-/// It reads the length and the back pointer alone: the newest records of the objects stand anywhere in the file, and
-/// the less of each is read, the more of them the processor fetches at once.
-fn back_of(bytes: &[u8]) -> Option<u64>
-    ensures { (d : Data) (more : List ℕ) → FitsData d → bytes.now ≡ data_spelling d ++ more → result ≡ back_in d.body }
+/// Where the data record at a place points back to, none where it has data; in a disk's file of this length. One device
+/// call at most, and no memory.
+fn back_at<D: Disk>(disk: &mut D, len: u64, at: u64) -> Result<Option<u64>, Failed>
+    requires { ForSome (D.told disk.old) (λ told. len ≡ length (content told)) }
+    ensures back { IfOk result (λ back. IfSome (D.told disk.old) (λ told. (d : Data) (more : List ℕ) → FitsData d → drop at (content told) ≡ data_spelling d ++ more
+        → back ≡ back_in d.body)) }
+    ensures only_reads { OnlyReads D.Disk disk.old disk.new (IsErr result) }
 {
     // a back pointer ends a record of so many bytes, so one with less behind it has data
-    if bytes.len() < BACK_RECORD_LEN {
-        return None;
+    if len.saturating_sub(at) < BACK_RECORD_LEN as u64 {
+        return Ok(None);
     }
-    if u64_at(bytes, DATA_LENGTH_AT) != 0 {
-        return None;
+    let mut front = [0u8; BACK_RECORD_LEN];
+    disk.read_at(at, &mut front)?;
+    if u64_at(&front, DATA_LENGTH_AT) != 0 {
+        return Ok(None);
     }
-    Some(u64_at(bytes, DATA_HEAD_LEN))
+    Ok(Some(u64_at(&front, DATA_HEAD_LEN)))
 }
 
-/// Whether the data record at this place means a value: it has data, or points back to a record that means one.
-fn has_value(bytes: &[u8], place: u64) -> bool
-    ensures { (records : List Earlier) (oid : ℕ) → AllStand bytes.now records → IsPlace records oid place → result ≡ means_value records place }
+/// Whether the data record at this place means a value: it has data, or points back to a record that means one. One device
+/// call for each record on the way.
+fn has_value<D: Disk>(disk: &mut D, len: u64, place: u64) -> Result<bool, Failed>
+    requires { ForSome (D.told disk.old) (λ told. len ≡ length (content told)) }
+    ensures value { IfOk result (λ has. IfSome (D.told disk.old) (λ told. (records : List Earlier) (oid : ℕ) → AllStand (content told) records
+        → IsPlace records oid place → has ≡ means_value records place)) }
+    ensures only_reads { OnlyReads D.Disk disk.old disk.new (IsErr result) }
 {
     let mut at = place;
-    'back: while at < bytes.len() as u64 {
-        let Some(back) = back_of(&bytes[at as usize..]) else {
-            return true;
+    'back: loop {
+        let Some(back) = back_at(disk, len, at)? else {
+            return Ok(true);
         };
-        if back == 0 {
-            return false;
-        }
-        // only of bytes that are no file, since a back pointer names an earlier place
-        if back >= at {
-            return false;
+        // an earlier place, since the file was judged: a disk that tells nothing may say what it likes
+        if back == 0 || back >= at {
+            return Ok(false);
         }
         at = back;
     }
-    false
 }
 
 /// How many of these data records mean a value.
-fn count_present(bytes: &[u8], rows: &[Row]) -> u64
-    ensures { (records : List Earlier) → AllStand bytes.now records → ArePlaces records rows.now
-        → result ≡ length (filter (λ row. means_value records row.place) rows.now) }
+fn count_present<D: Disk>(disk: &mut D, len: u64, rows: &[Row]) -> Result<u64, Failed>
+    requires { ForSome (D.told disk.old) (λ told. len ≡ length (content told)) }
+    ensures count { IfOk result (λ count. IfSome (D.told disk.old) (λ told. (records : List Earlier) → AllStand (content told) records → ArePlaces records rows.now
+        → count ≡ length (filter (λ row. means_value records row.place) rows.now))) }
+    ensures only_reads { OnlyReads D.Disk disk.old disk.new (IsErr result) }
 {
     let mut count = 0;
     'rows: for row in rows {
-        if has_value(bytes, row.place) {
+        if has_value(disk, len, row.place)? {
             count += 1;
         }
     }
-    count
+    Ok(count)
 }
 
-/// The numbers of bytes that open, or what is wrong with them and where. It copies nothing.
+/// The numbers of the file of a disk, or what is wrong with it and where. It holds no more of the file than a scan does, and
+/// changes nothing.
 ///
 /// FileStorage format notes.
-pub fn check_bytes(alloc: Global, bytes: &[u8]) -> Result<Checked, ScanRefusal>
-    ensures told { IfOk result (Checks bytes.now) }
-    ensures damaged { (kind : Kind) (place : ℕ) → IsErrOf result (ScanRefusal.Damaged kind place) → Damaged bytes.now place kind }
-    ensures no_fault { IsErrOf result ScanRefusal.Disk → ⊥ }
+pub fn check<D: Disk>(alloc: Global, disk: &mut D) -> Result<Checked, ScanRefusal>
+    ensures told { IfOk result (λ checked. IfSome (D.told disk.old) (λ told. Checks (content told) checked)) }
+    ensures damaged { (kind : Kind) (place : ℕ) → IsErrOf result (ScanRefusal.Damaged kind place)
+        → IfSome (D.told disk.old) (λ told. Damaged (content told) place kind) }
+    ensures only_reads { OnlyReads D.Disk disk.old disk.new (IsErrOf result ScanRefusal.Disk) }
 {
-    let scanned = scan_bytes(alloc, bytes)?;
-    let objects = count_present(bytes, scanned.rows.as_slice());
+    let scanned = scan(alloc, disk)?;
+    let len = disk.len()?;
+    let rows = scanned.newest.rows()?;
+    let objects = count_present(disk, len, rows.as_slice())?;
     Ok(Checked {
         transactions: scanned.count,
         objects,
@@ -100,15 +110,4 @@ pub fn check_bytes(alloc: Global, bytes: &[u8]) -> Result<Checked, ScanRefusal>
         end: scanned.end,
         torn: scanned.torn,
     })
-}
-
-/// The numbers of the file of a disk, or what is wrong with it and where. It reads the file once and changes nothing.
-pub fn check<D: Disk>(alloc: Global, disk: &mut D) -> Result<Checked, ScanRefusal>
-    ensures told { IfOk result (λ checked. IfSome (D.told disk.old) (λ told. Checks (content told) checked)) }
-    ensures damaged { (kind : Kind) (place : ℕ) → IsErrOf result (ScanRefusal.Damaged kind place)
-        → IfSome (D.told disk.old) (λ told. Damaged (content told) place kind) }
-    ensures only_reads { OnlyReads D.Disk disk.old disk.new (IsErrOf result ScanRefusal.Disk) }
-{
-    let bytes = read_whole(alloc, disk)?;
-    check_bytes(alloc, bytes.as_slice())
 }

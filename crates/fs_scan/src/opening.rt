@@ -7,18 +7,17 @@ ghost use Rattle.fs_scan.specs.Scanned.{CostsScan, Tells};
 ghost use Rattle.fs_scan.specs.declared.opening.ScanRefusal.TheVariants as refusals;
 
 use crate::extent::{Extent, last_behind};
-use crate::magic::has_magic;
-use crate::places::Places;
-use crate::step::{Step, take_one};
+use crate::step::Step;
 use crate::walk::Walk;
-use crate::window::{Window, read_range};
+use crate::window::Window;
+use fs_index::Index;
 use fs_record::{Damage, MAGIC_LEN, STATUS_PACKED, STATUS_UNDONE, TAIL_LEN};
 use std::alloc::{AllocError, Global};
-use zbase::{Failed, Memory, Oid, Rows, Tid};
+use zbase::{Failed, Memory, Oid, Tid};
 use zdisk::Disk;
 
 /// What a file that opens has.
-#[derive(Debug, Drop)]
+#[derive(Drop)]
 pub struct Scanned {
     /// Where its last whole transaction ends, in bytes from the file's start.
     pub end: u64,
@@ -32,8 +31,8 @@ pub struct Scanned {
     pub floor: Tid,
     /// The number of transactions that count.
     pub count: u64,
-    /// Where each object's last data record stands, by rising id.
-    pub rows: Rows,
+    /// Where each object's last data record stands.
+    pub newest: Index,
 }
 
 /// Why a file isn't scanned.
@@ -122,8 +121,8 @@ impl Tally {
     }
 
     /// What is told where the file ends here, and so many bytes stand behind it.
-    fn told(self, torn: u64, greatest: Option<Oid>, rows: Rows) -> Scanned
-        ensures { result ≡ record { end = self.at; torn = torn; greatest = greatest; last = self.last; floor = self.floor; count = self.count; rows = rows } }
+    fn told(self, torn: u64, greatest: Option<Oid>, newest: Index) -> Scanned
+        ensures { result ≡ record { end = self.at; torn = torn; greatest = greatest; last = self.last; floor = self.floor; count = self.count; newest = newest } }
     {
         Scanned {
             end: self.at,
@@ -132,46 +131,9 @@ impl Tally {
             last: self.last,
             floor: self.floor,
             count: self.count,
-            rows,
+            newest,
         }
     }
-}
-
-/// What bytes tell that open, or what is wrong with them and where. It keeps where each data record stands, and
-/// copies nothing.
-///
-/// FileStorage format notes: a file is read forward from its start, and a write that was broken off ends it.
-pub fn scan_bytes(alloc: Global, bytes: &[u8]) -> Result<Scanned, ScanRefusal>
-    ensures told { IfOk result (Tells bytes.now) }
-    ensures damaged { (kind : Kind) (place : ℕ) → IsErrOf result (ScanRefusal.Damaged kind place) → Damaged bytes.now place kind }
-    ensures no_fault { IsErrOf result ScanRefusal.Disk → ⊥ }
-{
-    if !has_magic(bytes) {
-        return Err(ScanRefusal::Damaged(Damage::BadMagic, 0));
-    }
-    let mut places = Places::new(alloc);
-    let mut tally = Tally::new();
-    'each: loop {
-        let rest = &bytes[tally.at as usize..];
-        match take_one(&mut places, rest, tally.at, tally.last)? {
-            Step::End => {
-                let rows = places.newest()?;
-                return Ok(tally.told(rest.len() as u64, places.greatest(), rows));
-            }
-            Step::Damaged(kind) => return Err(ScanRefusal::Damaged(kind, tally.at)),
-            Step::Right(extent) => tally = tally.behind(&extent),
-        }
-    }
-}
-
-/// All bytes of a disk's file.
-pub fn read_whole<D: Disk>(alloc: Global, disk: &mut D) -> Result<Vec<u8>, ScanRefusal>
-    ensures all { IfOk result (λ bytes. IfSome (D.told disk.old) (λ told. content told ≡ bytes.items)) }
-    ensures undamaged { (kind : Kind) (place : ℕ) → IsErrOf result (ScanRefusal.Damaged kind place) → ⊥ }
-    ensures only_reads { OnlyReads D.Disk disk.old disk.new (IsErrOf result ScanRefusal.Disk) }
-{
-    let len = disk.len()?;
-    read_range(alloc, disk, 0, len)
 }
 
 /// What the file of a disk has: its end, its torn rest, each object's last data record; or what is wrong with it
@@ -194,8 +156,9 @@ pub fn scan<D: Disk>(alloc: Global, disk: &mut D) -> Result<Scanned, ScanRefusal
         window.show(disk, len, tally.at)?;
         match walk.step(window.as_slice(), tally.at)? {
             Step::End => {
-                let rows = walk.newest()?;
-                return Ok(tally.told(len.saturating_sub(tally.at), walk.greatest(), rows));
+                let torn = len.saturating_sub(tally.at);
+                let greatest = walk.greatest();
+                return Ok(tally.told(torn, greatest, walk.into_index()));
             }
             Step::Damaged(kind) => return Err(ScanRefusal::Damaged(kind, tally.at)),
             Step::Right(extent) => tally = tally.behind(&extent),

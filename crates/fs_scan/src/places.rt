@@ -1,13 +1,14 @@
 ghost use Rattle.std.specs.Prelude.{◌≡◌, ◌<◌, ◌++◌, ◌∷◌, [], IfOk, IfErr, OnOk, OnErr};
 ghost use Rattle.std.specs.List.{list_any, All};
 ghost use Rattle.fs_record.specs.File.{last_place, is_row};
-ghost use Rattle.fs_scan.specs.Newest.{greatest_of, or_greater, AreNewest};
+ghost use Rattle.fs_scan.specs.Newest.{IsNewest, greatest_of, or_greater};
 ghost use Rattle.fs_scan.specs.Rising.{RiseFrom, IsAt, NoneAt, AddsFirst};
 
-use crate::pages::Pages;
+use fs_index::Index;
+use fs_record::MAX_LENGTH;
 use std::alloc::Global;
 use std::marker::Model;
-use zbase::{Memory, Oid, Row, Rows};
+use zbase::{Memory, Oid, Row};
 
 /// The places of a file's data records, which contracts see as a list, from the oldest to the newest. They rise.
 ///
@@ -17,7 +18,7 @@ use zbase::{Memory, Oid, Row, Rows};
 pub struct Places {
     rows: Vec<Row>,
     /// Where each object's last record stands.
-    newest: Pages,
+    newest: Index,
     /// The greatest id of an object with a record.
     greatest: Option<u64>,
 }
@@ -41,7 +42,7 @@ impl Places {
     {
         Places {
             rows: Vec::new(alloc),
-            newest: Pages::new(alloc),
+            newest: Index::new(alloc),
             greatest: None,
         }
     }
@@ -55,7 +56,7 @@ impl Places {
     pub fn last_place(&self, oid: Oid) -> u64
         ensures { result ≡ last_place oid 0 self.now }
     {
-        self.newest.get(oid.0).unwrap_or(0)
+        self.newest.get(oid).unwrap_or(0)
     }
 
     // The index of the record at this place.
@@ -77,15 +78,20 @@ impl Places {
         }
     }
 
-    // Adds a record behind all others. For want of memory the list stays as it was.
+    // Adds a record behind all others. For want of memory the list stays as it was; so it does where the place has more
+    // than six bytes, as none of a file has that may be opened.
     fn push(&mut self, row: Row) -> Result<(), Memory>
         requires rise { RiseFrom 0 (self.old ++ row ∷ []) }
         requires placed { 0 < row.place }
         ensures ok { OnOk result (self.new ≡ self.old ++ row ∷ []) }
         ensures err { OnErr result (self.new ≡ self.old) }
     {
+        if row.place > MAX_LENGTH {
+            return Err(Memory);
+        }
         self.rows.reserve(1)?;
-        self.newest.insert(row.oid.0, row.place)?;
+        self.newest.reserve(&[row.oid])?;
+        self.newest.put(row.oid, row.place);
         self.greatest = Some(or_greater(row.oid.0, self.greatest));
         match self.rows.push(row) {
             Ok(()) => Ok(()),
@@ -113,11 +119,16 @@ impl Places {
         self.greatest.map(|oid| Oid(oid))
     }
 
-    /// Where each object's last record stands, by rising id.
-    pub fn newest(&self) -> Result<Rows, Memory>
-        ensures { IfOk result (AreNewest self.now) }
+    /// Where each object's last record stands, without a copy.
+    pub fn into_index(self) -> Index
+        ensures { IsNewest self result }
     {
-        self.newest.rows(self.alloc())
+        let Places {
+            rows: _,
+            newest,
+            greatest: _,
+        } = self;
+        newest
     }
 }
 

@@ -8,7 +8,7 @@ ghost use Rattle.fs_record.specs.Spelling.{Data};
 ghost use Rattle.fs_scan.specs.Extent.{IsWhole, area_in};
 ghost use Rattle.fs_scan.specs.Followed.{MeansWhole};
 ghost use Rattle.fs_scan.specs.Marked.{AreRecords};
-ghost use Rattle.fs_scan.specs.Newest.{AreNewest, greatest_of};
+ghost use Rattle.fs_scan.specs.Newest.{IsNewest, greatest_of};
 ghost use Rattle.fs_scan.specs.OnlyReads.{OnlyReads};
 ghost use Rattle.fs_scan.specs.Walked.{IsOn, Steps, Walks, begun, place_on, standing};
 
@@ -19,11 +19,12 @@ use crate::step::{Step, take_one};
 use crate::valued::read_whole_in;
 use crate::window::{Window, read_range};
 use crate::{ScanRefusal, Whole};
+use fs_index::Index;
 use fs_record::{Damage, MAGIC_LEN, STATUS_UNDONE};
 use std::alloc::Global;
 use std::marker::Model;
 use std::mem;
-use zbase::{Memory, Oid, Rows, Tid};
+use zbase::{Memory, Oid, Tid};
 use zdisk::Disk;
 
 /// A walk over the transactions of a file, from the oldest to the newest. It keeps the place of each data record, and
@@ -148,11 +149,17 @@ impl Walk {
         self.places.greatest()
     }
 
-    /// Where each object's last data record so far stands, by rising id.
-    pub(crate) fn newest(&self) -> Result<Rows, Memory>
-        ensures { IfOk result (AreNewest self.now.records) }
+    /// Where each object's last data record so far stands, without a copy.
+    pub(crate) fn into_index(self) -> Index
+        ensures { IsNewest self.records result }
     {
-        self.places.newest()
+        let Walk {
+            places,
+            last: _,
+            at: _,
+            window: _,
+        } = self;
+        places.into_index()
     }
 
     /// The next transaction that counts, with its values, back pointers followed; none at the file's end. It changes

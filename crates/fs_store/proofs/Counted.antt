@@ -289,7 +289,7 @@ knowable o k w limit calls bytes most kept =
     let size = length-transaction k.end w.tid 99 w.texts w.items in
     record {
       bound = kept.bound;
-      fits = omega (arith, size, v.writable.end);
+      fits = omega (arith, size, v.size_is, v.within, most);
       within = omega (arith, v.within, most);
       room = v.room;
     }

@@ -47,7 +47,7 @@ pub record IsKept (disk : Option Told) (known : OpenFile) (limit : ℕ) (out : O
 -- a store can know the transaction that waits
 pub record Knowable (known : OpenFile) (w : Waiting) : Type 0 where
   pub bound : known.next ≤ 2 ^ 64
-  pub fits : first_at known.end w.texts + records_size w.items < 2 ^ 64
+  pub fits : first_at known.end w.texts + records_size w.items < 2 ^ 48
   pub within : known.end + w.size < 2 ^ 64
   pub room : All (λ item. HasRoom known.index item.oid) w.items
 

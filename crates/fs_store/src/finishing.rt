@@ -28,7 +28,7 @@ use zdisk::{Disk, cut_and_sync, overwrite_and_sync};
 // Puts the places of the items' records, of which the first stands there. Takes no memory.
 fn put_all(index: &mut Index, first: u64, items: &[Item])
     requires room { All (λ item. HasRoom index.old item.oid) items.now }
-    requires fits { first + records_size items.now < 2 ^ 64 }
+    requires fits { first + records_size items.now < 2 ^ 48 }
     ensures { (o : ℕ) → place_in (place_of index.new o) ≡ last_place o (place_in (place_of index.old o)) (item_rows first items.now) }
 {
     let mut place = first;

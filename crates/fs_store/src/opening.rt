@@ -5,11 +5,8 @@ ghost use Rattle.zdisk.specs.Crashes.{LeavesFrom};
 ghost use Rattle.zdisk.specs.Disk.{content};
 ghost use Rattle.fs_record.specs.declared.damage.Damage.{Damage as Kind};
 ghost use Rattle.fs_record.specs.Opening.{Damaged};
-ghost use Rattle.fs_record.specs.File.{last_place};
-ghost use Rattle.fs_scan.specs.Newest.{place_in};
 ghost use Rattle.fs_scan.specs.OnlyReads.{OnlyReads};
 ghost use Rattle.fs_scan.specs.Scanned.{CostsScan};
-ghost use Rattle.fs_index.specs.Places.{place_of};
 ghost use Rattle.fs_store.specs.Opened.{BringsNot, CostsOpening, CutOffFailed, CutsOff, IsRefusedFor, LeavesDisk, MayNotStay, Readies, StaysTorn, Tidies, waiting_from};
 ghost use Rattle.fs_store.specs.FileReads.{Reads, above, of_scan};
 ghost use Rattle.fs_store.specs.Fronts.{history_where, records_where};
@@ -23,11 +20,10 @@ ghost use Rattle.fs_store.specs.declared.opening.OpenRefusal.TheVariants as refu
 
 use crate::file::OpenFile;
 use crate::waiting::Waiting;
-use fs_index::Index;
 use fs_record::{Damage, MAX_LENGTH, STATUS_AT, STATUS_WAITING, TXN_HEAD_LEN};
 use fs_scan::{ScanRefusal, Scanned, scan};
 use std::alloc::Global;
-use zbase::{Failed, Memory, Oid, Row};
+use zbase::{Failed, Memory, Oid};
 use zdisk::Disk;
 
 /// Why a store isn't opened.
@@ -80,18 +76,6 @@ pub(crate) struct FileRead {
     pub(crate) torn: u64,
 }
 
-// Each row's place.
-fn index_of(alloc: Global, rows: &[Row]) -> Result<Index, Memory>
-    ensures { IfOk result (λ index. (o : ℕ) → place_in (place_of index o) ≡ last_place o 0 rows.now) }
-{
-    let mut index = Index::new(alloc);
-    for row in rows {
-        index.reserve(&[row.oid])?;
-        index.put(row.oid, row.place);
-    }
-    Ok(index)
-}
-
 // One more than the greatest object id, 0 where there is none.
 fn above(greatest: Option<Oid>) -> u128
     ensures next { result ≡ above greatest }
@@ -103,7 +87,7 @@ fn above(greatest: Option<Oid>) -> u128
     }
 }
 
-// What the disk's file says, by a scan.
+// What the disk's file says, by a scan, whose index it takes over.
 fn read_file<D: Disk>(alloc: Global, disk: &mut D) -> Result<FileRead, ScanRefusal>
     ensures reads { IfOk result (λ read. IfSome (D.told disk.old) (λ told. Reads (content told) read)) }
     ensures bound { IfOk result (λ read. read.file.next ≤ 2 ^ 64) }
@@ -120,13 +104,12 @@ fn read_file<D: Disk>(alloc: Global, disk: &mut D) -> Result<FileRead, ScanRefus
         last,
         floor,
         count,
-        rows,
+        newest,
     } = scan(alloc, disk)?;
-    let index = index_of(alloc, rows.as_slice())?;
     let next = above(greatest);
     Ok(FileRead {
         file: OpenFile {
-            index,
+            index: newest,
             end,
             len: end,
             last,

@@ -5,10 +5,13 @@ use std::collections::BTreeMap;
 use std::test::Fail;
 use zbase::{Memory, Oid};
 
+// The greatest place that an index keeps.
+const GREATEST: u64 = (1 << 48) - 1;
+
 // Keeps room for the object, and puts it at the place.
 fn place(index: &mut Index, oid: u64, place: u64) -> Result<(), Memory> {
     index.reserve(&[Oid(oid)])?;
-    index.put(Oid(oid), place);
+    index.put(Oid(oid), place.min(GREATEST));
     Ok(())
 }
 
@@ -86,12 +89,12 @@ fn places_are_found_again_and_room_is_none(rt: HostRuntime) -> Result<(), Fail> 
         (u64::MAX, None, [Some(104), None, None, None]),
         (7, None, [Some(104), None, None, None]),
         (7, Some(0), [None, None, None, None]),
-        (7, Some(u64::MAX), [Some(u64::MAX), None, None, None]),
-        (0, Some(30), [Some(u64::MAX), Some(30), None, None]),
+        (7, Some(GREATEST), [Some(GREATEST), None, None, None]),
+        (0, Some(30), [Some(GREATEST), Some(30), None, None]),
     ] {
         index.reserve(&[Oid(oid), Oid(7), Oid(oid)])?;
         if let Some(to) = to {
-            index.put(Oid(oid), to);
+            index.put(Oid(oid), to.min(GREATEST));
         }
         let found = [
             index.get(Oid(7)),

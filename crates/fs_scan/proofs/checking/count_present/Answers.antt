@@ -1,41 +1,26 @@
-use Rattle.std.proofs.Common.{rules, arith, subst, ap, sym, ◌∙◌, refl, ◌≡◌, ◌≤◌, true, false, ◌+◌, cond, Bool, ℕ, List, length, filter}
+use Rattle.std.proofs.Common.{◌≡◌, ◌+◌, cond, arith}
 use Rattle.std.proofs.lemmas.List.{take_all}
-use Rattle.fs_scan.specs.Present.{means_value}
-use Rattle.fs_record.specs.Standing.{IsPlace}
-use Rattle.zbase.specs.declared.ids.Row.{Row}
-use Rattle.fs_scan.proofs.Present.{place_of, counts_on}
-use Rattle.fs_scan.proofs.checking.count_present.Goals.{then-has_value, else-has_value}
+use Rattle.fs_scan.specs.OnlyReads.{reads_as, reads_none, reads_then}
+use Rattle.fs_scan.proofs.Present.{count_all, count_none, count_one, few_more}
+use Rattle.fs_scan.proofs.checking.count_present.Goals.{then-branch, else-branch}
 use Rattle.fs_scan.proofs.checking.count_present.Goals as goal
 
 pub rows-init : goal.rows-init
-rows-init c = record { counted = λ records all places. refl; few = omega arith }
-
-pub overflow_add-count : goal.overflow_add-count
-overflow_add-count c = search rules
-
-next_count : (has : Bool) (count next : ℕ) → (has ≡ true → next ≡ count + 1) → (has ≡ false → next ≡ count) → next ≡ count + cond has 1 0
-next_count true count next more same = more refl
-next_count false count next more same = omega (arith, same refl)
-
-one_more : (has : Bool) (count next i : ℕ) → next ≡ count + cond has 1 0 → count ≤ i → next ≤ i + 1
-one_more true count next i e le = omega arith
-one_more false count next i e le = omega arith
+rows-init g c = record { counted = count_none (g.D.Disk.told c.args.disk.now) c.args.rows.now; few = omega arith; only = reads_none g.D.Disk c.args.disk.now }
 
 pub rows-preserved : goal.rows-preserved
-rows-preserved c =
-    let i = c.rows.row-index in
-    let rows = c.args.rows.now in
-    let next : c.if-has_value.count ≡ c.rows.count + cond c.has_value.result 1 0 = elim c.if-has_value.branch [
-      | then-has_value w ↦ rw (w.if-has_value.true) (w.count-is)
-      | else-has_value w ↦ rw (w.if-has_value.false) (omega (arith, w.count-is))
+rows-preserved g c =
+    let i = c.rows.invariant in
+    let has = c.in_ok-has_value.field-0 in
+    let next : c.if-branch.count ≡ c.rows.count + cond has 1 0 = elim c.if-branch.branch [
+      | then-branch w ↦ rw (w.if-branch.true) (w.count-is)
+      | else-branch w ↦ rw (w.if-branch.false) (omega (arith, w.count-is))
     ] in
     record {
-      counted = λ records all places.
-          counts_on records rows i c.rows.count c.if-has_value.count c.row-item.result c.has_value.result c.row-item.is c.rows-test.true
-          (c.has_value.ensures records c.row-item.result.oid all (subst (λ (r : Row). IsPlace records r.oid r.place) (sym c.row-item.is) (place_of records rows i c.row-item.result places c.rows-test.true)))
-          next (c.rows.invariant.counted records all places);
-      few = one_more c.has_value.result c.rows.count c.if-has_value.count i next c.rows.invariant.few;
+      counted = count_one (g.D.Disk.told c.args.disk.now) _ c.args.rows.now c.rows.row-index c.rows.count c.if-branch.count c.row-item.result has i.only.same c.row-item.is c.rows-test.true c.in_ok-has_value.ensures.value next i.counted;
+      few = few_more has c.rows.count c.if-branch.count c.rows.row-index next i.few;
+      only = reads_then i.only (λ none. none) (reads_as c.in_ok-has_value.ensures.only_reads (λ e. cc) (λ none. absurd none));
     }
 
-pub returns : goal.returns
-returns c = λ records all places. c.rows.invariant.counted records all places ∙ ap (λ (rs : List Row). length (filter (λ (row : Row). means_value records row.place) rs)) (take_all c.rows.row-index c.args.rows.now c.rows-test.false)
+pub returns-clause-count : goal.returns-clause-count
+returns-clause-count g c = count_all (g.D.Disk.told c.args.disk.now) c.args.rows.now c.rows.row-index c.rows.count (take_all c.rows.row-index c.args.rows.now c.rows-test.false) c.rows.invariant.counted

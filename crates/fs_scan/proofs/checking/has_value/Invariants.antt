@@ -1,11 +1,12 @@
-use Rattle.std.proofs.Common.{◌≡◌, ℕ, List}
-use Rattle.fs_record.specs.File.{Earlier, value_at}
-use Rattle.fs_record.specs.Standing.{IsPlace}
-use Rattle.fs_scan.specs.Present.{AllStand}
+use Rattle.fs_scan.specs.OnlyReads.{OnlyReads}
+use Rattle.fs_scan.proofs.Present.{Came}
 use Rattle.fs_scan.proofs.checking.has_value.Given as goal
 
 abbrev pub invariant-back : goal.invariant-back
-invariant-back l = (records : List Earlier) (oid : ℕ) → AllStand l.bytes records → IsPlace records oid l.place → IsPlace records oid l.at × (value_at l.at records ≡ value_at l.place records)
+invariant-back g l = record {
+  came : Came (g.D.Disk.told l.fn.disk) l.place l.at;
+  only : OnlyReads g.D.Disk l.fn.disk l.disk ⊥;
+}
 
 abbrev pub decreases-back : goal.decreases-back
-decreases-back l = l.at
+decreases-back g l = l.at

@@ -53,7 +53,7 @@ returns-in-End-clause-told g c =
     let i = c.each.invariant in
     let shows = subst (λ (d : Option Told). IfSome d (λ told. Shows c.show.new.self (drop c.each.tally.at (content told)))) i.only.same c.in_ok-show.ensures.shows in
     let says = rw c.as_slice.ensures at (rw c.in-End.is at c.in_ok-step.ensures.ok) in
-    scan_ends (g.D.Disk.told c.args.disk.now) c.each.tally.at c.each.tally.last c.each.tally.floor c.each.tally.count c.show.new.self c.each.walk.records c.step.new.self.records (came_to _ _ _ _ _ _ _ _ i.came) shows c.in_ok-len.len c.saturating_sub.result c.greatest.result c.in_ok-rows-in-End.rows c.told.result says.0 i.length (omega (arith, c.saturating_sub.ensures)) c.greatest.ensures c.in_ok-rows-in-End.ensures c.told.ensures
+    scan_ends (g.D.Disk.told c.args.disk.now) c.each.tally.at c.each.tally.last c.each.tally.floor c.each.tally.count c.show.new.self c.each.walk.records c.step.new.self.records (came_to _ _ _ _ _ _ _ _ i.came) shows c.in_ok-len.len c.saturating_sub-torn.result c.greatest-greatest.result c.into_index.result c.told.result says.0 i.length (omega (arith, c.saturating_sub-torn.ensures)) c.greatest-greatest.ensures c.into_index.ensures c.told.ensures
 
 pub returns-in_err-len-clause-reads : goal.returns-in_err-len-clause-reads
 returns-in_err-len-clause-reads g c = costs_begin (g.D.Disk.told c.args.disk.now) _ _ (omega (arith, c.in_err-len.ensures.call))
@@ -66,9 +66,6 @@ returns-in_err-show-clause-reads g c = costs (g.D.Disk.told c.args.disk.now) _ _
 
 pub returns-in_err-step-clause-reads : goal.returns-in_err-step-clause-reads
 returns-in_err-step-clause-reads g c = costs (g.D.Disk.told c.args.disk.now) _ _ _ _ _ _ _ _ c.each.invariant.came c.in_ok-show.ensures.reads
-
-pub returns-in_err-rows-in-End-clause-reads : goal.returns-in_err-rows-in-End-clause-reads
-returns-in_err-rows-in-End-clause-reads g c = costs (g.D.Disk.told c.args.disk.now) _ _ _ _ _ _ _ _ c.each.invariant.came c.in_ok-show.ensures.reads
 
 pub returns-in-End-clause-reads : goal.returns-in-End-clause-reads
 returns-in-End-clause-reads g c = costs (g.D.Disk.told c.args.disk.now) _ _ _ _ _ _ _ _ c.each.invariant.came c.in_ok-show.ensures.reads

@@ -11,5 +11,5 @@ abbrev pub invariant-loop-item : goal.invariant-loop-item
 invariant-loop-item l = record {
   left : (o : ℕ) → last_place o (place_in (place_of l.index o)) (item_rows l.place (drop l.item-index l.items)) ≡ last_place o (place_in (place_of l.fn.index o)) (item_rows l.first l.items);
   room : (o : ℕ) → HasRoom l.fn.index o → HasRoom l.index o;
-  fits : l.place + records_size (drop l.item-index l.items) < 2 ^ 64;
+  fits : l.place + records_size (drop l.item-index l.items) < 2 ^ 48;
 }

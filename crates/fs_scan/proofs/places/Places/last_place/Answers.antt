@@ -8,4 +8,4 @@ or_none None = refl
 or_none (Some place) = refl
 
 pub returns : goal.returns
-returns c = rw (← c.self.view_is, ← c.oid.view_is) (c.unwrap_or.ensures ∙ or_none c.get.result ∙ ap place_in c.get.ensures ∙ place_told c.self.inside.newest c.self.inside.greatest c.self.inside.rows.items _ c.self.invariant)
+returns c = rw (← c.self.view_is) (c.unwrap_or.ensures ∙ or_none c.get.result ∙ ap place_in c.get.ensures ∙ place_told c.self.inside.newest c.self.inside.greatest c.self.inside.rows.items _ c.self.invariant)
