@@ -18,4 +18,5 @@ mod rows;
 
 pub use cookie::cookies;
 pub use field::{Field, FieldRefusal, FieldValue, Fields, Scalar, Scalars};
+pub use numbers::whole_number;
 pub use reading::fields;

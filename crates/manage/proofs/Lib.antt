@@ -1,5 +1,14 @@
 mod Calls
-mod Edited
+mod Itself
+mod Kept
+mod Lines
+mod Names
+mod Property
+mod Right
+mod RightRows
+mod Rows
+mod Settled
 mod Steps
 mod Templates
 mod Utf8
+mod Writing

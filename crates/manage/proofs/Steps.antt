@@ -44,7 +44,11 @@ stops r f (refusals.NotYet o) h = rw h refl
 stops r f (refusals.Missing field) h = rw h refl
 stops r f (refusals.BadField field) h = rw h refl
 stops r f (refusals.TooLong field) h = rw h refl
+stops r f (refusals.NoSuchId id) h = rw h refl
+stops r f (refusals.Taken id) h = rw h refl
+stops r f refusals.TooMany h = rw h refl
 stops r f (refusals.BadSource refusal) h = rw h refl
+stops r f refusals.TooDeep h = rw h refl
 
 settled_fails : {R A : Type 0} (k : ℕ → Option R) (r : Checked A) (e : ManageRefusal) → Fails e r → Told (told e) (as_ask (run k (settled r)))
 settled_fails k r refusals.Memory h = tt
@@ -55,7 +59,11 @@ settled_fails k r (refusals.NotYet o) h = rw h refl
 settled_fails k r (refusals.Missing field) h = rw h refl
 settled_fails k r (refusals.BadField field) h = rw h refl
 settled_fails k r (refusals.TooLong field) h = rw h refl
+settled_fails k r (refusals.NoSuchId id) h = rw h refl
+settled_fails k r (refusals.Taken id) h = rw h refl
+settled_fails k r refusals.TooMany h = rw h refl
 settled_fails k r (refusals.BadSource refusal) h = rw h refl
+settled_fails k r refusals.TooDeep h = rw h refl
 
 -- what a test gives is what its question answers
 pub decided : {R A : Type 0} (k : ℕ → Option R) (result : Result A ManageRefusal) (r : Checked A) → Gives (λ x. x) result r → Answers told (λ x. x) result (as_ask (run k (settled r)))

@@ -8,7 +8,7 @@ use Rattle.dtml_parse.specs.Refusals.{Refuses}
 use Rattle.dtml_parse.specs.TreeReading.{ReadsRefusals, ReadsTrees, template}
 use Rattle.dtml_parse.specs.Trees.{Items}
 use Rattle.manage.specs.declared.refusal.ManageRefusal.TheVariants as refusals
-use Rattle.manage.specs.Edits.{where_read}
+use Rattle.manage.specs.Refusing.{where_read}
 use Rattle.manage.specs.Fields.{Checked}
 
 pub read_so : ReadsTrees → (source : List ℕ) (tree : Items) → IsUtf8 source → Reads source tree → ◌≡◌ {A = Checked (Unit {0})} (where_read tt (template source)) (Ok tt)

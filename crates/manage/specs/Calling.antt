@@ -13,7 +13,7 @@ use Rattle.manage.specs.declared.call.Call.{Call}
 use Rattle.manage.specs.declared.call.Call.TheVariants as call
 use Rattle.manage.specs.declared.refusal.ManageRefusal.{ManageRefusal}
 use Rattle.manage.specs.declared.refusal.ManageRefusal.TheVariants as refusals
-use Rattle.manage.specs.Calls.{permission_for}
+use Rattle.manage.specs.Table.{permission_for}
 
 -- ---- the object called on
 
@@ -36,8 +36,14 @@ kind_of (form.UserFolder users) = kind.UserFolder
 
 -- what is built so far
 abbrev pub is_built : Call → Bool
-is_built call.Edit = true
-is_built _ = false
+is_built call.AddFolder = false
+is_built call.AddMethod = false
+is_built call.AddDocument = false
+is_built call.AddUserFolder = false
+is_built call.RenameObject = false
+is_built call.UndoTransactions = false
+is_built call.ListTransactions = false
+is_built _ = true
 
 abbrev pub if_lawful : Call → ℕ → Option ℕ → Shapes ManageRefusal ℕ
 if_lawful c o None = Stops (refusals.NotFound c)

@@ -1,31 +1,124 @@
 -- What a call writes, as a question over objects.
-use Rattle.std.specs.Prelude.{ℕ, ◌≡◌, List, Option, Some, Ok, Err}
-use Rattle.zbase.specs.Query.{Query, Done, Stops, ◌>>=◌}
+use Rattle.std.specs.Prelude.{ℕ, ◌≡◌, nat_eq, List, [], ◌∷◌, length, Option, Some, None, Ok, Err, if◌then◌else◌}
+use Rattle.std.specs.List.{AllByRecursion}
+use Rattle.zbase.specs.Query.{Query, Done, Stops, ◌>>=◌, or_else}
 use Rattle.zobject.specs.declared.object.Object.{Object}
-use Rattle.zobject.specs.Rules.{IsObject}
-use Rattle.zknown.specs.Seen.{Seen, Here, Objects}
+use Rattle.zobject.specs.declared.object.Part2.{Part2}
+use Rattle.zobject.specs.Changes.{new_object, with_id}
+use Rattle.zobject.specs.Folders.{child_of}
+use Rattle.zobject.specs.Rules.{IsObject, kind_of}
+use Rattle.zknown.specs.Seen.{Seen, Here, Objects, over_objects}
+use Rattle.acquisition.specs.Acquiring as acquiring
+use Rattle.acquisition.specs.Acquiring.{containers}
+use Rattle.evaluator.specs.declared.draft.Name.{Name}
 use Rattle.form_fields.specs.declared.field.Field.{Field}
 use Rattle.manage.specs.declared.call.Call.{Call}
-use Rattle.manage.specs.declared.call.Call.TheVariants as call
 use Rattle.manage.specs.declared.changes.Change.{Change}
+use Rattle.manage.specs.declared.changes.NewChild.{NewChild}
+use Rattle.manage.specs.declared.refusal.FieldName.TheVariants as field
 use Rattle.manage.specs.declared.refusal.ManageRefusal.{ManageRefusal}
 use Rattle.manage.specs.declared.refusal.ManageRefusal.TheVariants as refusals
-use Rattle.manage.specs.Calling.{here}
-use Rattle.manage.specs.Edits.{edit_written}
-use Rattle.manage.specs.Fields.{Checked}
-
--- the change of a call on an object, by the fields of its form
-abbrev pub changed : Call → ℕ → Object → List Field → Checked Change
-changed call.Edit o object fields = edit_written o object fields
-changed _ o object fields = Err (refusals.NotYet o)
+use Rattle.manage.specs.Becoming.{Situation, children, children_in, situation, text, with_renamed}
+use Rattle.manage.specs.Calling.{here, is_built}
+use Rattle.manage.specs.Fields.{Checked, Test, fields_kept}
+use Rattle.manage.specs.Fields as tests
+use Rattle.manage.specs.Table.{Adds, Itself, Renames, Row, Writes, row_of, table}
+use Rattle.manage.specs.Written.{Written, change_of, grown, whole}
 
 -- a value or a refusal, as a question that asks for nothing
 abbrev pub settled : {R A : Type 0} → Checked A → Query ℕ R ManageRefusal A
 settled (Ok x) = Done x
 settled (Err refusal) = Stops refusal
 
+-- ---- what it is refused for
+
+abbrev pub tested : {A : Type 0} → List (Situation → Test) → Situation → Checked A → Checked A
+tested [] s further = further
+tested (test ∷ others) s further = tests.◌>>=◌ (test s) (λ passed. tested others s further)
+
+-- the fields in the order of the row, then what else it is refused for
+unfoldable pub judged : {A : Type 0} → Row → Situation → Checked A → Checked A
+judged row s further = tests.◌>>=◌ (fields_kept (row.fields s.form) s.form) (λ kept. tested row.further s further)
+
+-- ---- what is written
+
+-- what the object becomes, where the row refuses nothing
+abbrev pub became : Row → (Situation → Object) → Object → List Field → Checked Object
+became row new object form = judged row (situation object form) (Ok (new (situation object form)))
+
+-- a child more: how many objects there are from the folder up to the root is asked for first
+abbrev pub no_path : acquiring.Fault → ManageRefusal
+no_path (acquiring.Broken o) = refusals.Broken o
+no_path acquiring.TooDeep = refusals.TooDeep
+
+abbrev pub depth_of : ℕ → Objects ManageRefusal ℕ
+depth_of o = over_objects (or_else no_path (containers o)) >>= λ path. Done (length path)
+
+abbrev pub wanted : (Situation → List ℕ) → (Situation → List ℕ) → (Situation → Part2) → Row → Situation → Checked NewChild
+wanted id title part row s = judged row s (Ok (record { id = id s; title = title s; part = part s }))
+
+abbrev pub added : ℕ → Object → NewChild → List Written
+added o folder child = grown o folder (children_in folder.part) child.id ∷ whole (Name.New 0) (new_object child.id o child.title child.part) ∷ []
+
+-- The child, which is asked for once its names are right. A folder may be its own child: then one object is written.
+abbrev pub renamed_child : ℕ → Situation → Option ℕ → Objects ManageRefusal (List Written)
+renamed_child o s None = Stops (refusals.NoSuchId (text field.Id s))
+renamed_child o s (Some child) =
+    if nat_eq child o then Done (whole (Name.Old o) (with_id (text field.NewId s) (with_renamed child s)) ∷ [])
+    else here child >>= λ object. Done (whole (Name.Old o) (with_renamed child s) ∷ whole (Name.Old child) (with_id (text field.NewId s) object) ∷ [])
+
+unfoldable pub written : Writes → Row → ℕ → Object → List Field → Objects ManageRefusal (List Written)
+written (Itself new) row o object form = settled (became row new object form) >>= λ object. Done (whole (Name.Old o) object ∷ [])
+written (Adds id title part) row o object form = depth_of o >>= λ depth.
+    settled (wanted id title part row (record { object = object; form = form; depth = depth })) >>= λ child. Done (added o object child)
+written Renames row o object form = settled (judged row (situation object form) (Ok (tt {0}))) >>= λ passed.
+    renamed_child o (situation object form) (child_of (text field.Id (situation object form)) (children (situation object form)))
+
+-- ---- the change
+
+abbrev pub by_row : Option Row → Call → ℕ → Object → List Field → Objects ManageRefusal (List Written)
+by_row None c o object form = Stops (refusals.NotFound c)
+by_row (Some row) c o object form = written row.writes row o object form
+
+abbrev pub change_by : Option Row → Call → ℕ → Object → List Field → Objects ManageRefusal Change
+change_by found c o object form = by_row found c o object form >>= λ ws. Done (change_of ws)
+
+-- a call that isn't built yet is told, and nothing else
+abbrev pub by_call : Call → ℕ → Object → List Field → Objects ManageRefusal (List Written)
+by_call c o object form = if is_built c then by_row (row_of c (kind_of object.part)) c o object form else Stops (refusals.NotYet o)
+
+-- where a row writes the object alone, what it becomes
+abbrev pub IsItself : Writes → Type 0
+IsItself (Itself new) = Unit {0}
+IsItself (Adds id title part) = ⊥
+IsItself Renames = ⊥
+
+abbrev pub WritesItself : Call → Type 0
+WritesItself c = AllByRecursion (λ (r : Row). IsItself r.writes) (table c)
+
+abbrev pub itself_by : Writes → Row → Call → Object → List Field → Checked Object
+itself_by (Itself new) row c object form = became row new object form
+itself_by (Adds id title part) row c object form = Err (refusals.NotFound c)
+itself_by Renames row c object form = Err (refusals.NotFound c)
+
+abbrev pub itself : Option Row → Call → Object → List Field → Checked Object
+itself None c object form = Err (refusals.NotFound c)
+itself (Some row) c object form = itself_by row.writes row c object form
+
+abbrev pub itself_written : Option Row → Call → ℕ → Object → List Field → Checked Change
+itself_written found c o object form = tests.◌>>=◌ (itself found c object form) (λ new. Ok (change_of (whole (Name.Old o) new ∷ [])))
+
+-- what the call writes on an object
+abbrev pub changed : Call → ℕ → Object → List Field → Objects ManageRefusal Change
+changed c o object form = by_call c o object form >>= λ ws. Done (change_of ws)
+
+-- what the call writes
+unfoldable pub writes : Call → ℕ → List Field → Objects ManageRefusal (List Written)
+writes c o form = here o >>= λ object. by_call c o object form
+
+-- the change of a call on an object, by the fields of its form
 unfoldable pub change : Call → ℕ → List Field → Objects ManageRefusal Change
-change c o fields = here o >>= λ object. settled (changed c o object fields)
+change c o form = here o >>= λ object. changed c o object form
 
 -- each object that is here keeps the rules of objects
 abbrev pub KeepRules : (ℕ → Option (Seen Object)) → Type 0

@@ -1,8 +1,13 @@
 pub mod Calls
-pub mod Calling
 pub mod Fields
-pub mod Edits
+pub mod Becoming
+pub mod Refusing
+pub mod Table
+pub mod Written
+pub mod Calling
 pub mod Changing
+pub mod Naming
 pub mod Laws
 pub mod CallLaws
+pub mod AloneLaws
 pub mod Worked

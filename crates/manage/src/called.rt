@@ -1,11 +1,12 @@
 ghost use Rattle.std.specs.Prelude.{◌≡◌};
 ghost use Rattle.zbase.specs.Query.{run, Answers};
+ghost use Rattle.zobject.specs.Rules.{kind_of};
 ghost use Rattle.zobject.specs.Shapes.{form_of, shape_of};
 ghost use Rattle.zknown.specs.Seen.{objects, shapes};
 ghost use Rattle.acquisition.specs.Acquiring.{first};
 ghost use Rattle.evaluator.specs.Questions.{as_ask};
 ghost use Rattle.manage.specs.Calling as calling;
-ghost use Rattle.manage.specs.Calls.{permission_for};
+ghost use Rattle.manage.specs.Table.{permission_for};
 
 use crate::call::Call;
 use crate::refusal::ManageRefusal;
@@ -30,8 +31,10 @@ pub(crate) fn here(known: &Known, oid: Oid) -> Result<&Object, ManageRefusal>
     }
 }
 
-fn kind_of(part: &Part2) -> Kind
-    ensures { result ≡ calling.kind_of (form_of part.now) }
+/// The kind of an object, by what only its kind has.
+pub(crate) fn kind_of(part: &Part2) -> Kind
+    ensures shape { result ≡ calling.kind_of (form_of part.now) }
+    ensures whole { result ≡ kind_of part.now }
 {
     match part {
         Part2::Folder(_) => Kind::Folder,
@@ -45,7 +48,16 @@ fn kind_of(part: &Part2) -> Kind
 fn is_built(call: Call) -> bool
     ensures { result ≡ calling.is_built call }
 {
-    matches!(call, Call::Edit)
+    !matches!(
+        call,
+        Call::AddFolder
+            | Call::AddMethod
+            | Call::AddDocument
+            | Call::AddUserFolder
+            | Call::RenameObject
+            | Call::UndoTransactions
+            | Call::ListTransactions
+    )
 }
 
 fn if_lawful(

@@ -1,8 +1,21 @@
 use evaluator::Entries;
+use zbase::Text;
+use zobject::Part2;
 
 /// What a call changes.
 #[derive(Debug, Drop)]
 pub struct Change {
     /// An entry for each object that it writes.
     pub entries: Entries,
+}
+
+/// A child that a folder is to have more.
+#[derive(Debug, Drop)]
+pub(crate) struct NewChild {
+    /// Its id, under which the folder lists it.
+    pub id: Text,
+    /// Its title.
+    pub title: Text,
+    /// What only its kind has.
+    pub part: Part2,
 }

@@ -1,55 +1,78 @@
-ghost use Rattle.std.specs.Prelude.{◌≡◌, IfOk};
+ghost use Rattle.std.specs.Prelude.{◌≡◌, ℕ, ◌∷◌, [], IfOk, Option};
 ghost use Rattle.zbase.specs.Query.{run, Answers};
-ghost use Rattle.zobject.specs.Rules.{IsObject};
-ghost use Rattle.zknown.specs.Seen.{objects};
+ghost use Rattle.zobject.specs.Rules.{IsObject, kind_of};
+ghost use Rattle.zobject.specs.declared.object.Object.{Object as AnObject};
+ghost use Rattle.zknown.specs.Seen.{Seen, objects};
 ghost use Rattle.acquisition.specs.Acquiring.{first};
 ghost use Rattle.evaluator.specs.Questions.{as_ask};
+ghost use Rattle.evaluator.specs.declared.draft.Name.TheVariants as names;
 ghost use Rattle.manage.specs.Calling.{told};
 ghost use Rattle.manage.specs.Changing as changing;
-ghost use Rattle.manage.specs.Edits as edits;
-ghost use Rattle.manage.specs.Changing.{KeepRules};
+ghost use Rattle.manage.specs.Changing.{KeepRules, WritesItself};
 ghost use Rattle.manage.specs.Fields.{Gives};
+ghost use Rattle.manage.specs.Table.{row_of};
+ghost use Rattle.manage.specs.Written.{change_of, whole};
 
 use crate::call::Call;
-use crate::called::here;
+use crate::called::{here, kind_of};
 use crate::changes::Change;
-use crate::editing::edited;
-use crate::laws::edits_keep_the_rules;
+use crate::deleting::delete_objects;
+use crate::editing::{edit_folder, edit_page};
+use crate::laws::rows_keep_the_rules;
+use crate::properties::{add_property, delete_properties};
 use crate::refusal::ManageRefusal;
+use crate::roles::{delete_local_roles, set_local_roles, set_permission, set_proxy_roles};
+use crate::users::add_user;
+use crate::written::write;
 use acquisition::Wrapped;
-use evaluator::{Entries, Entry, Holes, Name};
+use evaluator::{Entries, Name};
 use form_fields::Fields;
 use std::alloc::Global;
 use zbase::{Memory, Oid};
-use zcodec::encode;
 use zknown::Known;
-use zobject::Object;
+use zobject::{Kind, Object};
+
+// What the object becomes by a call that writes it alone.
+#[tactic(auto, unfolding(crate::specs::Changing::judged))]
+fn itself(
+    alloc: Global,
+    call: Call,
+    object: &Object,
+    fields: &Fields,
+) -> Result<Object, ManageRefusal>
+    ensures { Gives (λ o. o) result (changing.itself (row_of call (kind_of object.now.part)) call object.now fields.now) }
+{
+    match (call, kind_of(&object.part)) {
+        (Call::Edit, Kind::Method | Kind::Document) => edit_page(alloc, object, fields),
+        (Call::Edit, Kind::Folder) => edit_folder(alloc, object, fields),
+        (Call::DeleteObjects, Kind::Folder) => delete_objects(alloc, object, fields),
+        (Call::SetPermission, _) => set_permission(alloc, object, fields),
+        (Call::SetLocalRoles, _) => set_local_roles(alloc, object, fields),
+        (Call::DeleteLocalRoles, _) => delete_local_roles(alloc, object, fields),
+        (Call::AddProperty, Kind::Folder | Kind::Document) => add_property(alloc, object, fields),
+        (Call::DeleteProperties, Kind::Folder | Kind::Document) => {
+            delete_properties(alloc, object, fields)
+        }
+        (Call::SetProxyRoles, Kind::Method | Kind::Document) => {
+            set_proxy_roles(alloc, object, fields)
+        }
+        (Call::AddUser, Kind::UserFolder) => add_user(alloc, object, fields),
+        _ => Err(ManageRefusal::NotFound(call)),
+    }
+}
 
 // The object's record, and nothing else.
-fn write(alloc: Global, oid: Oid, object: &Object) -> Result<Change, Memory>
+fn write_itself(alloc: Global, oid: Oid, object: &Object) -> Result<Change, Memory>
     requires lawful { IsObject object.now }
-    ensures { IfOk result (λ change. change ≡ edits.written oid object.now) }
+    ensures { IfOk result (λ change. change ≡ change_of (whole (names.Old oid) object.now ∷ [])) }
 {
     let mut entries = Entries::new(alloc);
-    entries.push(Entry::Write {
-        name: Name::Old(oid),
-        bytes: encode(alloc, object)?,
-        holes: Holes::new(alloc),
-    })?;
+    entries.push(write(alloc, Name::Old(oid), object)?)?;
     Ok(Change { entries })
 }
 
 #[tactic(auto, using(crate::proofs::Steps::stops))]
-fn edit(alloc: Global, oid: Oid, object: &Object, fields: &Fields) -> Result<Change, ManageRefusal>
-    requires lawful { IsObject object.now }
-    ensures { Gives (λ change. change) result (edits.edit_written oid object.now fields.now) }
-{
-    edits_keep_the_rules();
-    let object = edited(alloc, object, fields)?;
-    Ok(write(alloc, oid, &object)?)
-}
-
-fn changed(
+fn record_itself(
     alloc: Global,
     call: Call,
     oid: Oid,
@@ -57,23 +80,55 @@ fn changed(
     fields: &Fields,
 ) -> Result<Change, ManageRefusal>
     requires lawful { IsObject object.now }
-    ensures { Gives (λ change. change) result (changing.changed call oid object.now fields.now) }
+    ensures { Gives (λ change. change) result (changing.itself_written (row_of call (kind_of object.now.part)) call oid object.now fields.now) }
+{
+    rows_keep_the_rules();
+    let new = itself(alloc, call, object, fields)?;
+    Ok(write_itself(alloc, oid, &new)?)
+}
+
+// What a call changes that writes the object alone.
+fn change_itself(
+    alloc: Global,
+    call: Call,
+    oid: Oid,
+    object: &Object,
+    fields: &Fields,
+) -> Result<Change, ManageRefusal>
+    requires lawful { IsObject object.now }
+    requires alone { WritesItself call }
+    ensures { (known : ℕ → Option (Seen AnObject))
+        → Answers told (λ change. change) result (as_ask (run known (changing.change_by (row_of call (kind_of object.now.part)) call oid object.now fields.now))) }
+{
+    record_itself(alloc, call, oid, object, fields)
+}
+
+fn changed(
+    alloc: Global,
+    call: Call,
+    oid: Oid,
+    known: &Known,
+    object: &Object,
+    fields: &Fields,
+) -> Result<Change, ManageRefusal>
+    requires lawful { IsObject object.now }
+    ensures { Answers told (λ change. change) result (as_ask (run (objects known.now) (changing.changed call oid object.now fields.now))) }
 {
     match call {
-        Call::Edit => edit(alloc, oid, object, fields),
-        Call::AddFolder
-        | Call::AddMethod
-        | Call::AddDocument
-        | Call::AddUserFolder
+        Call::Edit
         | Call::DeleteObjects
-        | Call::RenameObject
         | Call::SetPermission
         | Call::SetLocalRoles
         | Call::DeleteLocalRoles
         | Call::AddProperty
         | Call::DeleteProperties
         | Call::SetProxyRoles
-        | Call::AddUser
+        | Call::AddUser => change_itself(alloc, call, oid, object, fields),
+        Call::AddFolder
+        | Call::AddMethod
+        | Call::AddDocument
+        | Call::AddUserFolder
+        | Call::RenameObject
         | Call::UndoTransactions
         | Call::ListTransactions => Err(ManageRefusal::NotYet(oid)),
     }
@@ -91,16 +146,16 @@ fn change_on(
     ensures { Answers told (λ change. change) result (as_ask (run (objects known.now) (changing.change call oid fields.now))) }
 {
     let object = here(known, oid)?;
-    changed(alloc, call, oid, object, fields)
+    changed(alloc, call, oid, known, object, fields)
 }
 
 /// What a call changes, by the fields of its form, on the object that a path leads to.
 ///
 /// The fields are tested in the order of the call, then what else it is refused for; the first that applies is answered.
-/// A user folder can't be edited: `NotFound`. Calls that aren't built yet are `NotYet`. Each object that is here keeps the
-/// rules of objects.
+/// A kind of object that the table of calls doesn't name for it is `NotFound`. Calls that aren't built yet are `NotYet`.
+/// Each object that is here keeps the rules of objects.
 ///
-/// Zope Book, "Basic Zope Objects": editing.
+/// Zope Book, "Basic Zope Objects" and "Users and Security".
 pub fn change(
     alloc: Global,
     call: Call,

@@ -1,21 +1,25 @@
 ghost use Rattle.std.specs.Prelude.{◌≡◌, IfOk};
-ghost use Rattle.zobject.specs.Changes.{with_part, with_title};
+ghost use Rattle.zobject.specs.Changes.{with_locals, with_part, with_properties, with_settings, with_title};
 
 use std::alloc::Global;
 use zbase::{Items, Memory, Text};
-use zobject::{Child, Children, Local, Object, Part2, PropValue, Property, Roles, Setting};
+use zobject::{
+    Child, Local, Locals, Object, Part2, PropValue, Properties, Property, Setting, Settings, User,
+};
 
-// What a list has items of that are copied one by one.
-trait Copied: Drop {
+/// What a list has items of that are copied one by one.
+pub(crate) trait Copied: Drop {
+    /// The same once more.
     fn copied(&self, alloc: Global) -> Result<Self, Memory>
         ensures { IfOk result (λ copy. copy ≡ self.now) };
 }
 
-fn copy_items<T: Copied>(alloc: Global, items: &Items<T>) -> Result<Items<T>, Memory>
+/// The same list once more.
+pub(crate) fn copy_items<T: Copied>(alloc: Global, items: &[T]) -> Result<Items<T>, Memory>
     ensures { IfOk result (λ copies. copies ≡ items.now) }
 {
     let mut copies = Items::from_vec(Vec::with_capacity(alloc, items.len())?);
-    for item in items.as_slice() {
+    for item in items {
         copies.push(item.copied(alloc)?)?;
     }
     Ok(copies)
@@ -32,7 +36,7 @@ impl Copied for Setting {
         Ok(Setting {
             permission: self.permission,
             acquire: self.acquire,
-            roles: copy_items(alloc, &self.roles)?,
+            roles: copy_items(alloc, self.roles.as_slice())?,
         })
     }
 }
@@ -41,7 +45,7 @@ impl Copied for Local {
     fn copied(&self, alloc: Global) -> Result<Local, Memory> {
         Ok(Local {
             user: self.user.copy()?,
-            roles: copy_items(alloc, &self.roles)?,
+            roles: copy_items(alloc, self.roles.as_slice())?,
         })
     }
 }
@@ -52,7 +56,7 @@ fn copy_value(alloc: Global, value: &PropValue) -> Result<PropValue, Memory>
     match value {
         PropValue::Line(text) => Ok(PropValue::Line(text.copy()?)),
         PropValue::Int(number) => Ok(PropValue::Int(*number)),
-        PropValue::Lines(texts) => Ok(PropValue::Lines(copy_items(alloc, texts)?)),
+        PropValue::Lines(texts) => Ok(PropValue::Lines(copy_items(alloc, texts.as_slice())?)),
     }
 }
 
@@ -74,18 +78,32 @@ impl Copied for Child {
     }
 }
 
-/// The same roles once more.
-pub(crate) fn copy_roles(alloc: Global, roles: &Roles) -> Result<Roles, Memory>
-    ensures { IfOk result (λ copies. copies ≡ roles.now) }
-{
-    copy_items(alloc, roles)
+impl Copied for User {
+    fn copied(&self, alloc: Global) -> Result<User, Memory> {
+        Ok(User {
+            name: self.name.copy()?,
+            password: self.password.copy()?,
+            roles: copy_items(alloc, self.roles.as_slice())?,
+        })
+    }
 }
 
-/// The same children once more.
-pub(crate) fn copy_children(alloc: Global, children: &Children) -> Result<Children, Memory>
-    ensures { IfOk result (λ copies. copies ≡ children.now) }
+/// The same once more of what only its kind has.
+pub(crate) fn copy_part(alloc: Global, part: &Part2) -> Result<Part2, Memory>
+    ensures { IfOk result (λ copy. copy ≡ part.now) }
 {
-    copy_items(alloc, children)
+    match part {
+        Part2::Folder(children) => Ok(Part2::Folder(copy_items(alloc, children.as_slice())?)),
+        Part2::Method { source, proxy } => Ok(Part2::Method {
+            source: source.copy()?,
+            proxy: copy_items(alloc, proxy.as_slice())?,
+        }),
+        Part2::Document { source, proxy } => Ok(Part2::Document {
+            source: source.copy()?,
+            proxy: copy_items(alloc, proxy.as_slice())?,
+        }),
+        Part2::UserFolder(users) => Ok(Part2::UserFolder(copy_items(alloc, users.as_slice())?)),
+    }
 }
 
 /// The same object once more, with this title and this of its kind.
@@ -101,9 +119,73 @@ pub(crate) fn copy_with(
         id: object.id.copy()?,
         parent: object.parent,
         title,
-        settings: copy_items(alloc, &object.settings)?,
-        locals: copy_items(alloc, &object.locals)?,
-        properties: copy_items(alloc, &object.properties)?,
+        settings: copy_items(alloc, object.settings.as_slice())?,
+        locals: copy_items(alloc, object.locals.as_slice())?,
+        properties: copy_items(alloc, object.properties.as_slice())?,
         part,
+    })
+}
+
+/// The same object once more, with this of its kind.
+pub(crate) fn copy_with_part(alloc: Global, object: &Object, part: Part2) -> Result<Object, Memory>
+    ensures { IfOk result (λ copy. copy ≡ with_part part object.now) }
+{
+    copy_with(alloc, object, object.title.copy()?, part)
+}
+
+/// The same object once more, with these settings.
+pub(crate) fn copy_with_settings(
+    alloc: Global,
+    object: &Object,
+    settings: Settings,
+) -> Result<Object, Memory>
+    ensures { IfOk result (λ copy. copy ≡ with_settings settings object.now) }
+{
+    Ok(Object {
+        id: object.id.copy()?,
+        parent: object.parent,
+        title: object.title.copy()?,
+        settings,
+        locals: copy_items(alloc, object.locals.as_slice())?,
+        properties: copy_items(alloc, object.properties.as_slice())?,
+        part: copy_part(alloc, &object.part)?,
+    })
+}
+
+/// The same object once more, with these local roles.
+pub(crate) fn copy_with_locals(
+    alloc: Global,
+    object: &Object,
+    locals: Locals,
+) -> Result<Object, Memory>
+    ensures { IfOk result (λ copy. copy ≡ with_locals locals object.now) }
+{
+    Ok(Object {
+        id: object.id.copy()?,
+        parent: object.parent,
+        title: object.title.copy()?,
+        settings: copy_items(alloc, object.settings.as_slice())?,
+        locals,
+        properties: copy_items(alloc, object.properties.as_slice())?,
+        part: copy_part(alloc, &object.part)?,
+    })
+}
+
+/// The same object once more, with these properties.
+pub(crate) fn copy_with_properties(
+    alloc: Global,
+    object: &Object,
+    properties: Properties,
+) -> Result<Object, Memory>
+    ensures { IfOk result (λ copy. copy ≡ with_properties properties object.now) }
+{
+    Ok(Object {
+        id: object.id.copy()?,
+        parent: object.parent,
+        title: object.title.copy()?,
+        settings: copy_items(alloc, object.settings.as_slice())?,
+        locals: copy_items(alloc, object.locals.as_slice())?,
+        properties,
+        part: copy_part(alloc, &object.part)?,
     })
 }

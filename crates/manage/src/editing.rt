@@ -1,124 +1,95 @@
-ghost use Rattle.std.specs.Prelude.{◌≡◌, IfOk};
-ghost use Rattle.dtml_parse.specs.TreeReading.{template};
-ghost use Rattle.manage.specs.Edits as edits;
-ghost use Rattle.manage.specs.Fields.{Gives};
+ghost use Rattle.std.specs.Prelude.{◌≡◌, IfOk, Ok};
+ghost use Rattle.zobject.specs.Changes.{with_title};
+ghost use Rattle.manage.specs.Becoming as becoming;
+ghost use Rattle.manage.specs.Changing.{became};
+ghost use Rattle.manage.specs.Fields.{Gives, texts_of as said};
+ghost use Rattle.manage.specs.Table as table;
+ghost use Rattle.manage.specs.declared.refusal.FieldName.TheVariants as names;
 
-use crate::call::Call;
-use crate::copying::{copy_children, copy_roles, copy_with};
-use crate::field::{optional, required};
+use crate::copying::{copy_items, copy_part, copy_with};
+use crate::field::{fields_kept, text_of, texts_of};
 use crate::refusal::{FieldName, ManageRefusal};
-use crate::rule::FieldRule;
-use dtml_lex::DtmlRefusal;
-use dtml_parse::{parse, template_reader_agrees};
+use crate::refusing::is_template;
+use crate::rule::{FieldRule, maybe, one};
 use form_fields::Fields;
 use std::alloc::Global;
-use zbase::{Memory, Text};
-use zobject::{Children, Object, Part2, Roles};
+use zbase::{Memory, Text, Texts};
+use zobject::{Object, Part2};
 
-/// What has a source.
-#[derive(Clone, Copy, Debug, PartialEq, Eq)]
-pub(crate) enum Page {
-    /// A method.
-    Method,
-    /// A document.
-    Document,
-}
-
-/// What a form says of a method or document.
-#[derive(Debug, Drop)]
-pub(crate) struct PageEdit {
-    /// Its new source.
-    pub source: Text,
-    /// Its new title, where one is given.
-    pub title: Option<Text>,
-}
-
-// Whether the source is a template, or why it is none.
-#[tactic(auto, using(crate::proofs::Templates::read_so, crate::proofs::Templates::refused_so))]
-fn check_source(alloc: Global, source: &str) -> Result<(), ManageRefusal>
-    ensures { Gives (λ x. x) result (edits.where_read tt (template source.now)) }
+// The first of the texts, or the old one where there is none.
+fn first_or(old: &Text, texts: &Texts) -> Result<Text, Memory>
+    ensures { IfOk result (λ title. title ≡ becoming.title_or old.now texts.now) }
 {
-    template_reader_agrees();
-    match parse(alloc, source) {
-        Ok(_) => Ok(()),
-        Err(DtmlRefusal::Memory) => Err(ManageRefusal::Memory),
-        Err(refusal) => Err(ManageRefusal::BadSource(refusal)),
+    match texts.as_slice() {
+        [] => old.copy(),
+        [new, ..] => new.copy(),
     }
 }
 
-#[tactic(auto, using(crate::proofs::Steps::stops), unfolding(crate::specs::Edits::page_edit))]
-fn page_edit(alloc: Global, fields: &Fields) -> Result<PageEdit, ManageRefusal>
-    ensures { Gives (λ edit. edit) result (edits.page_edit fields.now) }
+// The new title, where the form has one, or the old one.
+fn title_or(alloc: Global, old: &Text, fields: &Fields) -> Result<Text, Memory>
+    ensures { IfOk result (λ title. title ≡ becoming.title_or old.now (said names.Title fields.now)) }
 {
-    let source = required(alloc, FieldName::Data, FieldRule::Source, fields)?;
-    let title = optional(alloc, FieldName::Title, FieldRule::Title, fields)?;
-    check_source(alloc, source.as_str())?;
-    Ok(PageEdit { source, title })
+    first_or(old, &texts_of(alloc, FieldName::Title, fields)?)
 }
 
-// The new title, or the old one.
-fn title_or(old: &Text, new: Option<Text>) -> Result<Text, Memory>
-    ensures { IfOk result (λ title. title ≡ edits.title_or old.now new) }
+// The same once more with another source.
+fn with_source(alloc: Global, part: &Part2, source: Text) -> Result<Part2, Memory>
+    ensures { IfOk result (λ new. new ≡ becoming.with_source source part.now) }
 {
-    match new {
-        Some(title) => Ok(title),
-        None => old.copy(),
+    match part {
+        Part2::Method { proxy, .. } => Ok(Part2::Method {
+            source,
+            proxy: copy_items(alloc, proxy.as_slice())?,
+        }),
+        Part2::Document { proxy, .. } => Ok(Part2::Document {
+            source,
+            proxy: copy_items(alloc, proxy.as_slice())?,
+        }),
+        Part2::Folder(_) | Part2::UserFolder(_) => copy_part(alloc, part),
     }
 }
 
-fn page_part(page: Page, source: Text, proxy: Roles) -> Part2
-    ensures { result ≡ edits.page_part page proxy source }
-{
-    match page {
-        Page::Method => Part2::Method { source, proxy },
-        Page::Document => Part2::Document { source, proxy },
-    }
-}
-
-#[tactic(auto, using(crate::proofs::Steps::stops))]
-fn edited_page(
+/// A method or document with another source, and another title where the form has one.
+#[tactic(auto, using(crate::proofs::Steps::stops), unfolding(crate::specs::Changing::judged, crate::specs::Fields::fields_kept))]
+pub(crate) fn edit_page(
     alloc: Global,
-    page: Page,
     object: &Object,
-    proxy: &Roles,
     fields: &Fields,
 ) -> Result<Object, ManageRefusal>
-    ensures { Gives (λ o. o) result (edits.edited_page (edits.page_part page proxy.now) object.now fields.now) }
+    ensures { Gives (λ o. o) result (became table.edit_method becoming.edited_page object.now fields.now) }
 {
-    let edit = page_edit(alloc, fields)?;
-    let title = title_or(&object.title, edit.title)?;
-    let proxy = copy_roles(alloc, proxy)?;
-    let part = page_part(page, edit.source, proxy);
+    let rows = [
+        one(FieldName::Data, FieldRule::Source),
+        maybe(FieldName::Title, FieldRule::Title),
+    ];
+    fields_kept(alloc, rows.as_slice(), fields)?;
+    let source = text_of(alloc, FieldName::Data, fields)?;
+    is_template(alloc, source.as_str())?;
+    let title = title_or(alloc, &object.title, fields)?;
+    let part = with_source(alloc, &object.part, source)?;
     Ok(copy_with(alloc, object, title, part)?)
 }
 
-#[tactic(auto, using(crate::proofs::Steps::stops))]
-fn edited_folder(
-    alloc: Global,
-    object: &Object,
-    children: &Children,
-    fields: &Fields,
-) -> Result<Object, ManageRefusal>
-    ensures { Gives (λ o. o) result (edits.edited_folder children.now object.now fields.now) }
+// The same object once more with another title.
+fn retitled(alloc: Global, object: &Object, title: Text) -> Result<Object, Memory>
+    ensures { IfOk result (λ new. new ≡ with_title title object.now) }
 {
-    let title = required(alloc, FieldName::Title, FieldRule::Title, fields)?;
-    let part = Part2::Folder(copy_children(alloc, children)?);
-    Ok(copy_with(alloc, object, title, part)?)
+    let part = copy_part(alloc, &object.part)?;
+    copy_with(alloc, object, title, part)
 }
 
-/// What the object becomes by the fields of a form.
-#[tactic(auto, unfolding(crate::specs::Edits::edited))]
-pub(crate) fn edited(
+/// A folder with another title.
+#[tactic(auto, using(crate::proofs::Steps::stops), unfolding(crate::specs::Changing::judged, crate::specs::Fields::fields_kept))]
+pub(crate) fn edit_folder(
     alloc: Global,
     object: &Object,
     fields: &Fields,
 ) -> Result<Object, ManageRefusal>
-    ensures { Gives (λ o. o) result (edits.edited object.now fields.now) }
+    ensures { Gives (λ o. o) result (became table.edit_folder becoming.edited_folder object.now fields.now) }
 {
-    match &object.part {
-        Part2::Method { proxy, .. } => edited_page(alloc, Page::Method, object, proxy, fields),
-        Part2::Document { proxy, .. } => edited_page(alloc, Page::Document, object, proxy, fields),
-        Part2::Folder(children) => edited_folder(alloc, object, children, fields),
-        Part2::UserFolder(_) => Err(ManageRefusal::NotFound(Call::Edit)),
-    }
+    let rows = [one(FieldName::Title, FieldRule::Title)];
+    fields_kept(alloc, rows.as_slice(), fields)?;
+    let title = text_of(alloc, FieldName::Title, fields)?;
+    Ok(retitled(alloc, object, title)?)
 }

@@ -1,13 +1,18 @@
 ghost use Rattle.std.specs.Prelude.{◌≡◌, ℕ, Bool, List, Some, map};
-ghost use Rattle.std.specs.List.{list_any};
+ghost use Rattle.std.specs.List.{list_any, AllByRecursion};
 ghost use Rattle.std.specs.Str.{bytes_eq};
 ghost use Rattle.traverse.specs.Publishing as publishing;
 ghost use Rattle.manage.specs.declared.call.Call.{Call};
 ghost use Rattle.manage.specs.Calls.{all_calls, call_named, name_of};
-ghost use Rattle.manage.specs.Laws.{AreNumbered, EditsKeepRules, WriteRecords};
+ghost use Rattle.manage.specs.Laws.{AreNumbered, IsRightRow, SettlesRightly, WritesLawfully};
+ghost use Rattle.manage.specs.Table.{table};
 
-use zcodec::records_are_exact;
-use zobject::{names_may_change, sources_may_change};
+use user_folder::kept_passwords_are_lawful;
+use zobject::{
+    children_may_change, local_roles_may_change, names_may_change, new_objects_keep_the_rules,
+    properties_may_change, proxy_roles_may_change, roles_may_be_sorted, settings_may_change,
+    sources_may_change, texts_keep_their_rules, users_may_be_added,
+};
 
 /// The names of the calls are those by which a path leads to a call, and each name is its call's alone.
 pub fn calls_are_those_of_traversal()
@@ -22,18 +27,31 @@ pub fn permissions_are_numbered()
     ensures { AreNumbered }
 {}
 
-/// An object that keeps the rules of objects keeps them when it is edited.
-pub fn edits_keep_the_rules()
-    ensures { EditsKeepRules }
-{
-    names_may_change();
-    sources_may_change();
-}
+/// What a call writes is settled to the records of the objects that the table has, with the ids of new objects in their
+/// places.
+pub fn written_records_settle()
+    ensures { SettlesRightly }
+{}
 
-/// A change writes one object, the one called on: it writes a record of an object that keeps the rules, where that one did.
-pub fn changes_are_records()
-    ensures { WriteRecords }
+/// What a call writes keeps the rules of a change: each object that it names is here, none twice, and holes fit.
+pub fn written_records_are_lawful()
+    ensures { WritesLawfully }
+{}
+
+/// What a row of the table writes keeps the rules of objects, where it isn't refused and the object called on does.
+pub fn rows_keep_the_rules()
+    ensures { (call : Call) → AllByRecursion IsRightRow (table call) }
 {
-    edits_keep_the_rules();
-    records_are_exact();
+    children_may_change();
+    kept_passwords_are_lawful();
+    local_roles_may_change();
+    names_may_change();
+    new_objects_keep_the_rules();
+    properties_may_change();
+    proxy_roles_may_change();
+    roles_may_be_sorted();
+    settings_may_change();
+    sources_may_change();
+    texts_keep_their_rules();
+    users_may_be_added();
 }

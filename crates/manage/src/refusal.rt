@@ -5,15 +5,41 @@ use crate::call::Call;
 use dtml_lex::DtmlRefusal;
 use evaluator::Ask;
 use std::alloc::AllocFailed;
-use zbase::{Memory, Oid};
+use zbase::{Memory, Oid, Text};
 
 /// A field of the calls.
 #[derive(Clone, Copy, Debug, PartialEq, Eq)]
 pub enum FieldName {
+    /// `acquire`: whether the roles of the containers count too.
+    Acquire,
     /// `data`: a source.
     Data,
+    /// `file`: the source of a new object.
+    File,
+    /// `id`: an id or a name.
+    Id,
+    /// `ids`: ids or names.
+    Ids,
+    /// `name`: the name of a user.
+    Name,
+    /// `new_id`: another id.
+    NewId,
+    /// `password`: the password of a user.
+    Password,
+    /// `permission_to_manage`: the name of a permission.
+    Permission,
+    /// `roles`: names of roles.
+    Roles,
     /// `title`: a title.
     Title,
+    /// `userid`: the name of a user.
+    UserId,
+    /// `userids`: names of users.
+    UserIds,
+    /// `value`: the value of a property.
+    Value,
+    /// `type`: the type of a property.
+    ValueType,
 }
 
 /// The name that a form gives a field. Takes no memory.
@@ -21,8 +47,21 @@ pub fn field_name(field: FieldName) -> &'static str
     ensures { result.now ≡ calls.field_text field }
 {
     match field {
+        FieldName::Acquire => "acquire",
         FieldName::Data => "data",
+        FieldName::File => "file",
+        FieldName::Id => "id",
+        FieldName::Ids => "ids",
+        FieldName::Name => "name",
+        FieldName::NewId => "new_id",
+        FieldName::Password => "password",
+        FieldName::Permission => "permission_to_manage",
+        FieldName::Roles => "roles",
         FieldName::Title => "title",
+        FieldName::UserId => "userid",
+        FieldName::UserIds => "userids",
+        FieldName::Value => "value",
+        FieldName::ValueType => "type",
     }
 }
 
@@ -45,8 +84,16 @@ pub enum ManageRefusal {
     BadField(FieldName),
     /// A field has more bytes than its rule allows.
     TooLong(FieldName),
+    /// A list has no such id: the first of those that were given.
+    NoSuchId(Text),
+    /// There is one of that name already.
+    Taken(Text),
+    /// There would be more than a limit allows.
+    TooMany,
     /// A source is no template, and why.
     BadSource(DtmlRefusal),
+    /// The containers of the object don't reach the root within 64.
+    TooDeep,
 }
 
 impl From<Memory> for ManageRefusal {

@@ -1,5 +1,7 @@
-ghost use Rattle.std.specs.Prelude.{◌≡◌};
-ghost use Rattle.manage.specs.Calls as calls;
+ghost use Rattle.std.specs.Prelude.{◌≡◌, Some, None, if◌then◌else◌};
+ghost use Rattle.manage.specs.Calls as spec;
+ghost use Rattle.manage.specs.Table as table;
+ghost use Rattle.manage.specs.declared.call.Call.TheVariants as calls;
 
 use crate::call::Call;
 use evaluator::permission::{
@@ -11,46 +13,41 @@ use http_in::Verb;
 use zbase::Oid;
 use zobject::Kind;
 
-fn on_folders(kind: Kind, permission: u8) -> Option<u8>
-    ensures { result ≡ calls.on_folders permission kind }
+// Where it is a call on that kind.
+fn on(is_one: bool, permission: u8) -> Option<u8>
+    ensures { result ≡ (if is_one then Some permission else None) }
 {
-    match kind {
-        Kind::Folder => Some(permission),
-        Kind::Method | Kind::Document | Kind::UserFolder => None,
-    }
+    if is_one { Some(permission) } else { None }
 }
 
-// On objects that have properties.
-fn on_holders(kind: Kind, permission: u8) -> Option<u8>
-    ensures { result ≡ calls.on_holders permission kind }
+fn is_folder(kind: Kind) -> bool
+    ensures { result ≡ table.is_folder kind }
 {
-    match kind {
-        Kind::Folder | Kind::Document => Some(permission),
-        Kind::Method | Kind::UserFolder => None,
-    }
+    matches!(kind, Kind::Folder)
 }
 
-// On objects that have a source.
-fn on_pages(kind: Kind, permission: u8) -> Option<u8>
-    ensures { result ≡ calls.on_pages permission kind }
+// What has properties.
+fn is_holder(kind: Kind) -> bool
+    ensures { result ≡ table.is_holder kind }
 {
-    match kind {
-        Kind::Method | Kind::Document => Some(permission),
-        Kind::Folder | Kind::UserFolder => None,
-    }
+    matches!(kind, Kind::Folder | Kind::Document)
 }
 
-fn on_user_folders(kind: Kind, permission: u8) -> Option<u8>
-    ensures { result ≡ calls.on_user_folders permission kind }
+// What has a source.
+fn is_page(kind: Kind) -> bool
+    ensures { result ≡ table.is_page kind }
 {
-    match kind {
-        Kind::UserFolder => Some(permission),
-        Kind::Folder | Kind::Method | Kind::Document => None,
-    }
+    matches!(kind, Kind::Method | Kind::Document)
+}
+
+fn is_user_folder(kind: Kind) -> bool
+    ensures { result ≡ table.is_user_folder kind }
+{
+    matches!(kind, Kind::UserFolder)
 }
 
 fn edit_needs(kind: Kind) -> Option<u8>
-    ensures { result ≡ calls.edit_needs kind }
+    ensures { result ≡ table.permission_of calls.Edit kind }
 {
     match kind {
         Kind::Method => Some(CHANGE_DTML_METHODS),
@@ -60,34 +57,34 @@ fn edit_needs(kind: Kind) -> Option<u8>
     }
 }
 
-// The row of a call: the permission that it needs on an object of that kind, where it is a call on one.
-fn row(call: Call, kind: Kind) -> Option<u8>
-    ensures { result ≡ calls.row call kind }
+// The permission that a call needs on an object of that kind, where it is a call on one.
+fn permission_of(call: Call, kind: Kind) -> Option<u8>
+    ensures { result ≡ table.permission_of call kind }
 {
     match call {
-        Call::AddFolder => on_folders(kind, ADD_FOLDERS),
-        Call::AddMethod | Call::AddDocument => on_folders(kind, ADD_DOCUMENTS_IMAGES_AND_FILES),
-        Call::AddUserFolder => on_folders(kind, ADD_USER_FOLDERS),
+        Call::AddFolder => on(is_folder(kind), ADD_FOLDERS),
+        Call::AddMethod | Call::AddDocument => on(is_folder(kind), ADD_DOCUMENTS_IMAGES_AND_FILES),
+        Call::AddUserFolder => on(is_folder(kind), ADD_USER_FOLDERS),
         Call::Edit => edit_needs(kind),
-        Call::DeleteObjects | Call::RenameObject => on_folders(kind, DELETE_OBJECTS),
+        Call::DeleteObjects | Call::RenameObject => on(is_folder(kind), DELETE_OBJECTS),
         Call::SetPermission | Call::SetLocalRoles | Call::DeleteLocalRoles => Some(
             CHANGE_PERMISSIONS,
         ),
-        Call::AddProperty | Call::DeleteProperties => on_holders(kind, MANAGE_PROPERTIES),
-        Call::SetProxyRoles => on_pages(kind, CHANGE_PROXY_ROLES),
-        Call::AddUser => on_user_folders(kind, MANAGE_USERS),
-        Call::UndoTransactions | Call::ListTransactions => on_folders(kind, UNDO_CHANGES),
+        Call::AddProperty | Call::DeleteProperties => on(is_holder(kind), MANAGE_PROPERTIES),
+        Call::SetProxyRoles => on(is_page(kind), CHANGE_PROXY_ROLES),
+        Call::AddUser => on(is_user_folder(kind), MANAGE_USERS),
+        Call::UndoTransactions | Call::ListTransactions => on(is_folder(kind), UNDO_CHANGES),
     }
 }
 
 fn is_of_root(call: Call) -> bool
-    ensures { result ≡ calls.is_of_root call }
+    ensures { result ≡ spec.is_of_root call }
 {
     matches!(call, Call::UndoTransactions | Call::ListTransactions)
 }
 
 fn is_by(call: Call, verb: Verb) -> bool
-    ensures { result ≡ calls.is_by call verb }
+    ensures { result ≡ spec.is_by call verb }
 {
     match verb {
         Verb::Get | Verb::Post => true,
@@ -96,7 +93,7 @@ fn is_by(call: Call, verb: Verb) -> bool
 }
 
 fn is_at(call: Call, oid: Oid) -> bool
-    ensures { result ≡ calls.is_at call oid }
+    ensures { result ≡ spec.is_at call oid }
 {
     !is_of_root(call) || oid.0 == 0
 }
@@ -106,10 +103,10 @@ fn is_at(call: Call, oid: Oid) -> bool
 ///
 /// Zope Book, "Users and Security": the permissions of management.
 pub fn permission_for(call: Call, verb: Verb, oid: Oid, kind: Kind) -> Option<u8>
-    ensures { result ≡ calls.permission_for call verb oid kind }
+    ensures { result ≡ table.permission_for call verb oid kind }
 {
     if is_by(call, verb) && is_at(call, oid) {
-        row(call, kind)
+        permission_of(call, kind)
     } else {
         None
     }

@@ -14,8 +14,8 @@ use std::alloc::Global;
 /// - `change NAME ID`, with a form in the lines below: `written ID` comes of it, with the record that is written of that
 ///   object, or `refused WHY`.
 ///
-/// WHY is `need ID`, `broken ID`, `not-found NAME`, `not-yet ID`, `missing FIELD`, `bad-field FIELD`, `too-long FIELD`, or
-/// `bad-source KIND PLACE` with the number of the kind.
+/// WHY is `need ID`, `broken ID`, `not-found NAME`, `not-yet ID`, `missing FIELD`, `bad-field FIELD`, `too-long FIELD`,
+/// `no-such-id ID`, `taken NAME`, `too-many`, `too-deep`, or `bad-source KIND PLACE` with the number of the kind.
 #[derive(Drop)]
 pub struct ManageCases;
 

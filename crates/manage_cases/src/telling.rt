@@ -24,6 +24,11 @@ fn put_words(line: &mut String, word: &str, other: &str) -> Result<(), CasesRefu
     put_word(line, other)
 }
 
+// Adds a word and a text, which may be empty, a blank before each.
+fn put_text(line: &mut String, word: &str, text: &str) -> Result<(), CasesRefusal> {
+    put_words(line, word, if text.is_empty() { "\"\"" } else { text })
+}
+
 fn put_source(alloc: Global, line: &mut String, refusal: DtmlRefusal) -> Result<(), CasesRefusal> {
     let (kind, place) = kind_and_place(refusal)?;
     put_numbered(alloc, line, "bad-source", kind)?;
@@ -52,6 +57,10 @@ pub(crate) fn put_refusal(
         ManageRefusal::Missing(field) => put_words(line, "missing", field_name(field)),
         ManageRefusal::BadField(field) => put_words(line, "bad-field", field_name(field)),
         ManageRefusal::TooLong(field) => put_words(line, "too-long", field_name(field)),
+        ManageRefusal::NoSuchId(id) => put_text(line, "no-such-id", id.as_str()),
+        ManageRefusal::Taken(name) => put_text(line, "taken", name.as_str()),
+        ManageRefusal::TooMany => put_word(line, "too-many"),
         ManageRefusal::BadSource(refusal) => put_source(alloc, line, refusal),
+        ManageRefusal::TooDeep => put_word(line, "too-deep"),
     }
 }

@@ -35,7 +35,7 @@ less Greater e = absurd (let bad = e in cc)
 is_less : (o : Ordering) → o ≡ Less → is_lt o ≡ true
 is_less o e = subst (λ (p : Ordering). is_lt p ≡ true) (sym e) refl
 
-text_trans : (a b c : List ℕ) → comes_before a b ≡ true → comes_before b c ≡ true → comes_before a c ≡ true
+pub text_trans : (a b c : List ℕ) → comes_before a b ≡ true → comes_before b c ≡ true → comes_before a c ≡ true
 text_trans a b c e f = is_less (slice_cmp nat_cmp a c) (nat_list_cmp_total.trans a b c (less _ e) (less _ f))
 
 number_trans : (a b c : ℕ) → ltb a b ≡ true → ltb b c ≡ true → ltb a c ≡ true

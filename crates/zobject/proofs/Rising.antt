@@ -63,22 +63,22 @@ from_none least most P xs are = record { enough = omega arith; few = are.few; ea
 -- ---- in an order
 
 module _ {X : Type 0} (before : X → X → Bool) (trans : (x y z : X) → before x y ≡ true → before y z ≡ true → before x z ≡ true) where
-  abbrev Above : X → List X → Type 0
+  abbrev pub Above : X → List X → Type 0
   Above x ys = AllByRecursion (λ y. before x y ≡ true) ys
 
   above_more : (x y : X) (ys : List X) → before x y ≡ true → Above y ys → Above x ys
   above_more x y [] e all = tt
   above_more x y (z ∷ zs) e all = (trans x y z e all.0, above_more x y zs e all.1)
 
-  rise_above : (x : X) (ys : List X) → Rise before (x ∷ ys) → Above x ys
+  pub rise_above : (x : X) (ys : List X) → Rise before (x ∷ ys) → Above x ys
   rise_above x [] rise = tt
   rise_above x (y ∷ ys) rise = (rise.0, above_more x y ys rise.0 (rise_above y ys rise.1))
 
-  rise_behind : (x : X) (ys : List X) → Rise before (x ∷ ys) → Rise before ys
+  pub rise_behind : (x : X) (ys : List X) → Rise before (x ∷ ys) → Rise before ys
   rise_behind x [] rise = tt
   rise_behind x (y ∷ ys) rise = rise.1
 
-  above_rise : (x : X) (ys : List X) → Above x ys → Rise before ys → Rise before (x ∷ ys)
+  pub above_rise : (x : X) (ys : List X) → Above x ys → Rise before ys → Rise before (x ∷ ys)
   above_rise x [] all rise = tt
   above_rise x (y ∷ ys) all rise = (all.0, rise)
 

@@ -3,5 +3,7 @@ pub mod Rules
 pub mod Folders
 pub mod Shapes
 pub mod Changes
+pub mod Likely
+pub mod Sorting
 pub mod TextLaws
 pub mod Worked

@@ -1,10 +1,13 @@
--- Worked rows: which texts keep their rules, what a folder lists, and lists with an item put in or left out.
-use Rattle.std.proofs.Common.{◌≡◌, ℕ, Bool, true, false, [], ◌∷◌, map, Some, None, refl, codes}
+-- Worked rows: which texts keep their rules, what a folder lists, lists with an item put in or left out, and sorted roles.
+use Rattle.std.proofs.Common.{◌≡◌, ℕ, Bool, true, false, List, [], ◌∷◌, map, Some, None, refl, codes}
+use Rattle.std.specs.List.{repeat}
 use Rattle.zobject.specs.declared.object.Setting.{Setting}
 use Rattle.zobject.specs.declared.object.Child.{Child}
 use Rattle.zobject.specs.declared.version.Kind.TheVariants.{Folder, Method, Document, UserFolder}
 use Rattle.zobject.specs.declared.version.Rule.TheVariants.{StoredId, ChildName, PropertyName, Role, UserName}
 use Rattle.zobject.specs.Texts.{fits, is_id}
+use Rattle.zobject.specs.Likely.{is_like_id, is_likely}
+use Rattle.zobject.specs.Sorting.{sorted, sorted_with}
 use Rattle.zobject.specs.Folders.{child_of}
 use Rattle.zobject.specs.Changes.{put_setting, without_children}
 
@@ -72,3 +75,22 @@ put_in_place = refl
 
 put_last : put_setting (of 13 true) (of 1 false ∷ []) ≡ of 1 false ∷ of 13 true ∷ []
 put_last = refl
+
+-- ---- likely texts, and sorted roles
+
+-- an id of 101 letters breaks its rule by its length alone; others by more
+long_id : List ℕ
+long_id = repeat 101 (codes "a")
+
+by_length : fits (StoredId Document) long_id ≡ false
+unfolding is_id long_id
+by_length = refl
+
+likely : map (is_likely (StoredId Document)) (long_id ∷ codes "a" ∷ codes "_a" ∷ codes "title" ∷ [] ∷ []) ≡ true ∷ true ∷ false ∷ false ∷ false ∷ []
+unfolding is_like_id long_id
+likely = refl
+
+-- by bytes, and each once
+roles_sorted : sorted (codes "b" ∷ codes "a" ∷ codes "B" ∷ codes "a" ∷ codes "ab" ∷ []) ≡ codes "B" ∷ codes "a" ∷ codes "ab" ∷ codes "b" ∷ []
+unfolding sorted_with
+roles_sorted = refl

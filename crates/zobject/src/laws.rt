@@ -1,5 +1,5 @@
 ghost use Rattle.std.specs.Prelude.{◌≡◌, ◌≤◌, ◌<◌, ◌^◌, ℕ, Bool, List, [], ◌∷◌, ◌++◌, length, Some, None};
-ghost use Rattle.std.specs.List.{filter};
+ghost use Rattle.std.specs.List.{filter, AllByRecursion};
 ghost use Rattle.zbase.specs.Roles.{IsRole};
 ghost use Rattle.zobject.specs.declared.limits.TheConstants.{MOST_CHILDREN, MOST_COUNTED, MOST_LOCALS, MOST_PROPERTIES, MOST_USERS};
 ghost use Rattle.zobject.specs.declared.object.Child.{Child};
@@ -10,11 +10,14 @@ ghost use Rattle.zobject.specs.declared.object.Part2.TheVariants as parts;
 ghost use Rattle.zobject.specs.declared.object.Property.{Property};
 ghost use Rattle.zobject.specs.declared.object.Setting.{Setting};
 ghost use Rattle.zobject.specs.declared.object.User.{User};
+ghost use Rattle.zobject.specs.declared.version.Rule.{Rule};
 ghost use Rattle.zobject.specs.declared.version.Rule.TheVariants.{Role, Source, StoredId, Title};
 ghost use Rattle.zobject.specs.declared.version.Version.TheVariants.{Second};
 ghost use Rattle.zobject.specs.Changes.{new_object, put, put_local, put_property, put_setting, put_user, with_id, with_locals, with_part, with_properties, with_settings, with_title, without_children};
 ghost use Rattle.zobject.specs.Folders.{child_of};
+ghost use Rattle.zobject.specs.Likely.{is_like, most_bytes};
 ghost use Rattle.zobject.specs.Rules.{AreRoles, IsChild, IsLocal, IsObject, IsPart, IsProperty, IsSetting, IsUser, Keeps, comes_before, kind_of};
+ghost use Rattle.zobject.specs.Sorting.{sorted};
 ghost use Rattle.zobject.specs.Texts.{keeps};
 
 /// Each role of an object is one that a reply may show.
@@ -97,4 +100,17 @@ pub fn proxy_roles_may_change()
         → IsObject (with_part (parts.Method source new) o) }
     ensures document { (o : Object) (source : List ℕ) (proxy new : List (List ℕ)) → IsObject o → o.part ≡ parts.Document source proxy → AreRoles 0 new
         → IsObject (with_part (parts.Document source new) o) }
+{}
+
+/// A text that keeps its rule but for too many bytes, and hasn't too many, keeps it.
+pub fn texts_keep_their_rules()
+    ensures { (rule : Rule) (text : List ℕ) → is_like rule text ≡ Bool.true → length text ≤ most_bytes rule → Keeps rule text }
+{}
+
+/// Roles in any order, some of them twice, are roles of an object once they are sorted, where there are then at most
+/// `MOST_COUNTED`; and at least one where there is one.
+pub fn roles_may_be_sorted()
+    ensures any { (texts : List (List ℕ)) → AllByRecursion (Keeps Role) texts → length (sorted texts) ≤ MOST_COUNTED → AreRoles 0 (sorted texts) }
+    ensures some { (text : List ℕ) (texts : List (List ℕ)) → AllByRecursion (Keeps Role) (text ∷ texts) → length (sorted (text ∷ texts)) ≤ MOST_COUNTED
+        → AreRoles 1 (sorted (text ∷ texts)) }
 {}

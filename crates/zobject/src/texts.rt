@@ -54,7 +54,7 @@ fn is_role_byte(byte: u8) -> bool
 }
 
 // It goes on behind a byte that fails, so that many bytes are tested at once: a folder may have thousands of names.
-fn has_id_bytes(text: &[u8]) -> bool
+pub(crate) fn has_id_bytes(text: &[u8]) -> bool
     ensures { result ≡ list_all rules.is_id_byte text.now }
 {
     let mut all = true;
@@ -64,19 +64,19 @@ fn has_id_bytes(text: &[u8]) -> bool
     all
 }
 
-fn has_name_bytes(text: &[u8]) -> bool
+pub(crate) fn has_name_bytes(text: &[u8]) -> bool
     ensures { result ≡ list_all (λ b. rules.is_letter b || rules.is_digit b || (b == 95)) text.now }
 {
     text.iter().all(|byte| is_name_byte(*byte))
 }
 
-fn has_user_bytes(text: &[u8]) -> bool
+pub(crate) fn has_user_bytes(text: &[u8]) -> bool
     ensures { result ≡ list_all (λ b. nat_le 32 b && not (b == 58)) text.now }
 {
     text.iter().all(|byte| is_user_byte(*byte))
 }
 
-fn has_role_bytes(text: &[u8]) -> bool
+pub(crate) fn has_role_bytes(text: &[u8]) -> bool
     ensures { result ≡ list_all (λ b. rules.is_between 32 126 b && not (b == 44)) text.now }
 {
     text.iter().all(|byte| is_role_byte(*byte))
@@ -88,7 +88,7 @@ fn is_one_of(names: &[&str], text: &[u8]) -> bool
     names.iter().any(|name| name.as_bytes() == text)
 }
 
-fn is_reserved(text: &[u8]) -> bool
+pub(crate) fn is_reserved(text: &[u8]) -> bool
     ensures { result ≡ rules.is_reserved text.now }
 {
     let names: [&str; 10] = RESERVED;
@@ -107,7 +107,7 @@ fn is_spelled(text: &[u8]) -> bool
     is_of_length(MOST_NAME, text) && has_id_bytes(text)
 }
 
-fn is_hidden(text: &[u8]) -> bool
+pub(crate) fn is_hidden(text: &[u8]) -> bool
     ensures { result ≡ rules.is_hidden text.now }
 {
     text.starts_with(b"_") || text.starts_with(b"aq_") || text.starts_with(b"manage_")
@@ -121,13 +121,13 @@ fn is_id(text: &[u8]) -> bool
     is_spelled(text) && !is_hidden(text) && !is_reserved(text)
 }
 
-fn is_acl_users(text: &[u8]) -> bool
+pub(crate) fn is_acl_users(text: &[u8]) -> bool
     ensures { result ≡ rules.is_acl_users text.now }
 {
     b"acl_users".as_slice() == text
 }
 
-fn begins_with_letter(text: &[u8]) -> bool
+pub(crate) fn begins_with_letter(text: &[u8]) -> bool
     ensures { result ≡ list_any rules.is_letter (take 1 text.now) }
 {
     match text {
@@ -184,7 +184,7 @@ fn fits(rule: Rule, text: &[u8]) -> bool
 }
 
 #[tactic(auto, using(crate::proofs::Utf8::utf8_yes, crate::proofs::Utf8::utf8_no))]
-fn is_utf8(bytes: &[u8]) -> bool
+pub(crate) fn is_utf8(bytes: &[u8]) -> bool
     ensures { result ≡ is_utf8 bytes.now }
 {
     match str::from_utf8(bytes) {

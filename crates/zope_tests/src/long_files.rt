@@ -149,8 +149,8 @@ fn files_that_are_too_long_are_refused_by_their_length(rt: HostRuntime) -> Resul
             "too long 281474976710656\n",
         ),
         ("check", u64::MAX, 12, "too long 18446744073709551615\n"),
-        // no machine has the memory for the bytes of the longest file
-        ("check", 281_474_976_710_655, 7, "out of memory\n"),
+        // no machine has the memory for the bytes of the longest file, of which a check reads the front
+        ("check", 281_474_976_710_655, 3, "damaged 9 at 0\n"),
     ] {
         let text = Bytes::from_slice(alloc, b"zope schedule 1\nend\n")?;
         let mut input = MemorySource::new(text, FaultPlan::none(alloc));

@@ -1,7 +1,7 @@
 use Rattle.zknown.specs.Seen.{objects}
 use Rattle.manage.specs.Calling.{told, here}
 use Rattle.manage.specs.Changing.{change}
-use Rattle.manage.proofs.Steps.{decided, goes_so, is_here}
+use Rattle.manage.proofs.Steps.{goes_so, is_here}
 use Rattle.manage.proofs.changing.change_on.Goals as goal
 
 pub changed-requires : goal.changed-requires
@@ -9,4 +9,4 @@ changed-requires c = record { lawful = c.requires.lawful c.args.oid c.in_ok-obje
 
 pub returns : goal.returns
 unfolding change
-returns c = goes_so told _ c.changed.result (objects c.args.known.now) (here c.args.oid) _ c.in_ok-object.object.now c.in_ok-object.ensures.whole (decided (objects c.args.known.now) c.changed.result _ c.changed.ensures)
+returns c = goes_so told _ c.changed.result (objects c.args.known.now) (here c.args.oid) _ c.in_ok-object.object.now c.in_ok-object.ensures.whole c.changed.ensures

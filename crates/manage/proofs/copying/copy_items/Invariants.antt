@@ -2,4 +2,4 @@ use Rattle.std.proofs.Common.{◌≡◌, take}
 use Rattle.manage.proofs.copying.copy_items.Given as goal
 
 abbrev pub invariant-loop-item : goal.invariant-loop-item
-invariant-loop-item g l = l.copies ≡ take l.item-index l.item-items
+invariant-loop-item g l = l.copies ≡ take l.item-index l.items
