@@ -14,7 +14,7 @@ use Rattle.form_fields.specs.declared.field.Scalar.{Scalar}
 use Rattle.form_fields.specs.declared.field.Scalar.TheVariants as scalars
 use Rattle.form_fields.specs.Numbers.{whole_number}
 use Rattle.zbase.specs.declared.limits.TheConstants.{MOST_SOURCE}
-use Rattle.zobject.specs.declared.limits.TheConstants.{MOST_COUNTED, MOST_NAME, MOST_ROLE, MOST_TITLE, MOST_VALUE}
+use Rattle.zobject.specs.declared.limits.TheConstants.{MOST_COUNTED, MOST_GIVEN_PASSWORD, MOST_NAME, MOST_ROLE, MOST_TITLE, MOST_VALUE}
 use Rattle.zobject.specs.declared.version.Kind.TheVariants.{Document}
 use Rattle.zobject.specs.declared.version.Rule.TheVariants as rules
 use Rattle.zobject.specs.Likely as texts
@@ -25,7 +25,6 @@ use Rattle.manage.specs.declared.refusal.ManageRefusal.TheVariants as refusals
 use Rattle.manage.specs.declared.rule.FieldRow.{FieldRow}
 use Rattle.manage.specs.declared.rule.FieldRule.{FieldRule}
 use Rattle.manage.specs.declared.rule.FieldRule.TheVariants as rule
-use Rattle.manage.specs.declared.rule.TheConstants.{MOST_GIVEN_PASSWORD}
 use Rattle.manage.specs.Calls.{field_text}
 
 -- a value, or why there is none

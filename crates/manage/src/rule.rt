@@ -7,11 +7,8 @@ use crate::refusal::FieldName;
 use evaluator::permission_named;
 use form_fields::whole_number;
 use zbase::MOST_SOURCE;
-use zobject::limits::{MOST_NAME, MOST_ROLE, MOST_TITLE, MOST_VALUE};
+use zobject::limits::{MOST_GIVEN_PASSWORD, MOST_NAME, MOST_ROLE, MOST_TITLE, MOST_VALUE};
 use zobject::{Kind, Rule};
-
-/// The greatest length of a password that a form gives, in bytes. What is kept of it has a length of its own.
-pub(crate) const MOST_GIVEN_PASSWORD: usize = 1000;
 
 /// What each text of a field has to be.
 #[derive(Clone, Copy, Debug, PartialEq, Eq)]

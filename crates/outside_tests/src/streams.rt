@@ -63,50 +63,56 @@ fn a_clock_in_memory_tells_its_moments_in_turn(rt: HostRuntime) -> Result<(), Fa
     Ok(())
 }
 
-/// Accepts a connection, reads two bytes of it, writes a reply and closes it. None where there is no further
-/// connection.
+/// Accepts a connection, reads twice of it, writes a reply and closes it. What it read; none where there is no
+/// further connection.
 fn serve_next<H: Hub>(hub: &mut H, reply: &[u8]) -> Result<Option<[u8; 2]>, OutsideRefusal> {
     let Some(connection) = hub.accept()? else {
         return Ok(None);
     };
-    let mut buf = [0u8; 2];
-    hub.read(connection, &mut buf)?;
+    let (mut first, mut second) = ([0u8; 1], [0u8; 1]);
+    hub.read(connection, &mut first)?;
+    hub.read(connection, &mut second)?;
     hub.write_all(connection, reply)?;
     hub.close(connection);
-    Ok(Some(buf))
+    Ok(Some([first[0], second[0]]))
 }
 
-/// A hub of three connections that is listening, whose sixth call fails.
+/// A hub of three connections, each read byte by byte, whose seventh call fails.
 fn hub_of_three(alloc: Global) -> Result<MemoryHub, Memory> {
     let mut coming = Vec::new(alloc);
     for bytes in ["ab", "cd", "ef"] {
         coming.push(Bytes::from_slice(alloc, bytes.as_bytes())?)?;
     }
-    let plan = FaultPlan::new(Vec::from_slice(alloc, &[6])?);
-    Ok(MemoryHub::new(alloc, coming, plan))
+    let plan = FaultPlan::new(Vec::from_slice(alloc, &[7])?);
+    Ok(MemoryHub::new(alloc, coming, plan).in_pieces(1))
 }
 
 #[test]
 fn a_hub_in_memory_serves_its_connections_in_turn(rt: HostRuntime) -> Result<(), Fail> {
     let mut hub = hub_of_three(rt.alloc())?;
     assert_eq!(rt; hub.listen(80), Ok(()));
+    assert_eq!(rt; hub.port(), Some(80));
     for (reply, wanted) in [
         ("first", Ok(Some(*b"ab"))),
         ("second", Err(OutsideRefusal::Failed)),
         ("third", Ok(Some(*b"ef"))),
         ("fourth", Ok(None)),
     ] {
+        assert_eq!(rt; hub.has_waiting(), wanted != Ok(None));
         assert_eq!(rt; serve_next(&mut hub, reply.as_bytes()), wanted);
     }
     for (number, wanted) in [
-        (0, Some("first")),
-        (1, Some("")),
-        (2, Some("third")),
+        (0, Some(("first", false, 0))),
+        (1, Some(("", true, 1))),
+        (2, Some(("third", false, 0))),
         (3, None),
     ] {
+        let told = hub
+            .connection(number)
+            .map(|c| (c.written.as_slice(), c.is_open, c.read_faults));
         assert_eq!(rt;
-            hub.written(number),
-            wanted.map(|text| text.as_bytes()),
+            told,
+            wanted.map(|(text, is_open, faults)| (text.as_bytes(), is_open, faults)),
             "on connection {number}"
         );
     }

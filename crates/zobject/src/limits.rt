@@ -12,6 +12,9 @@ pub const MOST_VALUE: usize = 10_000;
 /// The greatest length of a role's name in bytes.
 pub const MOST_ROLE: usize = 64;
 
+/// The greatest length of a password that is given for a user, in bytes.
+pub const MOST_GIVEN_PASSWORD: usize = 1000;
+
 /// The greatest length of what is kept of a password, in bytes.
 pub const MOST_PASSWORD: usize = 100;
 

@@ -8,6 +8,7 @@ use Rattle.zbase.specs.Hex.{hex16_text}
 use Rattle.zio.specs.Clocks.{Tick, next_tick}
 use Rattle.zio.specs.Shelves.{Entry, file_at}
 use Rattle.zobject.specs.Rules.{Keeps}
+use Rattle.zobject.specs.declared.limits.TheConstants.{MOST_GIVEN_PASSWORD}
 use Rattle.zobject.specs.declared.version.Rule.TheVariants.{UserName}
 use Rattle.stamp.specs.Stamps.{IsOutOfRange, IsStamp}
 use Rattle.new_site.specs.Begun.{IsBegun}
@@ -20,14 +21,10 @@ use Rattle.zope.specs.Shelved.{IsMissing, IsPresent}
 
 -- ---- who the manager is
 
--- the most bytes of a password
-abbrev pub most_password : ℕ
-most_password = 1000
-
 pub record IsLegible (name password : List ℕ) : Type 0 where
   pub name_keeps : Keeps UserName name
   pub given : 1 ≤ length password
-  pub short : length password ≤ most_password
+  pub short : length password ≤ MOST_GIVEN_PASSWORD
 
 -- ---- when the site is made
 

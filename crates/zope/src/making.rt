@@ -13,16 +13,14 @@ use std::alloc::Global;
 use zbase::{Memory, Text, Tid};
 use zdisk::one_image;
 use zio::{Clock, OutsideRefusal, Shelf, ShelfRefusal, Sink};
+use zobject::limits::MOST_GIVEN_PASSWORD;
 use zobject::{Rule, keeps};
-
-/// The most bytes of a password.
-const MAX_PASSWORD: usize = 1_000;
 
 // Whether a manager may have this name and password.
 fn is_legible(name: &str, password: &str) -> bool
     ensures { IsTrue result ↔ IsLegible name.now password.now }
 {
-    keeps(Rule::UserName, name.as_bytes()) && !password.is_empty() && password.len() <= MAX_PASSWORD
+    keeps(Rule::UserName, name.as_bytes()) && !password.is_empty() && password.len() <= MOST_GIVEN_PASSWORD
 }
 
 // The id of the transaction that makes a site at that moment: its stamp, and 1 where it has none, or the stamp 0.
