@@ -20,7 +20,9 @@ use zobject::{Rule, keeps};
 fn is_legible(name: &str, password: &str) -> bool
     ensures { IsTrue result ↔ IsLegible name.now password.now }
 {
-    keeps(Rule::UserName, name.as_bytes()) && !password.is_empty() && password.len() <= MOST_GIVEN_PASSWORD
+    keeps(Rule::UserName, name.as_bytes())
+        && !password.is_empty()
+        && password.len() <= MOST_GIVEN_PASSWORD
 }
 
 // The id of the transaction that makes a site at that moment: its stamp, and 1 where it has none, or the stamp 0.
