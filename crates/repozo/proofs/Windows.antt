@@ -1,6 +1,6 @@
 -- Bytes that are copied and digested a window at a time.
 use Rattle.std.proofs.Common.{◌≡◌, ℕ, ◌+◌, ◌≤◌, List, [], ◌++◌, length, take, drop, Option, None, Some, Ok, refl, sym, ap, subst, ◌∙◌, append_assoc, append-nil, length-append, take-add, drop-drop, arith}
-use Rattle.std.specs.Prelude.{IfSome}
+use Rattle.std.specs.Prelude.{IfSome, is_some}
 use Rattle.std.specs.Option.{ForSome}
 use Rattle.md5.specs.declared.Md5.{Md5}
 use Rattle.md5.specs.Md5.{md5, Holds}
@@ -9,6 +9,13 @@ use Rattle.zdisk.specs.Crashes.{Becomes}
 use Rattle.zdisk.specs.Disk.{HasRange, Held, Told, bytes_at, content}
 use Rattle.zdisk.specs.OneChange.{put_end}
 use Rattle.repozo.specs.Disks.{Appended, Copied, Grows}
+
+-- a call that may change the file lets a disk go on telling, or not telling
+pub follows_tells : (R : Held → Held → Type 0) (old new : Option Told) → Follows old new R → is_some new ≡ is_some old
+follows_tells R None None f = refl
+follows_tells R None (Some n) f = absurd f
+follows_tells R (Some o) None f = absurd f
+follows_tells R (Some o) (Some n) f = refl
 
 pub grows_none : (o : Option Told) → Grows o o []
 grows_none None = tt

@@ -1,12 +1,14 @@
 -- Several disks at once: what they tell, and which of them failed.
-use Rattle.std.specs.Prelude.{◌≡◌, ◌⊎◌, ℕ, true, List, [], ◌∷◌, ◌++◌, length, Option, None, Some, IfSome}
+use Rattle.std.specs.Prelude.{◌≡◌, ◌⊎◌, ◌≤◌, ◌-◌, ℕ, true, List, [], ◌∷◌, ◌++◌, length, Option, None, Some, IfSome}
 use Rattle.std.specs.Option.{option_map}
 use Rattle.zbase.specs.Faults.{Counter, Counts}
 use Rattle.zdisk.specs.Crashes.{Becomes}
-use Rattle.zdisk.specs.Disk.{Told, content, bytes_at}
+use Rattle.zdisk.specs.Disk.{HasRange, Told, content, bytes_at}
 use Rattle.md5.specs.Md5.{md5, Holds as Md5Holds}
 use Rattle.md5.specs.declared.Md5.{Md5}
 use Rattle.repozo.specs.declared.index.PieceRow.{PieceRow}
+use Rattle.repozo.specs.declared.planning.BackupPlan.{BackupPlan}
+use Rattle.repozo.specs.declared.planning.BackupPlan.TheVariants as plans
 use Rattle.repozo.specs.Pieces.{is_right}
 
 -- the disk tells, and reads give these bytes
@@ -47,6 +49,12 @@ Grows None None bytes = Unit {0}
 Grows (Some old) (Some new) bytes = content new ≡ content old ++ bytes
 Grows (Some old) None bytes = ⊥
 Grows None (Some new) bytes = ⊥
+
+-- what is due to be copied stands in the file, where its disk tells
+abbrev pub HasPart : Option Told → BackupPlan → Type 0
+HasPart disk plans.Nothing = Unit {0}
+HasPart disk (plans.Full n) = HasRange disk 0 n
+HasPart disk (plans.More start n) = (start ≤ n) × HasRange disk start (n - start)
 
 -- so many bytes of one disk from a place on were put behind what another one held, and into a digest
 pub record Appended (from : Option Told) (start size : ℕ) (old new : Option Told) (before after : Md5) : Type 0 where

@@ -1,4 +1,4 @@
-ghost use Rattle.std.specs.Prelude.{◌≡◌, ◌-◌, ◌≤◌, [], IfErr, IfOk, IsErrOf};
+ghost use Rattle.std.specs.Prelude.{◌≡◌, ◌-◌, ◌≤◌, [], IfErr, IfOk, IsErrOf, is_some};
 ghost use Rattle.std.specs.Option.{ForSome};
 ghost use Rattle.zbase.specs.Faults.{Counts};
 ghost use Rattle.zdisk.specs.Crashes.{IsSynced};
@@ -15,6 +15,7 @@ use zdisk::Disk;
 /// Copies what stands in a file from one place up to another into an empty piece, syncs the piece, and gives the digest.
 ///
 /// All memory is taken before the first device call on the piece, and none is made after one that failed.
+#[tactic(auto, using(crate::proofs::Windows::follows_tells))]
 pub fn copy<D: Disk, P: Disk>(
     alloc: Global,
     file: &mut D,
@@ -26,6 +27,8 @@ pub fn copy<D: Disk, P: Disk>(
     requires within { HasRange (D.told file.old) start (end - start) }
     requires empty { ForSome (P.told piece.old) (λ told. content told ≡ []) }
     ensures copied { IfOk result (Copied (D.told file.old) start (end - start) (P.told piece.old) (P.told piece.new)) }
+    // Whatever happens, the piece tells as before.
+    ensures tells { is_some (P.told piece.new) ≡ is_some (P.told piece.old) }
     ensures same { D.told file.new ≡ D.told file.old }
     ensures memory { IsErrOf result RepoRefusal.Memory → P.told piece.new ≡ P.told piece.old }
     ensures others { IfErr result IsOfCopy }

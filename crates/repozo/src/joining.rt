@@ -1,4 +1,4 @@
-ghost use Rattle.std.specs.Prelude.{◌≡◌, ◌+◌, ◌*◌, ◌≤◌, ℕ, List, [], None, Some, map, IfErr, IfOk, IsErrOf, OnOk, length};
+ghost use Rattle.std.specs.Prelude.{◌≡◌, ◌+◌, ◌*◌, ◌≤◌, ℕ, List, [], None, Some, map, IfErr, IfOk, IsErrOf, OnOk, is_some, length};
 ghost use Rattle.std.specs.List.{AllByRecursion, concat};
 ghost use Rattle.std.specs.Option.{ForSome};
 ghost use Rattle.zbase.specs.Faults.{Counts};
@@ -34,6 +34,7 @@ fn append_each<D: Disk, O: Disk>(
     requires space { end_of rows.now ≤ O.spare_bytes out.old }
     ensures joined { OnOk result ((held : List (List ℕ)) → AllRead (map D.told pieces.old) held → Grows (O.told out.old) (O.told out.new) (concat held)) }
     ensures room { OnOk result (1 ≤ O.spare_calls out.new) }
+    ensures tells { is_some (O.told out.new) ≡ is_some (O.told out.old) }
     ensures same { map D.told pieces.new ≡ map D.told pieces.old }
     ensures others { IfErr result IsOfAppend }
     ensures piece_counts { OneCounts (map D.counter pieces.old) (map D.counter pieces.new) (IsErrOf result RepoRefusal.Piece) }
@@ -56,6 +57,7 @@ fn append_each<D: Disk, O: Disk>(
 /// gives its length.
 ///
 /// All memory is taken before the first device call on the file, and none is made after one that failed.
+#[tactic(auto, using(crate::proofs::Windows::follows_tells))]
 pub fn put_pieces<D: Disk, O: Disk>(
     alloc: Global,
     pieces: &mut Vec<D>,
@@ -69,6 +71,8 @@ pub fn put_pieces<D: Disk, O: Disk>(
     ensures joined { OnOk result ((held : List (List ℕ)) → AllRead (map D.told pieces.old.items) held
         → Becomes (O.told out.old) (O.told out.new) (λ _. concat held)) }
     ensures size { IfOk result (λ size. size ≡ end_of rows.now) }
+    // Whatever happens, the file tells as before.
+    ensures tells { is_some (O.told out.new) ≡ is_some (O.told out.old) }
     ensures same { map D.told pieces.new.items ≡ map D.told pieces.old.items }
     ensures memory { IsErrOf result RepoRefusal.Memory → O.told out.new ≡ O.told out.old }
     ensures others { IfErr result IsOfPut }
@@ -106,6 +110,8 @@ pub fn join<D: Disk, O: Disk>(
         → first_bad rows.now held ≡ Some name }
     ensures unwritten { (name : List ℕ) → IsErrOf result (RepoRefusal.BadPiece name) → out.new ≡ out.old }
     ensures memory { IsErrOf result RepoRefusal.Memory → O.told out.new ≡ O.told out.old }
+    // Whatever happens, the file tells as before.
+    ensures tells { is_some (O.told out.new) ≡ is_some (O.told out.old) }
     ensures same { map D.told pieces.new.items ≡ map D.told pieces.old.items }
     ensures others { IfErr result IsOfJoin }
     ensures piece_counts { OneCounts (map D.counter pieces.old.items) (map D.counter pieces.new.items) (IsErrOf result RepoRefusal.Piece) }

@@ -5,7 +5,7 @@ ghost use Rattle.zbase.specs.Faults.{Counts};
 ghost use Rattle.zdisk.specs.Disk.{HasRange, bytes_at, content};
 ghost use Rattle.fs_record.specs.declared.damage.Damage.{Damage as Kind};
 ghost use Rattle.fs_record.specs.Opening.{Damaged};
-ghost use Rattle.repozo.specs.Disks.{AllRead, OneCounts, Reads};
+ghost use Rattle.repozo.specs.Disks.{AllRead, HasPart, OneCounts, Reads};
 ghost use Rattle.repozo.specs.Index.{AreRows, Chained, HasLine};
 ghost use Rattle.repozo.specs.Pieces.{IsDue, are_current, due, is_part, part};
 ghost use Rattle.repozo.specs.Refusals.{IsOfCopy, IsOfPlan};
@@ -214,6 +214,8 @@ pub fn plan<D: Disk>(
     requires paired { length pieces.old.items ≡ length rows.now }
     ensures due { IfOk result (λ plan. (bytes : List ℕ) (held : List (List ℕ)) → Reads (D.told file.old) bytes
         → AllRead (map D.told pieces.old.items) held → IsDue full rows.now held bytes plan) }
+    // What is to be copied stands in the file.
+    ensures within { IfOk result (HasPart (D.told file.old)) }
     ensures damaged { (kind : Kind) (place : ℕ) → IsErrOf result (RepoRefusal.Damaged kind place)
         → IfSome (D.told file.old) (λ told. Damaged (content told) place kind) }
     ensures same { D.told file.new ≡ D.told file.old }

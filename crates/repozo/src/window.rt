@@ -1,4 +1,4 @@
-ghost use Rattle.std.specs.Prelude.{◌≡◌, ◌+◌, ◌*◌, ◌<◌, ◌≤◌, ◌^◌, IfOk, OnOk, IfSome, IsErrOf, length};
+ghost use Rattle.std.specs.Prelude.{◌≡◌, ◌+◌, ◌*◌, ◌<◌, ◌≤◌, ◌^◌, IfOk, OnOk, IfSome, IsErrOf, is_some, length};
 ghost use Rattle.std.specs.Option.{ForSome};
 ghost use Rattle.zbase.specs.Faults.{Counts};
 ghost use Rattle.zdisk.specs.Disk.{HasRange, bytes_at, content};
@@ -28,6 +28,7 @@ pub(crate) fn new_window(alloc: Global) -> Result<Vec<u8>, AllocError>
 }
 
 // Reads as many bytes as the window has room for, and puts them behind what the other disk holds.
+#[tactic(auto, using(crate::proofs::Windows::follows_tells))]
 fn append_window<D: Disk, O: Disk>(
     from: &mut D,
     start: u64,
@@ -42,6 +43,7 @@ fn append_window<D: Disk, O: Disk>(
     ensures read { OnOk result (IfSome (D.told from.old) (λ told. window.new ≡ bytes_at told start (length window.old))) }
     ensures grown { OnOk result (Grows (O.told to.old) (O.told to.new) window.new) }
     ensures spare { OnOk result ((O.spare_calls to.old ≤ O.spare_calls to.new + 1) × (O.spare_bytes to.old ≤ O.spare_bytes to.new + length window.old)) }
+    ensures tells { is_some (O.told to.new) ≡ is_some (O.told to.old) }
     ensures same { D.told from.new ≡ D.told from.old }
     ensures from_counts { Counts (D.counter from.old) (D.counter from.new) (IsErrOf result Side.From) }
     ensures to_counts { Counts (O.counter to.old) (O.counter to.new) (IsErrOf result Side.To) }
@@ -71,6 +73,7 @@ pub(crate) fn append_part<D: Disk, O: Disk>(
     ensures appended { OnOk result (Appended (D.told from.old) start size (O.told to.old) (O.told to.new) hasher.old hasher.new) }
     ensures spare { OnOk result ((65536 * O.spare_calls to.old ≤ 65536 * O.spare_calls to.new + size + 65535)
         × (O.spare_bytes to.old ≤ O.spare_bytes to.new + size)) }
+    ensures tells { is_some (O.told to.new) ≡ is_some (O.told to.old) }
     ensures same { D.told from.new ≡ D.told from.old }
     ensures from_counts { Counts (D.counter from.old) (D.counter from.new) (IsErrOf result Side.From) }
     ensures to_counts { Counts (O.counter to.old) (O.counter to.new) (IsErrOf result Side.To) }

@@ -1,5 +1,6 @@
 use Rattle.std.proofs.Common.{◌≡◌, ℕ, ◌+◌, ◌*◌, ◌≤◌, List, drop, length, map, take}
 use Rattle.std.specs.List.{concat}
+use Rattle.std.specs.Prelude.{is_some}
 use Rattle.std.specs.Option.{ForSome}
 use Rattle.zbase.specs.Faults.{Counts}
 use Rattle.zdisk.specs.Disk.{content}
@@ -17,6 +18,7 @@ invariant-pieces g l = record {
   stands : ForSome (g.O.Disk.told l.out) (λ told. length (content told) ≡ l.at);
   room : end_of l.rows + 65536 * (length l.rows + 1) ≤ 65536 * g.O.Disk.spare_calls l.out + l.at + 65536 * l.i;
   space : end_of l.rows ≤ g.O.Disk.spare_bytes l.out + l.at;
+  tells : is_some (g.O.Disk.told l.out) ≡ is_some (g.O.Disk.told l.fn.out);
   same : map g.D.Disk.told l.pieces ≡ map g.D.Disk.told l.fn.pieces;
   calm : AllCalm (map g.D.Disk.counter l.fn.pieces) (map g.D.Disk.counter l.pieces);
   out_counts : Counts (g.O.Disk.counter l.fn.out) (g.O.Disk.counter l.out) ⊥;

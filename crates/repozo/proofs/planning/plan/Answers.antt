@@ -1,10 +1,10 @@
 use Rattle.std.proofs.Common.{◌≡◌, ◌∙◌, ◌==◌, Option, false, length, rules, ap, subst, sym}
 use Rattle.zdisk.specs.Disk.{Told}
 use Rattle.fs_scan.specs.Scanned.{Tells}
-use Rattle.repozo.specs.Disks.{Reads}
+use Rattle.repozo.specs.Disks.{HasPart, Reads}
 use Rattle.repozo.specs.Pieces.{due}
 use Rattle.repozo.proofs.Checked.{read_is}
-use Rattle.repozo.proofs.Planned.{due_is, not_piece}
+use Rattle.repozo.proofs.Planned.{due_is, due_within, front_within, not_piece}
 use Rattle.repozo.proofs.Several.{calm_none, one_as, one_calm}
 use Rattle.repozo.proofs.planning.plan.Goals as goal
 
@@ -32,3 +32,11 @@ returns-clause-due g c = λ bytes held rb all.
 
 pub returns-clause-piece_counts : goal.returns-clause-piece_counts
 returns-clause-piece_counts g c = one_as _ _ (λ f. search rules) (λ f. search rules) c.in_ok-current.ensures.piece_counts
+
+pub returns-then-full-clause-within : goal.returns-then-full-clause-within
+returns-then-full-clause-within g c = front_within (g.D.Disk.told c.args.file.now) c.in_ok-end.field-0 c.in_ok-end.ensures.told
+
+pub returns-clause-within : goal.returns-clause-within
+returns-clause-within g c =
+    let whole = front_within (g.D.Disk.told c.args.file.now) c.in_ok-end.field-0 c.in_ok-end.ensures.told in
+    subst (HasPart (g.D.Disk.told c.args.file.now)) (sym c.due.ensures) (due_within (g.D.Disk.told c.args.file.now) c.in_ok-current.current c.as_slice.result.now c.in_ok-end.field-0.end whole)

@@ -17,6 +17,7 @@ copying-preserved g c =
     record {
       within = omega (arith, count, lt);
       appended = appended_more _ _ c.args.start c.copying.done c.min-count.result _ _ _ c.args.hasher.now c.copying.hasher c.update.new.self c.append_window.new.window c.copying.invariant.same long c.copying.invariant.appended read c.in_ok-append_window.ensures.grown c.update.ensures;
+      tells = search rules;
       same = search rules;
       calls = λ more. omega (arith, c.copying.invariant.calls lt, spare.0, count, more);
       spent = omega (arith, c.copying.invariant.calls lt, spare.0, count, lt);
