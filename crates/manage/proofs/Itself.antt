@@ -3,6 +3,7 @@ use Rattle.std.proofs.Common.{◌≡◌, ℕ, Bool, true, false, List, [], ◌�
 use Rattle.std.specs.List.{find, AllByRecursion}
 use Rattle.zbase.specs.Query.{Done, ◌>>=◌, run, Answers}
 use Rattle.zobject.specs.declared.object.Object.{Object}
+use Rattle.zobject.specs.declared.version.Kind.{Kind}
 use Rattle.zobject.specs.Rules.{IsObject, kind_of}
 use Rattle.zknown.specs.Seen.{Seen}
 use Rattle.evaluator.specs.Questions.{as_ask}
@@ -11,7 +12,6 @@ use Rattle.form_fields.specs.declared.field.Field.{Field}
 use Rattle.manage.specs.declared.call.Call.{Call}
 use Rattle.manage.specs.declared.changes.Change.{Change}
 use Rattle.manage.specs.declared.refusal.ManageRefusal.{ManageRefusal}
-use Rattle.manage.specs.AloneLaws.{row_itself}
 use Rattle.manage.specs.Becoming.{situation}
 use Rattle.manage.specs.Calling.{told}
 use Rattle.manage.specs.Changing.{WritesItself, IsItself, became, change_by, itself, itself_by, itself_written, settled, written}
@@ -22,6 +22,20 @@ use Rattle.manage.specs.Table.{Adds, Itself, Renames, Row, Writes, row_of, table
 use Rattle.manage.specs.Written.{change_of, whole}
 use Rattle.manage.proofs.Rows.{judged_so}
 use Rattle.manage.proofs.Steps.{decided}
+
+-- ---- the row of a call on a kind
+
+found_itself : (k : Kind) (rows : List Row) → AllByRecursion (λ (r : Row). IsItself r.writes) rows → (r : Row) → find (λ (r : Row). r.kinds k) rows ≡ Some r → IsItself r.writes
+found_itself k [] all r e = absurd (let bad = e in cc)
+found_itself k (x ∷ xs) all r e = at (x.kinds k) e (found_itself k xs all.1 r)
+  where
+    at : (is : Bool) → (if is then Some x else find (λ (r : Row). r.kinds k) xs) ≡ Some r → (find (λ (r : Row). r.kinds k) xs ≡ Some r → IsItself r.writes) → IsItself r.writes
+    at true e' deeper = (let same : x ≡ r = cc in subst (λ (r : Row). IsItself r.writes) same all.0)
+    at false e' deeper = deeper e'
+
+-- the row of a call of which each row writes the object alone
+row_itself : (c : Call) (k : Kind) → WritesItself c → (r : Row) → row_of c k ≡ Some r → IsItself r.writes
+row_itself c k all r e = found_itself k (table c) all r e
 
 -- ---- what it becomes keeps the rules
 

@@ -1,14 +1,14 @@
+mod Children
 mod Calls
 mod Itself
 mod Kept
 mod Lines
 mod Names
 mod Property
+mod Renamed
 mod Right
 mod RightRows
 mod Rows
-mod Settled
 mod Steps
 mod Templates
 mod Utf8
-mod Writing

@@ -1,14 +1,12 @@
 -- One question after another, where what is needed is an ask of an evaluation.
 use Rattle.std.proofs.Common.{ℕ, ◌≡◌, ◌∙◌, refl, sym, ap, subst, Option, Some, None, Result, Ok, Err}
-use Rattle.zbase.specs.Query.{Query, ◌>>=◌, run, go_on, and_then, Told, Answers, Halt, Need, Cause}
+use Rattle.zbase.specs.Query.{Query, ◌>>=◌, run, and_then, Told, Answers, Halt, Need, Cause}
 use Rattle.zbase.specs.QueryLaws.{run_then}
 use Rattle.evaluator.specs.declared.ask.Ask.{Ask}
 use Rattle.evaluator.specs.Questions.{as_ask}
 use Rattle.manage.specs.declared.refusal.ManageRefusal.{ManageRefusal}
 use Rattle.manage.specs.declared.refusal.ManageRefusal.TheVariants as refusals
-use Rattle.zobject.specs.declared.object.Object.{Object}
-use Rattle.zknown.specs.Seen.{Seen, Here, Absent, Unreadable}
-use Rattle.manage.specs.Calling.{here, present, told}
+use Rattle.manage.specs.Calling.{told}
 use Rattle.manage.specs.Changing.{settled}
 use Rattle.manage.specs.Fields.{Checked, Fails, Gives}
 use Rattle.manage.specs.Fields as fields
@@ -50,7 +48,7 @@ stops r f refusals.TooMany h = rw h refl
 stops r f (refusals.BadSource refusal) h = rw h refl
 stops r f refusals.TooDeep h = rw h refl
 
-settled_fails : {R A : Type 0} (k : ℕ → Option R) (r : Checked A) (e : ManageRefusal) → Fails e r → Told (told e) (as_ask (run k (settled r)))
+pub settled_fails : {R A : Type 0} (k : ℕ → Option R) (r : Checked A) (e : ManageRefusal) → Fails e r → Told (told e) (as_ask (run k (settled r)))
 settled_fails k r refusals.Memory h = tt
 settled_fails k r (refusals.Need ask) h = absurd h
 settled_fails k r (refusals.Broken o) h = rw h refl
@@ -69,13 +67,3 @@ settled_fails k r refusals.TooDeep h = rw h refl
 pub decided : {R A : Type 0} (k : ℕ → Option R) (result : Result A ManageRefusal) (r : Checked A) → Gives (λ x. x) result r → Answers told (λ x. x) result (as_ask (run k (settled r)))
 decided k (Ok x) r h = rw h refl
 decided k (Err e) r h = settled_fails k r e h
-
-here_at : (k : ℕ → Option (Seen Object)) (o : ℕ) (x : Object) (found : Option (Seen Object)) → as_ask (go_on o (λ seen. run k (present o seen)) found) ≡ Ok x → found ≡ Some (Here x)
-here_at k o x None e = absurd (let bad = e in cc)
-here_at k o x (Some (Here y)) e = (let same : ◌≡◌ {A = Result Object (Halt Ask ManageRefusal)} (Ok y) (Ok x) = e in cc)
-here_at k o x (Some Absent) e = absurd (let bad = e in cc)
-here_at k o x (Some Unreadable) e = absurd (let bad = e in cc)
-
--- an object that was answered is here
-pub is_here : (k : ℕ → Option (Seen Object)) (o : ℕ) (x : Object) → as_ask (run k (here o)) ≡ Ok x → k o ≡ Some (Here x)
-is_here k o x e = here_at k o x (k o) e

@@ -36,11 +36,6 @@ kind_of (form.UserFolder users) = kind.UserFolder
 
 -- what is built so far
 abbrev pub is_built : Call → Bool
-is_built call.AddFolder = false
-is_built call.AddMethod = false
-is_built call.AddDocument = false
-is_built call.AddUserFolder = false
-is_built call.RenameObject = false
 is_built call.UndoTransactions = false
 is_built call.ListTransactions = false
 is_built _ = true

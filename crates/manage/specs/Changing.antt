@@ -4,17 +4,23 @@ use Rattle.std.specs.List.{AllByRecursion}
 use Rattle.zbase.specs.Query.{Query, Done, Stops, ◌>>=◌, or_else}
 use Rattle.zobject.specs.declared.object.Object.{Object}
 use Rattle.zobject.specs.declared.object.Part2.{Part2}
+use Rattle.zobject.specs.declared.object.Part2.TheVariants as parts
 use Rattle.zobject.specs.Changes.{new_object, with_id}
 use Rattle.zobject.specs.Folders.{child_of}
 use Rattle.zobject.specs.Rules.{IsObject, kind_of}
 use Rattle.zknown.specs.Seen.{Seen, Here, Objects, over_objects}
 use Rattle.acquisition.specs.Acquiring as acquiring
 use Rattle.acquisition.specs.Acquiring.{containers}
+use Rattle.acquisition.specs.declared.refusal.AqRefusal.{AqRefusal}
+use Rattle.acquisition.specs.declared.refusal.AqRefusal.TheVariants as aq
+use Rattle.evaluator.specs.declared.ask.Ask.{Ask}
 use Rattle.evaluator.specs.declared.draft.Name.{Name}
 use Rattle.form_fields.specs.declared.field.Field.{Field}
 use Rattle.manage.specs.declared.call.Call.{Call}
 use Rattle.manage.specs.declared.changes.Change.{Change}
 use Rattle.manage.specs.declared.changes.NewChild.{NewChild}
+use Rattle.manage.specs.declared.changes.Page.{Page}
+use Rattle.manage.specs.declared.changes.Page.TheVariants as pages
 use Rattle.manage.specs.declared.refusal.FieldName.TheVariants as field
 use Rattle.manage.specs.declared.refusal.ManageRefusal.{ManageRefusal}
 use Rattle.manage.specs.declared.refusal.ManageRefusal.TheVariants as refusals
@@ -107,6 +113,43 @@ itself (Some row) c object form = itself_by row.writes row c object form
 
 abbrev pub itself_written : Option Row → Call → ℕ → Object → List Field → Checked Change
 itself_written found c o object form = tests.◌>>=◌ (itself found c object form) (λ new. Ok (change_of (whole (Name.Old o) new ∷ [])))
+
+-- where a row adds a child, the child, and what is written
+abbrev pub page_part : Page → List ℕ → Part2
+page_part pages.Method source = parts.Method source []
+page_part pages.Document source = parts.Document source []
+
+abbrev pub wanted_by : Writes → Row → Call → Situation → Checked NewChild
+wanted_by (Itself new) row c s = Err (refusals.NotFound c)
+wanted_by (Adds id title part) row c s = wanted id title part row s
+wanted_by Renames row c s = Err (refusals.NotFound c)
+
+abbrev pub child_wanted : Option Row → Call → Situation → Checked NewChild
+child_wanted None c s = Err (refusals.NotFound c)
+child_wanted (Some row) c s = wanted_by row.writes row c s
+
+abbrev pub child_added : Option Row → Call → ℕ → Situation → Checked Change
+child_added found c o s = tests.◌>>=◌ (child_wanted found c s) (λ child. Ok (change_of (added o s.object child)))
+
+abbrev pub AddsChild : Writes → Type 0
+AddsChild (Itself new) = ⊥
+AddsChild (Adds id title part) = Unit {0}
+AddsChild Renames = ⊥
+
+abbrev pub IsAdding : Option Row → Type 0
+IsAdding None = ⊥
+IsAdding (Some row) = AddsChild row.writes
+
+-- why code knows no depth
+abbrev pub no_depth : AqRefusal → ManageRefusal
+no_depth aq.Memory = refusals.Memory
+no_depth (aq.Need o) = refusals.Need (Ask.Object o)
+no_depth (aq.Broken o) = refusals.Broken o
+no_depth aq.TooDeep = refusals.TooDeep
+
+-- where a child is renamed, what is written
+abbrev pub child_renamed : ℕ → Situation → Option ℕ → Objects ManageRefusal Change
+child_renamed o s found = renamed_child o s found >>= λ ws. Done (change_of ws)
 
 -- what the call writes on an object
 abbrev pub changed : Call → ℕ → Object → List Field → Objects ManageRefusal Change

@@ -12,16 +12,19 @@ use Rattle.zobject.specs.Folders.{child_of}
 use Rattle.zobject.specs.Rules.{IsObject, kind_of}
 use Rattle.zcodec.specs.Record.{record_text}
 use Rattle.zknown.specs.Seen.{Seen, Here}
+use Rattle.evaluator.specs.declared.ask.Ask.{Ask}
 use Rattle.evaluator.specs.declared.draft.Hole.{Hole}
 use Rattle.evaluator.specs.declared.draft.Name.{Name}
-use Rattle.evaluator.specs.Change.{IsPermission}
+use Rattle.evaluator.specs.declared.fact.Fact.{Fact}
+use Rattle.evaluator.specs.Change.{HasKnownValue, IsChange, IsPermission, longest_text}
 use Rattle.evaluator.specs.Settle.{oid_of, record_of}
 use Rattle.form_fields.specs.declared.field.Field.{Field}
 use Rattle.http_in.specs.declared.message.Verb.{Verb}
 use Rattle.manage.specs.declared.call.Call.{Call}
+use Rattle.manage.specs.declared.changes.Change.{Change}
 use Rattle.manage.specs.declared.refusal.FieldName.TheVariants.{Id, NewId}
 use Rattle.manage.specs.Becoming.{Situation, children, text, with_renamed}
-use Rattle.manage.specs.Changing.{judged, writes}
+use Rattle.manage.specs.Changing.{change, judged, writes}
 use Rattle.manage.specs.Fields.{Test}
 use Rattle.manage.specs.Table.{Adds, Itself, Renames, Row, Writes, permission_for}
 use Rattle.manage.specs.Written.{Written, change_of, with_child}
@@ -76,3 +79,12 @@ pub record AreLawful (known : ℕ → Option (Seen Object)) (ws : List Written) 
 
 abbrev pub WritesLawfully : Type 0
 WritesLawfully = (known : ℕ → Option (Seen Object)) (c : Call) (o : ℕ) (form : List Field) (ws : List Written) → run known (writes c o form) ≡ Ok ws → AreLawful known ws
+
+-- Each object that is here has a value in a known fact.
+abbrev pub KnowsValues : (Ask → Option Fact) → (ℕ → Option (Seen Object)) → Type 0
+KnowsValues facts known = (o : ℕ) (object : Object) → known o ≡ Some (Here object) → HasKnownValue facts o
+
+-- What a call changes keeps the rules of a change, whoever makes it.
+abbrev pub ChangesAreLawful : Type 0
+ChangesAreLawful = (facts : Ask → Option Fact) (known : ℕ → Option (Seen Object)) → KnowsValues facts known → (c : Call) (o : ℕ) (form : List Field) (done : Change) → run known (change c o form) ≡ Ok done
+    → (user description : List ℕ) → length user ≤ longest_text → length description ≤ longest_text → IsChange facts (record { user = user; description = description; entries = done.entries })

@@ -8,6 +8,7 @@ pub mod Calling
 pub mod Changing
 pub mod Naming
 pub mod Laws
+pub mod WrittenLaws
+pub mod ChangingLaws
 pub mod CallLaws
-pub mod AloneLaws
 pub mod Worked

@@ -48,16 +48,7 @@ pub(crate) fn kind_of(part: &Part2) -> Kind
 fn is_built(call: Call) -> bool
     ensures { result ≡ calling.is_built call }
 {
-    !matches!(
-        call,
-        Call::AddFolder
-            | Call::AddMethod
-            | Call::AddDocument
-            | Call::AddUserFolder
-            | Call::RenameObject
-            | Call::UndoTransactions
-            | Call::ListTransactions
-    )
+    !matches!(call, Call::UndoTransactions | Call::ListTransactions)
 }
 
 fn if_lawful(

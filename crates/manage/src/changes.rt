@@ -9,6 +9,15 @@ pub struct Change {
     pub entries: Entries,
 }
 
+/// What has a source.
+#[derive(Clone, Copy, Debug, PartialEq, Eq)]
+pub(crate) enum Page {
+    /// A method.
+    Method,
+    /// A document.
+    Document,
+}
+
 /// A child that a folder is to have more.
 #[derive(Debug, Drop)]
 pub(crate) struct NewChild {

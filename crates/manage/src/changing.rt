@@ -1,18 +1,17 @@
-ghost use Rattle.std.specs.Prelude.{◌≡◌, ℕ, ◌∷◌, [], IfOk, Option};
+ghost use Rattle.std.specs.Prelude.{◌≡◌, ℕ, Option};
 ghost use Rattle.zbase.specs.Query.{run, Answers};
 ghost use Rattle.zobject.specs.Rules.{IsObject, kind_of};
 ghost use Rattle.zobject.specs.declared.object.Object.{Object as AnObject};
 ghost use Rattle.zknown.specs.Seen.{Seen, objects};
 ghost use Rattle.acquisition.specs.Acquiring.{first};
 ghost use Rattle.evaluator.specs.Questions.{as_ask};
-ghost use Rattle.evaluator.specs.declared.draft.Name.TheVariants as names;
 ghost use Rattle.manage.specs.Calling.{told};
 ghost use Rattle.manage.specs.Changing as changing;
 ghost use Rattle.manage.specs.Changing.{KeepRules, WritesItself};
 ghost use Rattle.manage.specs.Fields.{Gives};
 ghost use Rattle.manage.specs.Table.{row_of};
-ghost use Rattle.manage.specs.Written.{change_of, whole};
 
+use crate::adding::change_adding;
 use crate::call::Call;
 use crate::called::{here, kind_of};
 use crate::changes::Change;
@@ -21,14 +20,14 @@ use crate::editing::{edit_folder, edit_page};
 use crate::laws::rows_keep_the_rules;
 use crate::properties::{add_property, delete_properties};
 use crate::refusal::ManageRefusal;
+use crate::renaming::change_renaming;
 use crate::roles::{delete_local_roles, set_local_roles, set_permission, set_proxy_roles};
 use crate::users::add_user;
-use crate::written::write;
+use crate::written::write_itself;
 use acquisition::Wrapped;
-use evaluator::{Entries, Name};
 use form_fields::Fields;
 use std::alloc::Global;
-use zbase::{Memory, Oid};
+use zbase::Oid;
 use zknown::Known;
 use zobject::{Kind, Object};
 
@@ -59,16 +58,6 @@ fn itself(
         (Call::AddUser, Kind::UserFolder) => add_user(alloc, object, fields),
         _ => Err(ManageRefusal::NotFound(call)),
     }
-}
-
-// The object's record, and nothing else.
-fn write_itself(alloc: Global, oid: Oid, object: &Object) -> Result<Change, Memory>
-    requires lawful { IsObject object.now }
-    ensures { IfOk result (λ change. change ≡ change_of (whole (names.Old oid) object.now ∷ [])) }
-{
-    let mut entries = Entries::new(alloc);
-    entries.push(write(alloc, Name::Old(oid), object)?)?;
-    Ok(Change { entries })
 }
 
 #[tactic(auto, using(crate::proofs::Steps::stops))]
@@ -112,25 +101,36 @@ fn changed(
     fields: &Fields,
 ) -> Result<Change, ManageRefusal>
     requires lawful { IsObject object.now }
+    requires known { KeepRules (objects known.now) }
     ensures { Answers told (λ change. change) result (as_ask (run (objects known.now) (changing.changed call oid object.now fields.now))) }
 {
-    match call {
-        Call::Edit
-        | Call::DeleteObjects
-        | Call::SetPermission
-        | Call::SetLocalRoles
-        | Call::DeleteLocalRoles
-        | Call::AddProperty
-        | Call::DeleteProperties
-        | Call::SetProxyRoles
-        | Call::AddUser => change_itself(alloc, call, oid, object, fields),
-        Call::AddFolder
-        | Call::AddMethod
-        | Call::AddDocument
-        | Call::AddUserFolder
-        | Call::RenameObject
-        | Call::UndoTransactions
-        | Call::ListTransactions => Err(ManageRefusal::NotYet(oid)),
+    match (call, kind_of(&object.part)) {
+        (
+            Call::AddFolder | Call::AddMethod | Call::AddDocument | Call::AddUserFolder,
+            Kind::Folder,
+        ) => change_adding(alloc, call, oid, known, object, fields),
+        (Call::RenameObject, Kind::Folder) => change_renaming(alloc, oid, known, object, fields),
+        (
+            Call::AddFolder
+            | Call::AddMethod
+            | Call::AddDocument
+            | Call::AddUserFolder
+            | Call::RenameObject,
+            Kind::Method | Kind::Document | Kind::UserFolder,
+        ) => Err(ManageRefusal::NotFound(call)),
+        (Call::UndoTransactions | Call::ListTransactions, _) => Err(ManageRefusal::NotYet(oid)),
+        (
+            Call::Edit
+            | Call::DeleteObjects
+            | Call::SetPermission
+            | Call::SetLocalRoles
+            | Call::DeleteLocalRoles
+            | Call::AddProperty
+            | Call::DeleteProperties
+            | Call::SetProxyRoles
+            | Call::AddUser,
+            _,
+        ) => change_itself(alloc, call, oid, object, fields),
     }
 }
 

@@ -1,5 +1,5 @@
 ghost use Rattle.std.specs.Prelude.{◌≡◌, IfOk};
-ghost use Rattle.zobject.specs.Changes.{with_locals, with_part, with_properties, with_settings, with_title};
+ghost use Rattle.zobject.specs.Changes.{with_id, with_locals, with_part, with_properties, with_settings, with_title};
 
 use std::alloc::Global;
 use zbase::{Items, Memory, Text};
@@ -186,6 +186,21 @@ pub(crate) fn copy_with_properties(
         settings: copy_items(alloc, object.settings.as_slice())?,
         locals: copy_items(alloc, object.locals.as_slice())?,
         properties,
+        part: copy_part(alloc, &object.part)?,
+    })
+}
+
+/// The same object once more, with this id.
+pub(crate) fn copy_with_id(alloc: Global, object: &Object, id: Text) -> Result<Object, Memory>
+    ensures { IfOk result (λ copy. copy ≡ with_id id object.now) }
+{
+    Ok(Object {
+        id,
+        parent: object.parent,
+        title: object.title.copy()?,
+        settings: copy_items(alloc, object.settings.as_slice())?,
+        locals: copy_items(alloc, object.locals.as_slice())?,
+        properties: copy_items(alloc, object.properties.as_slice())?,
         part: copy_part(alloc, &object.part)?,
     })
 }

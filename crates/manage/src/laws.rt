@@ -4,7 +4,7 @@ ghost use Rattle.std.specs.Str.{bytes_eq};
 ghost use Rattle.traverse.specs.Publishing as publishing;
 ghost use Rattle.manage.specs.declared.call.Call.{Call};
 ghost use Rattle.manage.specs.Calls.{all_calls, call_named, name_of};
-ghost use Rattle.manage.specs.Laws.{AreNumbered, IsRightRow, SettlesRightly, WritesLawfully};
+ghost use Rattle.manage.specs.Laws.{AreNumbered, ChangesAreLawful, IsRightRow, SettlesRightly, WritesLawfully};
 ghost use Rattle.manage.specs.Table.{table};
 
 use user_folder::kept_passwords_are_lawful;
@@ -33,9 +33,11 @@ pub fn written_records_settle()
     ensures { SettlesRightly }
 {}
 
-/// What a call writes keeps the rules of a change: each object that it names is here, none twice, and holes fit.
+/// What a call writes keeps the rules of a change: each object that it names is here, none twice, and holes fit; so it is a
+/// lawful change of whoever makes it, where each object that is here has a value in a known fact.
 pub fn written_records_are_lawful()
-    ensures { WritesLawfully }
+    ensures here { WritesLawfully }
+    ensures change { ChangesAreLawful }
 {}
 
 /// What a row of the table writes keeps the rules of objects, where it isn't refused and the object called on does.

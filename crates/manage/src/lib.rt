@@ -8,6 +8,7 @@
 //! call.
 #![tactic(auto)]
 
+mod adding;
 mod call;
 mod called;
 mod changes;
@@ -22,6 +23,7 @@ mod properties;
 mod putting;
 mod refusal;
 mod refusing;
+mod renaming;
 mod roles;
 mod rule;
 mod table;

@@ -2,6 +2,7 @@ ghost use Rattle.std.specs.Prelude.{◌≡◌};
 ghost use Rattle.manage.specs.Calls as calls;
 
 use crate::call::Call;
+use acquisition::AqRefusal;
 use dtml_lex::DtmlRefusal;
 use evaluator::Ask;
 use std::alloc::AllocFailed;
@@ -115,5 +116,21 @@ impl<T: Drop> From<AllocFailed<T>> for ManageRefusal {
 
     fn from(_: AllocFailed<T>) -> ManageRefusal {
         ManageRefusal::Memory
+    }
+}
+
+impl From<AqRefusal> for ManageRefusal {
+    ghost use Rattle.std.specs.Prelude.{◌≡◌};
+    ghost use Rattle.manage.specs.Changing.{no_depth};
+
+    ghost from_gives = { λ cause e. e ≡ no_depth cause };
+
+    fn from(cause: AqRefusal) -> ManageRefusal {
+        match cause {
+            AqRefusal::Memory => ManageRefusal::Memory,
+            AqRefusal::Need(oid) => ManageRefusal::Need(Ask::Object(oid)),
+            AqRefusal::Broken(oid) => ManageRefusal::Broken(oid),
+            AqRefusal::TooDeep => ManageRefusal::TooDeep,
+        }
     }
 }

@@ -1,6 +1,7 @@
-ghost use Rattle.std.specs.Prelude.{◌≡◌, ◌&&◌, not, nat_lt, length, map};
+ghost use Rattle.std.specs.Prelude.{◌≡◌, ◌&&◌, ◌∷◌, [], not, nat_lt, length, map};
+ghost use Rattle.acquisition.specs.declared.limits.TheConstants.{MOST_ON_PATH};
 ghost use Rattle.dtml_parse.specs.TreeReading.{template};
-ghost use Rattle.zobject.specs.declared.limits.TheConstants.{MOST_LOCALS, MOST_PROPERTIES, MOST_USERS};
+ghost use Rattle.zobject.specs.declared.limits.TheConstants.{MOST_CHILDREN, MOST_LOCALS, MOST_PROPERTIES, MOST_USERS};
 ghost use Rattle.manage.specs.declared.refusal.ManageRefusal.TheVariants as refusals;
 ghost use Rattle.manage.specs.Becoming.{children_in, is_among, users_in};
 ghost use Rattle.manage.specs.Fields.{Gives, refuse_if};
@@ -8,11 +9,12 @@ ghost use Rattle.manage.specs.Refusing as refusing;
 
 use crate::naming::{Named, first_unknown, is_taken, names_of};
 use crate::refusal::ManageRefusal;
+use acquisition::MOST_ON_PATH;
 use dtml_lex::DtmlRefusal;
 use dtml_parse::{parse, template_reader_agrees};
 use std::alloc::Global;
 use zbase::{Text, Texts};
-use zobject::limits::{MOST_LINES, MOST_LOCALS, MOST_PROPERTIES, MOST_USERS};
+use zobject::limits::{MOST_CHILDREN, MOST_LINES, MOST_LOCALS, MOST_PROPERTIES, MOST_USERS};
 use zobject::{Child, Local, Object, Part2, PropValue, Property, User};
 
 /// The children of a folder. Takes no memory.
@@ -58,6 +60,26 @@ pub(crate) fn are_known<T: Named>(
         Some(id) => Err(ManageRefusal::NoSuchId(id.copy()?)),
         None => Ok(()),
     }
+}
+
+/// One of the items has that name.
+pub(crate) fn is_known<T: Named>(items: &[T], name: &Text) -> Result<(), ManageRefusal>
+    ensures { Gives (λ x. x) result (refusing.none_unknown (refusing.first_unknown (map T.name_of items.now) (name.now ∷ []))) }
+{
+    if is_taken(items, name) {
+        return Ok(());
+    }
+    Err(ManageRefusal::NoSuchId(name.copy()?))
+}
+
+/// There is room for one child more, and for one object more on the path up to the root.
+pub(crate) fn has_room(children: &[Child], depth: usize) -> Result<(), ManageRefusal>
+    ensures { Gives (λ x. x) result (refuse_if (not (nat_lt (length children.now) MOST_CHILDREN && nat_lt depth MOST_ON_PATH)) refusals.TooMany) }
+{
+    if children.len() < MOST_CHILDREN as usize && depth < MOST_ON_PATH {
+        return Ok(());
+    }
+    Err(ManageRefusal::TooMany)
 }
 
 /// There aren't too many users with local roles.

@@ -1,5 +1,5 @@
-use Rattle.manage.proofs.Writing.{write_lawfully}
+use Rattle.manage.specs.ChangingLaws.{changes_lawful, write_lawfully}
 use Rattle.manage.proofs.laws.written_records_are_lawful.Goals as goal
 
 pub returns : goal.returns
-returns c = write_lawfully
+returns c = record { here = write_lawfully; change = changes_lawful }

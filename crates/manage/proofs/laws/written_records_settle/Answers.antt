@@ -1,4 +1,4 @@
-use Rattle.manage.proofs.Writing.{settle_rightly}
+use Rattle.manage.specs.ChangingLaws.{settle_rightly}
 use Rattle.manage.proofs.laws.written_records_settle.Goals as goal
 
 pub returns : goal.returns

@@ -1,5 +1,5 @@
 -- A settled record spells what its object is, whichever id the first new object gets.
-use Rattle.std.proofs.Common.{◌≡◌, ◌∙◌, ℕ, ◌+◌, ◌-◌, List, [], ◌∷◌, ◌++◌, length, take, drop, refl, sym, ap, arith, append_assoc, append-nil}
+use Rattle.std.proofs.Common.{◌≡◌, ◌∙◌, ℕ, ◌<◌, ◌+◌, ◌-◌, List, [], ◌∷◌, ◌++◌, length, take, drop, refl, sym, ap, arith, append_assoc, append-nil}
 use Rattle.std.specs.Int.{w64, to_be_bytes}
 use Rattle.std.specs.List.{flat_map}
 use Rattle.std.proofs.lemmas.Grind.{flat_map-append}
@@ -48,6 +48,11 @@ unfolding record_text folder_front before_children
 ends_with_id o cs name oid = behind (before_children o) (children_front cs name) (be64 oid) (list_of child (cs ++ record { name = name; oid = oid } ∷ [])) (children_end cs name oid)
 
 -- ---- the hole
+
+-- a record has some bytes
+pub record_is_some : (o : Object) → 0 < length (record_text Second o)
+unfolding record_text
+record_is_some o = omega arith
 
 eight : (n : ℕ) → length (be64 n) ≡ 8
 unfolding be64

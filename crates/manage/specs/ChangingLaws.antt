@@ -1,32 +1,48 @@
--- What a call writes, by the table: each record is settled to that of its object.
-use Rattle.std.proofs.Common.{◌≡◌, ◌∙◌, ℕ, ◌<◌, ◌^◌, Bool, true, false, List, [], ◌∷◌, map, Option, Some, None, Result, Ok, Err, refl, sym, ap, ap₂, subst, arith, eq-eqb, nat_eq, if◌then◌else◌}
+-- What a call writes, by the table: each record is settled to that of its object, and a change keeps its rules.
+use Rattle.std.proofs.Common.{◌≡◌, ◌∙◌, ℕ, ◌<◌, ◌≤◌, ◌^◌, lit<, length, Bool, true, false, List, [], ◌∷◌, map, Option, Some, None, Result, Ok, Err, refl, sym, ap, ap₂, subst, arith, eq-eqb, nat_eq, if◌then◌else◌}
+use Rattle.std.specs.Prelude.{AllPairs, ◌≢◌}
 use Rattle.std.specs.List.{AllByRecursion}
 use Rattle.zbase.specs.History.{History}
-use Rattle.zbase.specs.Query.{Done, Stops, ◌>>=◌, run, and_then, Halt}
+use Rattle.zbase.specs.Query.{Done, Stops, ◌>>=◌, run, go_on, and_then, Halt}
 use Rattle.zbase.specs.QueryLaws.{run_then}
 use Rattle.zbase.specs.Values.{next}
 use Rattle.zobject.specs.declared.object.Object.{Object}
 use Rattle.zobject.specs.Changes.{with_id}
 use Rattle.zobject.specs.Folders.{child_of}
 use Rattle.zobject.specs.Rules.{kind_of}
-use Rattle.zknown.specs.Seen.{Seen, Here, Objects}
+use Rattle.zknown.specs.Seen.{Seen, Here, Absent, Unreadable, Objects}
 use Rattle.zobject.specs.declared.object.Child.{Child}
+use Rattle.evaluator.specs.declared.ask.Ask.{Ask}
+use Rattle.evaluator.specs.declared.fact.Fact.{Fact}
+use Rattle.evaluator.specs.Change.{HasKnownValue, IsChange, longest_text, named}
 use Rattle.evaluator.specs.Questions.{as_ask}
 use Rattle.evaluator.specs.declared.draft.Name.{Name}
 use Rattle.evaluator.specs.Settle.{oid_of, record_of}
 use Rattle.form_fields.specs.declared.field.Field.{Field}
 use Rattle.manage.specs.declared.call.Call.{Call}
+use Rattle.manage.specs.declared.changes.Change.{Change}
 use Rattle.manage.specs.declared.refusal.FieldName.TheVariants as field
 use Rattle.manage.specs.declared.refusal.ManageRefusal.{ManageRefusal}
 use Rattle.manage.specs.declared.refusal.ManageRefusal.TheVariants as refusals
 use Rattle.manage.specs.Becoming.{Situation, children, children_in, situation, text, with_renamed}
-use Rattle.manage.specs.Calling.{here, is_built}
-use Rattle.manage.specs.Changing.{became, by_row, depth_of, judged, renamed_child, settled, wanted, writes, written}
-use Rattle.manage.specs.Laws.{AreLawful, HolesFit, SettlesRightly, WritesLawfully, settled_row}
+use Rattle.manage.specs.Calling.{here, is_built, present}
+use Rattle.manage.specs.Changing.{became, by_call, by_row, change, depth_of, judged, renamed_child, settled, wanted, writes, written}
+use Rattle.manage.specs.Laws.{AreLawful, ChangesAreLawful, HolesFit, KnowsValues, SettlesRightly, WritesLawfully, settled_row}
 use Rattle.manage.specs.Table.{Adds, Itself, Renames, Row, Writes, row_of}
-use Rattle.manage.specs.Written.{IsSettled, Written, entry_of, grown, whole}
-use Rattle.manage.proofs.Settled.{grown_fits, grown_settles, whole_settles}
-use Rattle.manage.proofs.Steps.{is_here}
+use Rattle.manage.specs.Written.{IsSettled, Written, change_of, entry_of, grown, whole, with_child}
+use Rattle.manage.specs.WrittenLaws.{grown_fits, grown_settles, record_is_some, whole_settles}
+
+-- ---- an object that is here
+
+here_at : (k : ℕ → Option (Seen Object)) (o : ℕ) (x : Object) (found : Option (Seen Object)) → as_ask (go_on o (λ seen. run k (present o seen)) found) ≡ Ok x → found ≡ Some (Here x)
+here_at k o x None e = absurd (let bad = e in cc)
+here_at k o x (Some (Here y)) e = (let same : ◌≡◌ {A = Result Object (Halt Ask ManageRefusal)} (Ok y) (Ok x) = e in cc)
+here_at k o x (Some Absent) e = absurd (let bad = e in cc)
+here_at k o x (Some Unreadable) e = absurd (let bad = e in cc)
+
+-- an object that was answered is here
+pub is_here : (k : ℕ → Option (Seen Object)) (o : ℕ) (x : Object) → as_ask (run k (here o)) ≡ Ok x → k o ≡ Some (Here x)
+is_here k o x e = here_at k o x (k o) e
 
 -- ---- one question after another
 
@@ -46,24 +62,77 @@ ok_is e = cc
 
 -- ---- what is written
 
+-- as a user's change, it keeps the rules
+abbrev IsDrafted : (Ask → Option Fact) → List Written → Type 0
+IsDrafted facts ws = (user description : List ℕ) → length user ≤ longest_text → length description ≤ longest_text → IsChange facts (record { user = user; description = description; entries = map entry_of ws })
+
 -- what is true of it, over what is known
 Holds : (ℕ → Option (Seen Object)) → List Written → Type 0
-Holds known ws = AllByRecursion IsSettled ws × AreLawful known ws
+Holds known ws = AllByRecursion IsSettled ws × AreLawful known ws × ((facts : Ask → Option Fact) → KnowsValues facts known → IsDrafted facts ws)
+
+two_pairs : {X : Type 0} (R : X → X → Type 0) (a b : X) → R a b → AllPairs R (a ∷ b ∷ [])
+two_pairs R a b r i j d below within =
+    let first : i ≡ 0 = omega (arith, below, within) in
+    let second : j ≡ 1 = omega (arith, below, within) in
+    rw (first, second) r
+
+one_drafted : (facts : Ask → Option Fact) (o : ℕ) (object : Object) → IsDrafted facts (whole (Name.Old o) object ∷ [])
+one_drafted facts o object = λ user description few short. record {
+  user = few;
+  description = short;
+  distinct = λ i j d h k. absurd (omega arith);
+  numbered = λ k h. absurd (omega arith);
+  few = lit< tt;
+  each = ((λ h. absurd (omega arith), record_is_some object, tt, λ i j d h k. absurd (omega arith)), tt);
+}
+
+added_drafted : (facts : Ask → Option Fact) (o : ℕ) (folder : Object) (cs : List Child) (name : List ℕ) (child : Object) → HasKnownValue facts o → IsDrafted facts (grown o folder cs name ∷ whole (Name.New 0) child ∷ [])
+added_drafted facts o folder cs name child has = λ user description few short. record {
+  user = few;
+  description = short;
+  distinct = two_pairs (λ a b. named a ≢ named b) (entry_of (grown o folder cs name)) (entry_of (whole (Name.New 0) child)) (λ same. apart same);
+  numbered = λ k h. (let first : 0 ≡ k = omega arith in (1, lit< tt, ap Name.New first));
+  few = lit< tt;
+  each = (
+    (λ h. has, record_is_some (with_child folder cs name 0), (((grown_fits o folder cs name).0.0.0, lit< tt), tt), λ i j d h k. absurd (omega arith)),
+    ((lit< tt, record_is_some child, tt, λ i j d h k. absurd (omega arith)), tt),
+  );
+}
+  where
+    apart : Name.Old o ≡ Name.New 0 → ⊥
+    apart same = cc
+
+two_drafted : (facts : Ask → Option Fact) (o child : ℕ) (folder object : Object) → Name.Old o ≢ Name.Old child → IsDrafted facts (whole (Name.Old o) folder ∷ whole (Name.Old child) object ∷ [])
+two_drafted facts o child folder object apart = λ user description few short. record {
+  user = few;
+  description = short;
+  distinct = two_pairs (λ a b. named a ≢ named b) (entry_of (whole (Name.Old o) folder)) (entry_of (whole (Name.Old child) object)) apart;
+  numbered = λ k h. absurd (omega arith);
+  few = lit< tt;
+  each = (
+    (λ h. absurd (omega arith), record_is_some folder, tt, λ i j d h k. absurd (omega arith)),
+    ((λ h. absurd (omega arith), record_is_some object, tt, λ i j d h k. absurd (omega arith)), tt),
+  );
+}
 
 whole_fits : (name : Name) (object : Object) → HolesFit (whole name object)
 whole_fits name object = (tt, omega arith)
 
 one_is : (known : ℕ → Option (Seen Object)) (o : ℕ) (before object : Object) (ws : List Written) → known o ≡ Some (Here before) → ◌≡◌ {A = Result (List Written) (Halt ℕ ManageRefusal)} (Ok (whole (Name.Old o) object ∷ [])) (Ok ws) → Holds known ws
 unfolding Holds
-one_is known o before object ws is e = subst (λ vs. AllByRecursion IsSettled vs × AreLawful known vs) (ok_is e)
-    ((whole_settles (Name.Old o) object, tt), record { here = ((before, is), tt); holes = (whole_fits (Name.Old o) object, tt); apart = (tt, tt) })
+one_is known o before object ws is e = subst (λ vs. AllByRecursion IsSettled vs × AreLawful known vs × ((facts : Ask → Option Fact) → KnowsValues facts known → IsDrafted facts vs)) (ok_is e) (
+  (whole_settles (Name.Old o) object, tt),
+  record { here = ((before, is), tt); holes = (whole_fits (Name.Old o) object, tt); apart = (tt, tt) },
+  λ facts knows. one_drafted facts o object,
+)
 
 added_are : (known : ℕ → Option (Seen Object)) (o : ℕ) (folder : Object) (cs : List Child) (name : List ℕ) (child : Object) (ws : List Written) → known o ≡ Some (Here folder)
     → ◌≡◌ {A = Result (List Written) (Halt ℕ ManageRefusal)} (Ok (grown o folder cs name ∷ whole (Name.New 0) child ∷ [])) (Ok ws) → Holds known ws
 unfolding Holds
-added_are known o folder cs name child ws is e = subst (λ vs. AllByRecursion IsSettled vs × AreLawful known vs) (ok_is e) (
+added_are known o folder cs name child ws is e = subst (λ vs. AllByRecursion IsSettled vs × AreLawful known vs × ((facts : Ask → Option Fact) → KnowsValues facts known → IsDrafted facts vs)) (ok_is e) (
   (grown_settles o folder cs name, (whole_settles (Name.New 0) child, tt)),
   record { here = ((folder, is), (refl, tt)); holes = (grown_fits o folder cs name, (whole_fits (Name.New 0) child, tt)); apart = (((λ same. old_new same), tt), (tt, tt)) },
+  λ facts knows. added_drafted facts o folder cs name child (knows o folder is),
 )
   where
     old_new : Name.Old o ≡ Name.New 0 → ⊥
@@ -72,9 +141,10 @@ added_are known o folder cs name child ws is e = subst (λ vs. AllByRecursion Is
 two_are : (known : ℕ → Option (Seen Object)) (o child : ℕ) (before was folder object : Object) (ws : List Written) → nat_eq child o ≡ false → known o ≡ Some (Here before) → known child ≡ Some (Here was)
     → ◌≡◌ {A = Result (List Written) (Halt ℕ ManageRefusal)} (Ok (whole (Name.Old o) folder ∷ whole (Name.Old child) object ∷ [])) (Ok ws) → Holds known ws
 unfolding Holds
-two_are known o child before was folder object ws other is there e = subst (λ vs. AllByRecursion IsSettled vs × AreLawful known vs) (ok_is e) (
+two_are known o child before was folder object ws other is there e = subst (λ vs. AllByRecursion IsSettled vs × AreLawful known vs × ((facts : Ask → Option Fact) → KnowsValues facts known → IsDrafted facts vs)) (ok_is e) (
   (whole_settles (Name.Old o) folder, (whole_settles (Name.Old child) object, tt)),
   record { here = ((before, is), ((was, there), tt)); holes = (whole_fits (Name.Old o) folder, (whole_fits (Name.Old child) object, tt)); apart = (((λ same. apart same), tt), (tt, tt)) },
+  λ facts knows. two_drafted facts o child folder object (λ same. apart same),
 )
   where
     wrong : (b : Bool) → b ≡ true → b ≡ false → ⊥
@@ -116,19 +186,31 @@ row_are : (known : ℕ → Option (Seen Object)) (found : Option Row) (c : Call)
 row_are known None c o object form ws there e = absurd (let bad = e in cc)
 row_are known (Some row) c o object form ws there e = written_are known row.writes row o object form ws there e
 
+call_are : (known : ℕ → Option (Seen Object)) (c : Call) (o : ℕ) (object : Object) (form : List Field) (ws : List Written) → known o ≡ Some (Here object) → run known (by_call c o object form) ≡ Ok ws → Holds known ws
+call_are known c o object form ws there e = at (is_built c) e
+  where
+    at : (built : Bool) → run known (if built then by_row (row_of c (kind_of object.part)) c o object form else Stops (refusals.NotYet o)) ≡ Ok ws → Holds known ws
+    at true e' = row_are known (row_of c (kind_of object.part)) c o object form ws there e'
+    at false e' = absurd (let bad = e' in cc)
+
 writes_are : (known : ℕ → Option (Seen Object)) (c : Call) (o : ℕ) (form : List Field) (ws : List Written) → run known (writes c o form) ≡ Ok ws → Holds known ws
 unfolding writes
 writes_are known c o form ws e =
     let object = came known (here o) _ ws e in
-    at object.0 (is_here known o object.0 (ap as_ask object.1)) (is_built c) object.2
-  where
-    at : (object : Object) → known o ≡ Some (Here object) → (built : Bool) → run known (if built then by_row (row_of c (kind_of object.part)) c o object form else Stops (refusals.NotYet o)) ≡ Ok ws → Holds known ws
-    at object there true e' = row_are known (row_of c (kind_of object.part)) c o object form ws there e'
-    at object there false e' = absurd (let bad = e' in cc)
+    call_are known c o object.0 form ws (is_here known o object.0 (ap as_ask object.1)) object.2
 
 pub write_lawfully : WritesLawfully
 unfolding Holds
 write_lawfully known c o form ws e = (writes_are known c o form ws e).1
+
+pub changes_lawful : ChangesAreLawful
+unfolding change Holds
+changes_lawful facts known knows c o form done e user description few short =
+    let object = came known (here o) _ done e in
+    let written = came known (by_call c o object.0 form) _ done object.2 in
+    let holds = call_are known c o object.0 form written.0 (is_here known o object.0 (ap as_ask object.1)) written.1 in
+    let same : change_of written.0 ≡ done = ok_is written.2 in
+    subst (λ (d : Change). IsChange facts (record { user = user; description = description; entries = d.entries })) same (holds.2 facts knows user description few short)
 
 -- ---- in a transaction
 
