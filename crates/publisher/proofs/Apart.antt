@@ -34,7 +34,7 @@ use Rattle.publisher.specs.Pages.{page_text}
 use Rattle.publisher.specs.Replies.{by_verb, runaway_facts}
 use Rattle.publisher.specs.Site.{answered, authorization, bad_credentials, over_history, page, page_for, scope_answer, request, shown_page, with_credentials, with_fields}
 use Rattle.publisher.proofs.ForUsers.{AreOwn, page_own}
-use Rattle.publisher.proofs.Backwards.{came, shapes_came, stops_came}
+use Rattle.publisher.specs.Backwards.{came, shapes_came, stops_came}
 
 module _ (own : AreOwn) (w : Who) (k l : ℕ → Option (Seen Object)) (same : Same w k l) (none : NoneHasProxyRoles k) (q : Request) where
   both : {A B : Type 0} (p : Objects Fault A) (f g : A → Objects Fault B) → run k p ≡ run l p → ((x : A) → run k p ≡ Ok x → run k (f x) ≡ run l (g x)) → run k (p >>> f) ≡ run l (p >>> g)

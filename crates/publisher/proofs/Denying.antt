@@ -47,7 +47,7 @@ use Rattle.publisher.specs.Pages.{page_text}
 use Rattle.publisher.specs.Replies.{by_verb, fault_reply, page_reply, runaway_facts}
 use Rattle.publisher.specs.Site.{answered, authorization, bad_credentials, call_on, call_with, called, change_by, change_for, changed, over_history, page, page_for, refused_by, scope_answer, request, shown_page, where_granted, with_credentials, with_fields}
 use Rattle.publisher.proofs.ForUsers.{AreForUsers, page_for_users}
-use Rattle.publisher.proofs.Backwards.{answer_is, calls_change, came, no_page, shapes_came, shapes_stopped, stopped, stops_came}
+use Rattle.publisher.specs.Backwards.{answer_is, calls_change, came, no_page, shapes_came, shapes_stopped, stopped, stops_came}
 
 denial_of : Fault → Option Denial
 denial_of f = (fault_reply f).denied

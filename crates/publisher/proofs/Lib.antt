@@ -1,8 +1,6 @@
 mod Steps
 mod ForUsers
-mod Backwards
 mod Showing
-mod Granting
 mod Denying
 mod Apart
 mod Learning

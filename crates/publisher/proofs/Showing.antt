@@ -43,7 +43,7 @@ use Rattle.publisher.specs.Pages.{page_text}
 use Rattle.publisher.specs.Replies.{by_verb, fault_reply, page_reply, runaway_facts}
 use Rattle.publisher.specs.Site.{answered, authorization, bad_credentials, call_on, called, over_history, page, page_for, refused_by, scope_answer, request, shown_page, with_credentials, with_fields}
 use Rattle.publisher.proofs.ForUsers.{AreForUsers, page_for_users}
-use Rattle.publisher.proofs.Backwards.{and_ok, answer_is, calls_change, came, no_page, page_came, shapes_came, stops_came}
+use Rattle.publisher.specs.Backwards.{and_ok, answer_is, calls_change, came, no_page, page_came, shapes_came, stops_came}
 
 -- ---- what a page shows
 

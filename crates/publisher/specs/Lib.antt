@@ -9,6 +9,9 @@ pub mod UserRules
 pub mod PageRules
 pub mod SiteLaws
 pub mod Access
+pub mod Backwards
+pub mod Granting
+pub mod ChangeLaws
 pub mod Worked
 pub mod Keeping
 pub mod Halting

@@ -5,25 +5,20 @@ use Rattle.std.specs.List.{list_any}
 use Rattle.std.proofs.lemmas.Bool.Decides.{nat_tests}
 use Rattle.zbase.specs.Query.{Done, Stops, Halt, Need, Cause, ◌>>=◌, or_else, run}
 use Rattle.zobject.specs.declared.object.Object.{Object}
-use Rattle.zobject.specs.Rules.{kind_of as whole_kind}
-use Rattle.zobject.specs.declared.version.Version.TheVariants.{Second}
 use Rattle.zobject.specs.Shapes.{Shape}
 use Rattle.zknown.specs.Seen.{Shapes, Objects}
 use Rattle.zcodec.specs.Reading.{read}
-use Rattle.zcodec.specs.Record.{record_text}
 use Rattle.acquisition.specs.Acquiring as acquiring
 use Rattle.acquisition.specs.Acquiring.{first}
 use Rattle.evaluator.specs.declared.ask.Ask.{Ask}
 use Rattle.evaluator.specs.declared.draft.Draft.{Draft}
-use Rattle.evaluator.specs.declared.draft.Entry.{Entry}
-use Rattle.evaluator.specs.declared.draft.Name.{Name}
 use Rattle.evaluator.specs.declared.fact.Fact.{Fact}
 use Rattle.evaluator.specs.declared.outcome.Outcome.{Outcome}
 use Rattle.evaluator.specs.declared.reply.Kind.{Kind as ReplyKind}
 use Rattle.evaluator.specs.declared.reply.Reply.{Reply}
 use Rattle.evaluator.specs.declared.reply.Shown.{Shown}
-use Rattle.evaluator.specs.Change.{IsChange, IsPermission, IsReply, longest_text, statuses}
-use Rattle.evaluator.specs.Exec.{IsLawful, IsTrail, WasTaken, most_asks}
+use Rattle.evaluator.specs.Change.{IsPermission, IsReply, longest_text, statuses}
+use Rattle.evaluator.specs.Exec.{IsLawful, IsTrail, most_asks}
 use Rattle.evaluator.specs.Facts.{look}
 use Rattle.evaluator.specs.LimitLaws.{careful_limited, limited_within}
 use Rattle.evaluator.specs.QuestionLaws.{careful_over, lawful, trail_short}
@@ -35,23 +30,16 @@ use Rattle.http_in.specs.declared.message.Message.{Message}
 use Rattle.http_in.specs.declared.message.Message.TheVariants.{Whole, Refused}
 use Rattle.http_in.specs.declared.message.Request.{Request}
 use Rattle.http_in.specs.declared.message.Verb.{Verb}
-use Rattle.http_in.specs.Messages.{one_message}
-use Rattle.http_in.specs.PathSizes.{paths_short}
-use Rattle.http_in.specs.Paths.{path_text}
 use Rattle.manage.specs.declared.call.Call.{Call}
 use Rattle.manage.specs.declared.changes.Change.{Change}
 use Rattle.manage.specs.declared.refusal.ManageRefusal.{ManageRefusal}
 use Rattle.manage.specs.declared.refusal.ManageRefusal.TheVariants as refusals
 use Rattle.manage.specs.Calling as calling
 use Rattle.manage.specs.Calling.{if_lawful, is_built, kind_of, permission_at}
-use Rattle.manage.specs.AloneLaws.{built_itself, row_itself}
 use Rattle.manage.specs.Calls.{call_named}
 use Rattle.manage.specs.CallLaws.{numbered}
-use Rattle.manage.specs.Changing as changing
-use Rattle.manage.specs.Changing.{IsItself, became, change, settled, written as calls_write}
-use Rattle.manage.specs.Fields.{Checked}
-use Rattle.manage.specs.Table.{Adds, Itself, Renames, Row, Writes, permission_for, row_of}
-use Rattle.manage.specs.Written.{change_of, whole}
+use Rattle.manage.specs.Changing.{change}
+use Rattle.manage.specs.Table.{permission_for}
 use Rattle.namespace.specs.Looks as looks
 use Rattle.namespace.specs.Looks.{taken, through, view}
 use Rattle.namespace.specs.Requests.{request_names}
@@ -147,14 +135,10 @@ call_keeps refusals.TooDeep = line_keeps 500 _ refl
 abbrev HasReply : Fault → Type 0
 HasReply fault = IsReply (fault_reply fault)
 
--- there is room for the path of a message in a description
-abbrev HasRoom : Message → Type 0
-HasRoom (Refused cause) = Unit {0}
-HasRoom (Whole q) = length (path_text q.path) ≤ longest_text
-
-abbrev AnswerRule : Message → Answer → Type 0
-AnswerRule m (answer.Page x) = IsReply x
-AnswerRule m (answer.Change x d) = IsReply x × (HasRoom m → (known : Ask → Option Fact) → IsChange known d)
+-- of a change, that its user's name isn't too long
+abbrev AnswerRule : Answer → Type 0
+AnswerRule (answer.Page x) = IsReply x
+AnswerRule (answer.Change x d) = IsReply x × (length d.user ≤ longest_text)
 
 abbrev Asked : {A : Type 0} → (A → Type 0) → Objects Fault A → Type 0
 Asked V q = Keeps IsRight HasReply V q
@@ -177,113 +161,52 @@ user_asked credentials o permission = shapes_keep (λ cause. Any cause) NameRule
 
 -- ---- a page
 
-shown_page_keeps : (q : Request) (x : (List ℕ × Left) × List Shown) → ShownRule x → Asked (AnswerRule (Whole q)) (shown_page x)
-shown_page_keeps q x are = page_keeps x.0.0 x.1 are
+shown_page_keeps : (x : (List ℕ × Left) × List Shown) → ShownRule x → Asked AnswerRule (shown_page x)
+shown_page_keeps x are = page_keeps x.0.0 x.1 are
 
-page_for_keeps : (q : Request) (fields : List Field) (o : ℕ) (client : List ℕ) (user : Who) → Asked (AnswerRule (Whole q)) (page_for q fields o client user)
+page_for_keeps : (q : Request) (fields : List Field) (o : ℕ) (client : List ℕ) (user : Who) → Asked AnswerRule (page_for q fields o client user)
 unfolding scope_answer
 page_for_keeps q fields o client user =
     let text = page_text user o client (request_names q user fields (cookies_of q)) in
-    then_keeps (λ (x : (List ℕ × Left) × List Shown). ShownRule x) (AnswerRule (Whole q)) (or_else faults.Page (through taken [] text)) shown_page
+    then_keeps (λ (x : (List ℕ × Left) × List Shown). ShownRule x) AnswerRule (or_else faults.Page (through taken [] text)) shown_page
     (keeps_else IsRight FaultRule HasReply (λ (x : (List ℕ × Left) × List Shown). ShownRule x) faults.Page (through taken [] text) (through_keeps [] text none_shown) no_page_keeps)
-    (shown_page_keeps q)
+    shown_page_keeps
 
-page_asked : (q : Request) (fields : List Field) (credentials : Option Credentials) (o : ℕ) (client : List ℕ) → Asked (AnswerRule (Whole q)) (page q fields credentials o client)
+page_asked : (q : Request) (fields : List Field) (credentials : Option Credentials) (o : ℕ) (client : List ℕ) → Asked AnswerRule (page q fields credentials o client)
 unfolding page
-page_asked q fields credentials o client = then_keeps NameRule (AnswerRule (Whole q)) (by_shapes faults.User (who credentials o view)) _ (user_asked credentials o view) (λ user is. page_for_keeps q fields o client user)
+page_asked q fields credentials o client = then_keeps NameRule AnswerRule (by_shapes faults.User (who credentials o view)) _ (user_asked credentials o view) (λ user is. page_for_keeps q fields o client user)
 
 -- ---- a call
-
--- the record of one object is written
-abbrev ChangeRule : Change → Type 0
-ChangeRule c = (o : ℕ) × (bytes : List ℕ) × (0 < length bytes) × (c.entries ≡ Entry.Write (Name.Old o) bytes [] ∷ [])
-
-record_is_some : (o : Object) → 0 < length (record_text Second o)
-unfolding record_text
-record_is_some o = omega arith
-
-abbrev AreChanges : Objects ManageRefusal Change → Type 0
-AreChanges q = Keeps IsRight (λ (cause : ManageRefusal). Any cause) ChangeRule q
-
-itself_keeps : (o : ℕ) (r : Checked Object) → AreChanges ((settled r >>= λ new. Done (whole (Name.Old o) new ∷ [])) >>= λ ws. Done (change_of ws))
-itself_keeps o (Ok new) = (o, record_text Second new, record_is_some new, refl)
-itself_keeps o (Err cause) = tt
-
-writes_keep : (w : Writes) (row : Row) (o : ℕ) (object : Object) (fields : List Field) → IsItself w → AreChanges (calls_write w row o object fields >>= λ ws. Done (change_of ws))
-unfolding calls_write
-writes_keep (Itself new) row o object fields is = itself_keeps o (became row new object fields)
-writes_keep (Adds id title part) row o object fields is = absurd is
-writes_keep Renames row o object fields is = absurd is
-
-row_keeps : (found : Option Row) (call : Call) (o : ℕ) (object : Object) (fields : List Field) → ((r : Row) → found ≡ Some r → IsItself r.writes) → AreChanges (changing.change_by found call o object fields)
-row_keeps None call o object fields is = tt
-row_keeps (Some row) call o object fields is = writes_keep row.writes row o object fields (is row refl)
-
-changed_settled : (call : Call) (o : ℕ) (object : Object) (fields : List Field) → AreChanges (changing.changed call o object fields)
-changed_settled call o object fields = at (is_built call) refl
-  where
-    at : (built : Bool) → is_built call ≡ built → AreChanges ((if built then changing.by_row (row_of call (whole_kind object.part)) call o object fields else Stops (refusals.NotYet o)) >>= λ ws. Done (change_of ws))
-    at true e = row_keeps (row_of call (whole_kind object.part)) call o object fields (row_itself call (whole_kind object.part) (built_itself call e))
-    at false e = tt
-
-change_keeps : (call : Call) (o : ℕ) (fields : List Field) → AreChanges (change call o fields)
-unfolding change
-change_keeps call o fields =
-    keeps_then IsRight (λ (cause : ManageRefusal). Any cause) (λ (x : Object). Any x) ChangeRule (calling.here o) _ (keeps_any IsRight (calling.here o)) (λ object any. changed_settled call o object fields)
 
 of_call : (cause : ManageRefusal) → Any cause → HasReply (faults.Call cause)
 of_call cause any = call_keeps cause
 
-named_is : Entry → Name
-named_is (Entry.Write name bytes holes) = name
-named_is (Entry.Restore o t) = Name.Old o
-
--- one object is written, which has a value
-draft_keeps : (known : Ask → Option Fact) (user description : List ℕ) (o : ℕ) (bytes : List ℕ) → length user ≤ longest_text → length description ≤ longest_text → 0 < length bytes →
-    IsChange known (record { user = user; description = description; entries = Entry.Write (Name.Old o) bytes [] ∷ [] })
-draft_keeps known user description o bytes few short some = record {
-  user = few;
-  description = short;
-  distinct = λ i j d h k. absurd (omega arith);
-  numbered = λ k h. absurd (omega arith);
-  few = lit< tt;
-  each = ((λ h. absurd (omega arith), some, tt, λ i j d h k. absurd (omega arith)), tt);
-}
-
-abbrev drafted : List ℕ → List ℕ → List Entry → Draft
-drafted user description entries = record { user = user; description = description; entries = entries }
-
-change_is : (known : Ask → Option Fact) (q : Request) (user : Who) (c : Change) → NameRule user → ChangeRule c → HasRoom (Whole q) → IsChange known (draft_of q user c)
-change_is known q user c named rule room =
-    subst (λ entries. IsChange known (drafted (user_name user) (path_text q.path) entries)) (sym rule.3)
-    (draft_keeps known (user_name user) (path_text q.path) rule.0 rule.1 named room rule.2)
-
 module _ (q : Request) where
-  changed_keeps : (user : Who) (c : Change) → NameRule user → ChangeRule c → Asked (AnswerRule (Whole q)) (changed q user c)
-  changed_keeps user c named rule = (line_keeps 200 _ refl, λ room known. change_is known q user c named rule room)
+  changed_keeps : (user : Who) (c : Change) → NameRule user → Asked AnswerRule (changed q user c)
+  changed_keeps user c named = (line_keeps 200 _ refl, named)
 
-  change_by_keeps : (fields : List Field) (call : Call) (o : ℕ) (user : Who) → NameRule user → Asked (AnswerRule (Whole q)) (change_by q fields call o user)
+  change_by_keeps : (fields : List Field) (call : Call) (o : ℕ) (user : Who) → NameRule user → Asked AnswerRule (change_by q fields call o user)
   unfolding change_by
   change_by_keeps fields call o user named =
-      then_keeps ChangeRule (AnswerRule (Whole q)) (or_else faults.Call (change call o fields)) _
-      (keeps_else IsRight (λ (cause : ManageRefusal). Any cause) HasReply ChangeRule faults.Call (change call o fields) (change_keeps call o fields) of_call)
-      (λ c rule. changed_keeps user c named rule)
+      then_keeps (λ (c : Change). Any c) AnswerRule (or_else faults.Call (change call o fields)) _
+      (keeps_else IsRight (λ (cause : ManageRefusal). Any cause) HasReply (λ (c : Change). Any c) faults.Call (change call o fields) (keeps_any IsRight (change call o fields)) of_call)
+      (λ c any. changed_keeps user c named)
 
-  granted_keeps : (o permission : ℕ) (further : Objects Fault Answer) (v : Verdict) → IsPermission permission → Asked (AnswerRule (Whole q)) further → Asked (AnswerRule (Whole q)) (where_granted o permission further v)
+  granted_keeps : (o permission : ℕ) (further : Objects Fault Answer) (v : Verdict) → IsPermission permission → Asked AnswerRule further → Asked AnswerRule (where_granted o permission further v)
   granted_keeps o permission further (verdicts.Granted role) is k = k
   granted_keeps o permission further (verdicts.Denied p) is k = unauthorized_keeps o permission is
 
-  change_for_keeps : (fields : List Field) (call : Call) (o permission : ℕ) (user : Who) → IsPermission permission → NameRule user → Asked (AnswerRule (Whole q)) (change_for q fields call o permission user)
+  change_for_keeps : (fields : List Field) (call : Call) (o permission : ℕ) (user : Who) → IsPermission permission → NameRule user → Asked AnswerRule (change_for q fields call o permission user)
   unfolding change_for
   change_for_keeps fields call o permission user is named =
-      then_keeps VerdictRule (AnswerRule (Whole q)) (by_shapes faults.User (verdict_on user o permission)) _
+      then_keeps VerdictRule AnswerRule (by_shapes faults.User (verdict_on user o permission)) _
       (shapes_keep (λ cause. Any cause) VerdictRule faults.User (verdict_on user o permission) (verdict_keeps user o permission) of_user)
       (λ v rule. granted_keeps o permission (change_by q fields call o user) v is (change_by_keeps fields call o user named))
 
-  call_with_keeps : (fields : List Field) (credentials : Option Credentials) (call : Call) (o permission : ℕ) → IsPermission permission → Asked (AnswerRule (Whole q)) (call_with q fields credentials call o permission)
+  call_with_keeps : (fields : List Field) (credentials : Option Credentials) (call : Call) (o permission : ℕ) → IsPermission permission → Asked AnswerRule (call_with q fields credentials call o permission)
   unfolding call_with
   call_with_keeps fields credentials call o permission is =
-      then_keeps NameRule (AnswerRule (Whole q)) (by_shapes faults.User (who credentials o permission)) _ (user_asked credentials o permission) (λ user named. change_for_keeps fields call o permission user is named)
+      then_keeps NameRule AnswerRule (by_shapes faults.User (who credentials o permission)) _ (user_asked credentials o permission) (λ user named. change_for_keeps fields call o permission user is named)
 
 abbrev Lawful : Shapes ManageRefusal ℕ → Type 0
 Lawful q = Keeps IsRightShown (λ (cause : ManageRefusal). Any cause) IsPermission q
@@ -305,38 +228,38 @@ permission_keeps call verb o =
 -- ---- a whole message
 
 module _ (q : Request) where
-  call_on_keeps : (fields : List Field) (credentials : Option Credentials) (call : Call) (o : ℕ) → Asked (AnswerRule (Whole q)) (call_on q fields credentials call o)
+  call_on_keeps : (fields : List Field) (credentials : Option Credentials) (call : Call) (o : ℕ) → Asked AnswerRule (call_on q fields credentials call o)
   unfolding call_on
   call_on_keeps fields credentials call o =
-      then_keeps IsPermission (AnswerRule (Whole q)) (by_shapes faults.Call (permission_at call q.method o)) _
+      then_keeps IsPermission AnswerRule (by_shapes faults.Call (permission_at call q.method o)) _
       (shapes_keep (λ (cause : ManageRefusal). Any cause) IsPermission faults.Call (permission_at call q.method o) (permission_keeps call q.method o) of_call)
       (λ permission is. call_with_keeps q fields credentials call o permission is)
 
-  called_keeps : (fields : List Field) (credentials : Option Credentials) (name : List ℕ) (o : ℕ) (call : Option Call) → Asked (AnswerRule (Whole q)) (called q fields credentials name o call)
+  called_keeps : (fields : List Field) (credentials : Option Credentials) (name : List ℕ) (o : ℕ) (call : Option Call) → Asked AnswerRule (called q fields credentials name o call)
   called_keeps fields credentials name o None = line_keeps 404 _ refl
   called_keeps fields credentials name o (Some call) = call_on_keeps fields credentials call o
 
-  answered_keeps : (fields : List Field) (credentials : Option Credentials) (target : Target) → Asked (AnswerRule (Whole q)) (answered q fields credentials target)
+  answered_keeps : (fields : List Field) (credentials : Option Credentials) (target : Target) → Asked AnswerRule (answered q fields credentials target)
   answered_keeps fields credentials (targets.Page object client) = page_asked q fields credentials (first object) client
   answered_keeps fields credentials (targets.Call name on) = called_keeps fields credentials name (first on) (call_named name)
 
-  with_credentials_keeps : (fields : List Field) (credentials : Option Credentials) → Asked (AnswerRule (Whole q)) (with_credentials q fields credentials)
+  with_credentials_keeps : (fields : List Field) (credentials : Option Credentials) → Asked AnswerRule (with_credentials q fields credentials)
   unfolding with_credentials
   with_credentials_keeps fields credentials =
-      then_keeps (λ (x : Target). Any x) (AnswerRule (Whole q)) (by_shapes faults.Path (published q.path)) _
+      then_keeps (λ (x : Target). Any x) AnswerRule (by_shapes faults.Path (published q.path)) _
       (shapes_keep (λ (cause : publishing.Fault). Any cause) (λ (x : Target). Any x) faults.Path (published q.path) (keeps_any IsRightShown (published q.path)) (λ cause any. path_keeps cause))
       (λ target any. answered_keeps fields credentials target)
 
-  with_fields_keeps : (fields : List Field) → Asked (AnswerRule (Whole q)) (with_fields q fields)
+  with_fields_keeps : (fields : List Field) → Asked AnswerRule (with_fields q fields)
   unfolding with_fields
   with_fields_keeps fields =
-      then_keeps (λ (x : Option Credentials). Any x) (AnswerRule (Whole q)) (or_stops bad_credentials (credentials_of (authorization q))) _
+      then_keeps (λ (x : Option Credentials). Any x) AnswerRule (or_stops bad_credentials (credentials_of (authorization q))) _
       (stops_keep bad_credentials (credentials_of (authorization q)) (λ cause. line_keeps 400 _ refl)) (λ credentials any. with_credentials_keeps fields credentials)
 
-  request_keeps : Asked (AnswerRule (Whole q)) (request q)
+  request_keeps : Asked AnswerRule (request q)
   unfolding request
   request_keeps =
-      then_keeps (λ (x : List Field). Any x) (AnswerRule (Whole q)) (or_stops faults.NotANumber (fields_of q)) _ (stops_keep faults.NotANumber (fields_of q) (λ name. line_keeps 400 _ refl)) (λ fields any. with_fields_keeps fields)
+      then_keeps (λ (x : List Field). Any x) AnswerRule (or_stops faults.NotANumber (fields_of q)) _ (stops_keep faults.NotANumber (fields_of q) (λ name. line_keeps 400 _ refl)) (λ fields any. with_fields_keeps fields)
 
 -- ---- over facts
 
@@ -351,25 +274,25 @@ right_seen (Fact.Object o (Some bytes) serial) = right_value bytes (read bytes) 
 right_seen (Fact.Transaction t parts) = tt
 right_seen (Fact.Log rows) = tt
 
-abbrev MadeRule : Message → Made → Type 0
-MadeRule m (Reads x) = IsReply x
-MadeRule m (Changes x d) = IsReply x × (HasRoom m → (known : Ask → Option Fact) → IsChange known d)
+abbrev MadeRule : Made → Type 0
+MadeRule (Reads x) = IsReply x
+MadeRule (Changes x d) = IsReply x × (length d.user ≤ longest_text)
 
-made_keeps : (m : Message) (verb : Verb) (a : Answer) → AnswerRule m a → MadeRule m (made_by verb a)
-made_keeps m verb (answer.Page x) is = by_verb_keeps verb x is
-made_keeps m verb (answer.Change x d) is = (by_verb_keeps verb x is.0, is.1)
+made_keeps : (verb : Verb) (a : Answer) → AnswerRule a → MadeRule (made_by verb a)
+made_keeps verb (answer.Page x) is = by_verb_keeps verb x is
+made_keeps verb (answer.Change x d) is = (by_verb_keeps verb x is.0, is.1)
 
-over_history_keeps : (q : Request) → Keeps (λ (f : Fact). Any f) IsReply (MadeRule (Whole q)) (over_history q)
+over_history_keeps : (q : Request) → Keeps (λ (f : Fact). Any f) IsReply MadeRule (over_history q)
 over_history_keeps q =
-    keeps_then (λ (f : Fact). Any f) IsReply (AnswerRule (Whole q)) (MadeRule (Whole q)) (over_facts seen (or_else (refused_by q.method) (request q))) _
-    (keeps_facts IsRight IsReply (AnswerRule (Whole q)) seen (or_else (refused_by q.method) (request q)) right_seen
-    (keeps_else IsRight HasReply IsReply (AnswerRule (Whole q)) (refused_by q.method) (request q) (request_keeps q) (λ fault is. by_verb_keeps q.method (fault_reply fault) is)))
-    (λ a is. made_keeps (Whole q) q.method a is)
+    keeps_then (λ (f : Fact). Any f) IsReply AnswerRule MadeRule (over_facts seen (or_else (refused_by q.method) (request q))) _
+    (keeps_facts IsRight IsReply AnswerRule seen (or_else (refused_by q.method) (request q)) right_seen
+    (keeps_else IsRight HasReply IsReply AnswerRule (refused_by q.method) (request q) (request_keeps q) (λ fault is. by_verb_keeps q.method (fault_reply fault) is)))
+    (λ a is. made_keeps q.method a is)
 
-evaluation_keeps : (m : Message) → Keeps (λ (f : Fact). Any f) IsReply (MadeRule m) (evaluation m)
+evaluation_keeps : (m : Message) → Keeps (λ (f : Fact). Any f) IsReply MadeRule (evaluation m)
 evaluation_keeps (Refused cause) = message_keeps cause
 evaluation_keeps (Whole q) =
-    keeps_limited IsReply (MadeRule (Whole q)) (by_verb q.method runaway_facts) most_bytes [] most_asks 0 (over_history q) (by_verb_keeps q.method runaway_facts (line_keeps 500 _ refl)) (over_history_keeps q)
+    keeps_limited IsReply MadeRule (by_verb q.method runaway_facts) most_bytes [] most_asks 0 (over_history q) (by_verb_keeps q.method runaway_facts (line_keeps 500 _ refl)) (over_history_keeps q)
 
 -- ---- the laws
 
@@ -386,28 +309,24 @@ pub site_asks_few : (facts : List Fact) (m : Message) → IsTrail (λ known. sit
 site_asks_few facts (Refused cause) trail = (let none = trail_short 0 (Stops (message_reply cause)) tt [] facts trail in omega (arith, none))
 site_asks_few facts (Whole q) trail = trail_short most_asks (evaluation (Whole q)) (limited_within (by_verb q.method runaway_facts) most_bytes [] most_asks 0 (over_history q)) [] facts trail
 
-change_comes : (m : Message) (known : Ask → Option Fact) (r : Result Made (Halt Ask Reply)) (x : Reply) (d : Draft) → ComesTo IsReply (MadeRule m) r → HasRoom m → outcome r ≡ Outcome.Change x d → IsChange known d × IsReply x
-change_comes m known (Ok (Reads y)) x d is room e = absurd (let bad = e in cc)
-change_comes m known (Ok (Changes y c)) x d is room e =
+change_comes : (r : Result Made (Halt Ask Reply)) (x : Reply) (d : Draft) → ComesTo IsReply MadeRule r → outcome r ≡ Outcome.Change x d → IsReply x × (length d.user ≤ longest_text)
+change_comes (Ok (Reads y)) x d is e = absurd (let bad = e in cc)
+change_comes (Ok (Changes y c)) x d is e =
     let same_reply : y ≡ x = cc in
     let same_draft : c ≡ d = cc in
-    (subst (IsChange known) same_draft (is.1 room known), subst IsReply same_reply is.0)
-change_comes m known (Err (Cause y)) x d is room e = absurd (let bad = e in cc)
-change_comes m known (Err (Need ask)) x d is room e = absurd (let bad = e in cc)
+    (subst IsReply same_reply is.0, subst (λ (d : Draft). length d.user ≤ longest_text) same_draft is.1)
+change_comes (Err (Cause y)) x d is e = absurd (let bad = e in cc)
+change_comes (Err (Need ask)) x d is e = absurd (let bad = e in cc)
 
-reply_comes : (m : Message) (r : Result Made (Halt Ask Reply)) (x : Reply) → ComesTo IsReply (MadeRule m) r → outcome r ≡ Outcome.Answer x → IsReply x
-reply_comes m (Ok (Reads y)) x is e = let same : y ≡ x = cc in subst IsReply same is
-reply_comes m (Ok (Changes y c)) x is e = absurd (let bad = e in cc)
-reply_comes m (Err (Cause y)) x is e = let same : y ≡ x = cc in subst IsReply same is
-reply_comes m (Err (Need ask)) x is e = absurd (let bad = e in cc)
+reply_comes : (r : Result Made (Halt Ask Reply)) (x : Reply) → ComesTo IsReply MadeRule r → outcome r ≡ Outcome.Answer x → IsReply x
+reply_comes (Ok (Reads y)) x is e = let same : y ≡ x = cc in subst IsReply same is
+reply_comes (Ok (Changes y c)) x is e = absurd (let bad = e in cc)
+reply_comes (Err (Cause y)) x is e = let same : y ≡ x = cc in subst IsReply same is
+reply_comes (Err (Need ask)) x is e = absurd (let bad = e in cc)
 
-taken_room : (m : Message) → WasTaken one_message m → HasRoom m
-taken_room (Refused cause) taken = tt
-taken_room (Whole q) taken = (let short = paths_short taken.0 q taken.1 in omega (arith, short))
-
-pub site_changes : (facts : List Fact) (m : Message) (x : Reply) (d : Draft) → WasTaken one_message m → site (look facts) m ≡ Outcome.Change x d → IsChange (look facts) d × IsReply x
-site_changes facts m x d taken e =
-    change_comes m (look facts) (run (look facts) (evaluation m)) x d (keeps_run IsReply (MadeRule m) (look facts) (evaluation m) (evaluation_keeps m)) (taken_room m taken) e
+-- the reply to a change, and the name of its user
+pub change_told : (known : Ask → Option Fact) (m : Message) (x : Reply) (d : Draft) → site known m ≡ Outcome.Change x d → IsReply x × (length d.user ≤ longest_text)
+change_told known m x d e = change_comes (run known (evaluation m)) x d (keeps_run IsReply MadeRule known (evaluation m) (evaluation_keeps m)) e
 
 pub site_replies : (known : Ask → Option Fact) (m : Message) (x : Reply) → site known m ≡ Outcome.Answer x → IsReply x
-site_replies known m x e = reply_comes m (run known (evaluation m)) x (keeps_run IsReply (MadeRule m) known (evaluation m) (evaluation_keeps m)) e
+site_replies known m x e = reply_comes (run known (evaluation m)) x (keeps_run IsReply MadeRule known (evaluation m) (evaluation_keeps m)) e

@@ -191,7 +191,7 @@ no_call_there : comes_to (sent Post (codes "acl_users" ∷ codes "manage_edit" �
 unfolding request with_fields with_credentials page scope_answer scope_page call_on call_with change_for change_by change written call_judged fields_kept field_kept texts_of text_of published walked stepped child page_at index found reached containers upwards finds verdict_on judged roles has locals_on local_roles shape_of known_user sought taken_at user_at permission_at fields_of pairs pairs_of raw_pairs split percent_decode named_by whole_number utf8_lossy utf8_valid_len is_utf8 encode cookies_of spelled_by groups_bytes groups_error scan_steps encode_symbols sha1 digest_bytes hash_after compress rounds schedule first_words named_for in_layers in_layer in_base in_object searched in_one by_word title_in title_or_id_in ids_in values_in reach_each property_or_child property_in child_at request_names word_at quotation_at value_at attribute_at next_attribute tag_end attributes_at tag_named tag_at name_at entity_at begins_part plain_len part_at nodes_at arms_at template_at head_at dots_at item_at chain chain_at comparison_at and_at or_at not_at token_at tokens_at expression_at rendered sourced object_rendered rendered_if argument needed var_text call_text unless_text object_turn turn each over_items loop_text with_text bound let_text item_text items_text arms_text else_text source_text evaluated first_of fitting shape quoted cased sized html_quote last_space chars first_chars
 no_call_there = refl
 
-no_call_yet : comes_to (sent Post (at (codes "manage_addFolder")) [] []) ≡ Err (Cause (faults.Call (NotYet 0)))
+no_call_yet : comes_to (sent Post (at (codes "manage_undo_transactions")) [] []) ≡ Err (Cause (faults.Call (NotYet 0)))
 unfolding request with_fields with_credentials page scope_answer scope_page call_on call_with change_for change_by change written call_judged fields_kept field_kept texts_of text_of published walked stepped child page_at index found reached containers upwards finds verdict_on judged roles has locals_on local_roles shape_of known_user sought taken_at user_at permission_at fields_of pairs pairs_of raw_pairs split percent_decode named_by whole_number utf8_lossy utf8_valid_len is_utf8 encode cookies_of spelled_by groups_bytes groups_error scan_steps encode_symbols sha1 digest_bytes hash_after compress rounds schedule first_words named_for in_layers in_layer in_base in_object searched in_one by_word title_in title_or_id_in ids_in values_in reach_each property_or_child property_in child_at request_names word_at quotation_at value_at attribute_at next_attribute tag_end attributes_at tag_named tag_at name_at entity_at begins_part plain_len part_at nodes_at arms_at template_at head_at dots_at item_at chain chain_at comparison_at and_at or_at not_at token_at tokens_at expression_at rendered sourced object_rendered rendered_if argument needed var_text call_text unless_text object_turn turn each over_items loop_text with_text bound let_text item_text items_text arms_text else_text source_text evaluated first_of fitting shape quoted cased sized html_quote last_space chars first_chars
 no_call_yet = refl
 

@@ -13,7 +13,8 @@ ghost use Rattle.publisher.specs.Halting as halting;
 ghost use Rattle.publisher.specs.Keeping as keeping;
 ghost use Rattle.publisher.specs.Replies as replies;
 ghost use Rattle.publisher.specs.Site as spec;
-ghost use Rattle.publisher.specs.SiteLaws.{site_asks_few, site_changes, site_is_lawful, site_replies};
+ghost use Rattle.publisher.specs.ChangeLaws.{site_changes};
+ghost use Rattle.publisher.specs.SiteLaws.{site_asks_few, site_is_lawful, site_replies};
 
 use crate::answer::Answer;
 use crate::answering::answer;

@@ -1,4 +1,5 @@
-use Rattle.publisher.specs.SiteLaws.{site_asks_few, site_changes, site_is_lawful, site_replies}
+use Rattle.publisher.specs.ChangeLaws.{site_changes}
+use Rattle.publisher.specs.SiteLaws.{site_asks_few, site_is_lawful, site_replies}
 use Rattle.publisher.proofs.laws.messages_are_lawful.Goals as goal
 
 pub returns : goal.returns

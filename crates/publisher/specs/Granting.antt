@@ -41,7 +41,7 @@ use Rattle.publisher.specs.Pages.{page_scope, scope_page}
 use Rattle.publisher.specs.Replies.{by_verb, runaway_facts}
 use Rattle.publisher.specs.Site.{answered, authorization, bad_credentials, call_on, call_with, called, change_by, change_for, changed, draft_of, over_history, page, page_for, scope_answer, request, shown_page, where_granted, with_credentials, with_fields}
 use Rattle.publisher.specs.Ways.{Any, ComesTo, Keeps, keeps_any, keeps_run, keeps_then}
-use Rattle.publisher.proofs.Backwards.{came, shapes_came, stops_came}
+use Rattle.publisher.specs.Backwards.{came, shapes_came, stops_came}
 
 abbrev IsPage : Answer → Type 0
 IsPage (answer.Page x) = Unit {0}
