@@ -1,10 +1,9 @@
 -- Rows that add a child.
-use Rattle.std.proofs.Common.{◌≡◌, ◌∙◌, ℕ, ◌<◌, ◌^◌, Bool, true, false, List, [], ◌∷◌, Option, Some, None, Result, Ok, Err, length, refl, sym, ap, subst, if◌then◌else◌}
-use Rattle.std.specs.List.{find, AllByRecursion}
+use Rattle.std.proofs.Common.{◌≡◌, ◌∙◌, ℕ, ◌<◌, ◌^◌, true, List, Option, Some, None, Result, Ok, Err, length, refl, sym, ap, subst}
+use Rattle.std.specs.List.{AllByRecursion}
 use Rattle.zbase.specs.Query.{Done, ◌>>=◌, run, and_then, or_else, Answers, Told, Halt}
 use Rattle.zbase.specs.QueryLaws.{or_else_goes, or_else_passes, run_goes, run_passes, run_then, worded}
 use Rattle.zobject.specs.declared.object.Object.{Object}
-use Rattle.zobject.specs.declared.version.Kind.{Kind}
 use Rattle.zobject.specs.Changes.{new_object}
 use Rattle.zobject.specs.Rules.{IsObject, kind_of}
 use Rattle.zknown.specs.declared.kept.Kept.{Kept}
@@ -37,12 +36,12 @@ use Rattle.manage.proofs.Steps.{decided, goes_so, passes}
 pub depth_is : (rows : List (ℕ × Kept)) (o : ℕ) (path : List ℕ) → run (shapes rows) (containers o) ≡ Ok path → as_ask (run (objects rows) (depth_of o)) ≡ Ok (length path)
 depth_is rows o path e =
     ap as_ask (run_goes (objects rows) (over_objects (or_else no_path (containers o))) (λ path. Done (length path)) path
-        (run_over_objects rows (or_else no_path (containers o)) ∙ or_else_goes (shapes rows) no_path (containers o) path e))
+    (run_over_objects rows (or_else no_path (containers o)) ∙ or_else_goes (shapes rows) no_path (containers o) path e))
 
 stopped : (rows : List (ℕ × Kept)) (o : ℕ) (halt : Option (Halt ℕ acquiring.Fault)) → Told halt (run (shapes rows) (containers o)) → Told (worded no_path halt) (run (objects rows) (depth_of o))
 stopped rows o halt t =
     run_passes (objects rows) (over_objects (or_else no_path (containers o))) (λ path. Done (length path)) (worded no_path halt)
-        (subst (Told (worded no_path halt)) (sym (run_over_objects rows (or_else no_path (containers o)))) (or_else_passes (shapes rows) no_path (containers o) halt t))
+    (subst (Told (worded no_path halt)) (sym (run_over_objects rows (or_else no_path (containers o)))) (or_else_passes (shapes rows) no_path (containers o) halt t))
 
 pub no_depth_is : (rows : List (ℕ × Kept)) (o : ℕ) (e : AqRefusal) → Told (acquiring.told e) (run (shapes rows) (containers o)) → Told (told (no_depth e)) (as_ask (run (objects rows) (depth_of o)))
 no_depth_is rows o aq.Memory t = tt

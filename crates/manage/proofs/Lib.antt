@@ -1,5 +1,5 @@
-mod Children
 mod Calls
+mod Children
 mod Itself
 mod Kept
 mod Lines

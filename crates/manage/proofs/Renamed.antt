@@ -1,5 +1,5 @@
 -- The row that renames a child.
-use Rattle.std.proofs.Common.{◌≡◌, ◌∙◌, ℕ, ◌<◌, ◌^◌, true, List, [], ◌∷◌, Option, Some, None, Result, Ok, Err, refl, sym, ap, subst}
+use Rattle.std.proofs.Common.{◌≡◌, ℕ, ◌<◌, ◌^◌, List, Option, Some, Result, Ok, Err, refl, ap}
 use Rattle.std.specs.List.{AllByRecursion}
 use Rattle.zbase.specs.Query.{Done, ◌>>=◌, run, Answers, Told}
 use Rattle.zobject.specs.declared.object.Object.{Object}
@@ -17,7 +17,7 @@ use Rattle.manage.specs.declared.call.Call.TheVariants as call
 use Rattle.manage.specs.declared.changes.Change.{Change}
 use Rattle.manage.specs.declared.refusal.FieldName.TheVariants as field
 use Rattle.manage.specs.declared.refusal.ManageRefusal.{ManageRefusal}
-use Rattle.manage.specs.Becoming.{Situation, children, children_in, situation, text}
+use Rattle.manage.specs.Becoming.{children, children_in, situation, text}
 use Rattle.manage.specs.Calling.{told}
 use Rattle.manage.specs.Changing.{change_by, child_renamed, judged, renamed_child, settled, written}
 use Rattle.manage.specs.Fields.{Fails, Test}

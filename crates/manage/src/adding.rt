@@ -169,12 +169,7 @@ fn new_object(alloc: Global, parent: Oid, child: NewChild) -> Object
 }
 
 // The folder with the child last, and the child, which is new.
-fn write_added(
-    alloc: Global,
-    oid: Oid,
-    folder: &Object,
-    child: NewChild,
-) -> Result<Change, Memory>
+fn write_added(alloc: Global, oid: Oid, folder: &Object, child: NewChild) -> Result<Change, Memory>
     requires folder { IsObject (with_child folder.now (children_in folder.now.part) child.id 0) }
     requires child { IsObject (made child.id oid child.title child.part) }
     ensures { IfOk result (λ change. change ≡ change_of (changing.added oid folder.now child)) }

@@ -39,11 +39,7 @@ use zobject::{Child, Object, Part2, child_in};
 
 // The names that a form gives are right: that of a child, and one that no child has.
 #[tactic(auto, using(crate::proofs::Steps::stops), unfolding(crate::specs::Changing::judged, crate::specs::Fields::fields_kept))]
-fn names_are_right(
-    alloc: Global,
-    folder: &Object,
-    fields: &Fields,
-) -> Result<(), ManageRefusal>
+fn names_are_right(alloc: Global, folder: &Object, fields: &Fields) -> Result<(), ManageRefusal>
     ensures { Gives (λ x. x) result (judged table.rename_object (situation folder.now fields.now) (Ok tt)) }
 {
     let rows = [

@@ -1,4 +1,3 @@
-use Rattle.std.proofs.lemmas.Result.{err_from_is_err_and}
 use Rattle.zobject.specs.Rules.{kind_of}
 use Rattle.zknown.specs.Seen.{objects}
 use Rattle.manage.specs.Table.{row_of}
