@@ -3,7 +3,7 @@ ghost use Rattle.manage.specs.Changing.{KeepRules};
 
 use crate::telling::put_refusal;
 use acquisition::Wrapped;
-use cases::{CasesRefusal, Part, add_bytes, add_line, put_number, put_numbered, put_word};
+use cases::{CasesRefusal, Part, add_bytes, add_line, put_number, put_numbered};
 use evaluator::{Entry, Name};
 use form_fields::{Fields, fields};
 use http_in::{Message, Reader, Verb};
@@ -115,9 +115,9 @@ fn words_of(alloc: Global, entry: &Entry) -> Result<String, CasesRefusal> {
             ..
         } => {
             let mut line = line_of(alloc, "written", oid.0)?;
-            if !holes.is_empty() {
-                put_numbered(alloc, &mut line, "with", holes.len() as u64)?;
-                put_word(&mut line, "holes")?;
+            for hole in holes.as_slice() {
+                put_numbered(alloc, &mut line, "hole", u64::from(hole.at))?;
+                put_number(alloc, &mut line, u64::from(hole.new))?;
             }
             Ok(line)
         }

@@ -12,7 +12,8 @@ use std::alloc::Global;
 /// - `need NAME METHOD ID`: `permission NUMBER` comes of it, with the permission that the call needs on the object, or
 ///   `permission WHY`;
 /// - `change NAME ID`, with a form in the lines below: `written ID` comes of it, with the record that is written of that
-///   object, or `refused WHY`.
+///   object, and behind it `hole PLACE NUMBER` for each place where the id of a new object is to stand; and `made NUMBER`,
+///   with the record of that new object; or `refused WHY`.
 ///
 /// WHY is `need ID`, `broken ID`, `not-found NAME`, `not-yet ID`, `missing FIELD`, `bad-field FIELD`, `too-long FIELD`,
 /// `no-such-id ID`, `taken NAME`, `too-many`, `too-deep`, or `bad-source KIND PLACE` with the number of the kind.
