@@ -22,7 +22,7 @@ RESERVED = (".", "..", "acl_users", "id", "title", "title_or_id", "objectIds", "
             "undoable_transactions")
 
 
-# ---- records, in the second version
+# ---- records
 
 def text(value, size=2):
     data = value.encode()
@@ -45,17 +45,19 @@ def value(v):
     return b"s" + text(v)
 
 
-def record(o):
+def record(o, version=2):
+    """The record of an object, in the first version where it has one."""
+    source = lambda: text(o["source"], 4) + (roles(o["proxy"]) if version == 2 else b"")
     parts = {
         "F": lambda: many(o["children"], lambda c: text(c[0]) + (c[1] or 0).to_bytes(8, "big")),
-        "M": lambda: text(o["source"], 4) + roles(o["proxy"]),
-        "D": lambda: text(o["source"], 4) + roles(o["proxy"]),
+        "M": source,
+        "D": source,
         "U": lambda: many(o["users"], lambda u: text(u[0]) + text(u[1]) + roles(u[2])),
     }
-    return (b"Z2" + o["kind"].encode() + text(o["id"]) + o["parent"].to_bytes(8, "big") + text(o["title"])
+    return (f"Z{version}{o['kind']}".encode() + text(o["id"]) + o["parent"].to_bytes(8, "big") + text(o["title"])
             + many(o["settings"], lambda s: bytes([s[0], s[1]]) + roles(s[2]))
             + many(o["locals"], lambda l: text(l[0]) + roles(l[1]))
-            + many(o["properties"], lambda p: text(p[0]) + value(p[1])) + parts[o["kind"]]())
+            + many(o["properties"], lambda p: text(p[0]) + (value if version == 2 else text)(p[1])) + parts[o["kind"]]())
 
 
 def new(kind, id, parent, title="", **part):
@@ -243,6 +245,10 @@ def set_proxy_roles(o, form, site):
     o["proxy"] = sorted_roles(form)
 
 
+def kept(password):
+    return "{SHA}" + base64.b64encode(hashlib.sha1(password.encode()).digest()).decode()
+
+
 def add_user(o, form, site):
     judge(form, [one("name", "user"), one("password", "password"), any_of("roles", "role")])
     name = said(form, "name")
@@ -250,8 +256,7 @@ def add_user(o, form, site):
         raise Refused(f"taken {name}")
     if len(o["users"]) >= 1000:
         raise Refused("too-many")
-    kept = "{SHA}" + base64.b64encode(hashlib.sha1(said(form, "password").encode()).digest()).decode()
-    o["users"] = put(o["users"], (name, kept, sorted_roles(form)))
+    o["users"] = put(o["users"], (name, kept(said(form, "password")), sorted_roles(form)))
 
 
 def edit_page(o, form, site):
@@ -344,20 +349,39 @@ def rename_object(o, form, site):
 
 
 CALLS = {
-    "manage_addFolder": ("F", add_folder),
-    "manage_addDTMLMethod": ("F", add_method),
-    "manage_addDTMLDocument": ("F", add_document),
-    "manage_addUserFolder": ("F", add_user_folder),
-    "manage_renameObject": ("F", rename_object),
-    "manage_edit": ("FMD", edit),
-    "manage_delObjects": ("F", delete_objects),
-    "manage_permission": ("FMDU", set_permission),
-    "manage_setLocalRoles": ("FMDU", set_local_roles),
-    "manage_delLocalRoles": ("FMDU", delete_local_roles),
-    "manage_addProperty": ("FD", add_property),
-    "manage_delProperties": ("FD", delete_properties),
-    "manage_proxy": ("MD", set_proxy_roles),
-    "userFolderAddUser": ("U", add_user),
+    "manage_addFolder": add_folder,
+    "manage_addDTMLMethod": add_method,
+    "manage_addDTMLDocument": add_document,
+    "manage_addUserFolder": add_user_folder,
+    "manage_renameObject": rename_object,
+    "manage_edit": edit,
+    "manage_delObjects": delete_objects,
+    "manage_permission": set_permission,
+    "manage_setLocalRoles": set_local_roles,
+    "manage_delLocalRoles": delete_local_roles,
+    "manage_addProperty": add_property,
+    "manage_delProperties": delete_properties,
+    "manage_proxy": set_proxy_roles,
+    "userFolderAddUser": add_user,
+}
+
+
+# the permission that a call needs, by the kind of the object
+KINDS_ON = {
+    "manage_addFolder": {"F": 3},
+    "manage_addDTMLMethod": {"F": 4},
+    "manage_addDTMLDocument": {"F": 4},
+    "manage_addUserFolder": {"F": 11},
+    "manage_edit": {"M": 5, "D": 6, "F": 8},
+    "manage_delObjects": {"F": 7},
+    "manage_renameObject": {"F": 7},
+    "manage_permission": {"F": 9, "M": 9, "D": 9, "U": 9},
+    "manage_setLocalRoles": {"F": 9, "M": 9, "D": 9, "U": 9},
+    "manage_delLocalRoles": {"F": 9, "M": 9, "D": 9, "U": 9},
+    "manage_addProperty": {"F": 8, "D": 8},
+    "manage_delProperties": {"F": 8, "D": 8},
+    "manage_proxy": {"M": 13, "D": 13},
+    "userFolderAddUser": {"U": 10},
 }
 
 
@@ -480,11 +504,10 @@ def put_case(title, call, oid, form, o=None, others=None, path=()):
     put_parts("&".join(pairs(form)).encode(), put_line)
     if not form:
         print("  | \\")
-    kinds, row = CALLS[call]
     try:
-        if o["kind"] not in kinds:
+        if o["kind"] not in KINDS_ON[call]:
             raise Refused(f"not-found {call}")
-        more = row(o, form, Site(oid, (2 if oid else 1) + len(path), others)) or []
+        more = CALLS[call](o, form, Site(oid, (2 if oid else 1) + len(path), others)) or []
         for name, written in [(oid, o)] + more:
             put_written(name, written)
     except Refused as refusal:
@@ -547,7 +570,7 @@ def of_field(table, call, field):
 
 def each_field(call):
     """Each field absent, as a list, bad and at its limit, and refusals of an earlier field before a later one."""
-    oid = KIND_OF[CALLS[call][0][0]]
+    oid = KIND_OF[next(iter(KINDS_ON[call]))]
     good = {field: GOOD[field] for field, _, _ in FIELDS[call]}
     if call == "manage_delProperties":
         good["ids"] = ["a"]

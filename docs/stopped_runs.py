@@ -171,7 +171,7 @@ class Store:
         return None, 0, 0
 
     def vote(self, holder, change, reads, now):
-        description, entries = change
+        user, description, entries = change
         if self.out:
             raise Refused("busy", self.out[0])
         self.refresh()
@@ -184,10 +184,10 @@ class Store:
             last, end = self.known.last(), self.known.end
             tid = now if now > last else last + 1
             records, fresh = [], self.known.greatest() + 1
-            for oid, data in entries:
-                newest = self.known.newest(fresh if oid is None else oid)
-                records.append(record(fresh if oid is None else oid, tid, newest[1] if newest else 0, end, data))
-            piece = described(tid, b"c", description, records)
+            for oid, data in sorted((fresh if oid is None else oid, data) for oid, data in entries):
+                newest = self.known.newest(oid)
+                records.append(record(oid, tid, newest[1] if newest else 0, end, data(fresh) if callable(data) else data))
+            piece = described(tid, b"c", user, description, records)
             if end + len(piece) > self.limit:
                 raise Refused("full", end + len(piece), self.limit)
             self.disk.write(end, piece)
@@ -219,38 +219,48 @@ class Store:
             self.stale = True
 
 
-def described(tid, status, description, records):
-    length = 23 + len(description) + sum(map(len, records))
-    texts = number(0, 2) + number(len(description), 2) + number(0, 2) + description
+def described(tid, status, user, description, records):
+    length = 23 + len(user) + len(description) + sum(map(len, records))
+    texts = number(len(user), 2) + number(len(description), 2) + number(0, 2) + user + description
     return number(tid) + number(length) + status + texts + b"".join(records) + number(length)
 
 
 # ---- what requests mean
 
-PHRASES = {200: "OK", 404: "Not Found", 500: "Internal Server Error", 503: "Service Unavailable"}
+PHRASES = {
+    200: "OK",
+    400: "Bad Request",
+    401: "Unauthorized",
+    404: "Not Found",
+    500: "Internal Server Error",
+    503: "Service Unavailable",
+}
 
 
 def hex16(n):
     return f"{n:016x}"
 
 
-def reply(status, body, mark, kind="plain"):
-    lines = [f"HTTP/1.1 {status} {PHRASES[status]}", f"Content-Type: text/{kind}; charset=utf-8"]
-    lines += [f"Content-Length: {len(body)}", f"X-Transaction: {mark}", "Connection: close", "", ""]
-    return "\r\n".join(lines).encode() + body
+def reply(status, body, mark, kind="plain", head_only=False):
+    lines = [f"HTTP/1.1 {status} {PHRASES[status]}"]
+    lines += ['WWW-Authenticate: basic realm="Zope"'] if status == 401 else []
+    lines += [f"Content-Type: text/{kind}; charset=utf-8", f"Content-Length: {len(body)}", f"X-Transaction: {mark}"]
+    lines += ["Connection: close", "", ""]
+    return "\r\n".join(lines).encode() + (b"" if head_only else body)
 
 
 def cells(request, known):
-    """The evaluator of cells: what is asked for, or a reply with what it shows, or a change."""
+    """The evaluator of cells: what is asked for; or a reply's status, body, type and the lines behind it; or a change's user,
+    description and entries, of which each new object's name is None."""
     words = request.split()
     oid = int(words[1], 16)
     if oid not in known:
         return "need", oid
     value = known[oid]
     if words[0] == b"read":
-        return "answer", (b"none" if value is None else value.hex().encode()) + b"\n", "plain", []
+        return "answer", 200, (b"none" if value is None else value.hex().encode()) + b"\n", "plain", []
     data = (value or b"") + b"+"
-    return "change", b"", [(int(words[2], 16) if words[0] == b"copy" else None, data)]
+    return "change", b"", b"", [(int(words[2], 16) if words[0] == b"copy" else None, data)]
 
 
 # the setting by which anyone is granted `Change DTML Documents`
@@ -269,8 +279,8 @@ def pages(request, known):
             return "need", oid
     source = known[1][len(DOCUMENT) + 4 : -2]
     if request.startswith(b"GET"):
-        return "answer", source, "html", [(1, "Anonymous")]
-    return "change", b"/a/manage_edit", [(1, document(request.partition(b"data=")[2]))]
+        return "answer", 200, source, "html", [("shown", 1, "Anonymous")]
+    return "change", b"", b"/a/manage_edit", [(1, document(request.partition(b"data=")[2]))]
 
 
 # ---- a run
@@ -320,9 +330,10 @@ class Run:
             return f"computed {w}\n".encode()
         del self.workers[w]
         tid = hex16(worker.snapshot)
-        body = reply(200, came[1], f"read {tid}", came[2])
-        shown = "".join(f"shown {w} {hex16(oid)} {role}\n" for oid, role in came[3])
-        return f"reply {w} read {tid} {len(body)}\n".encode() + body + b"\n" + shown.encode()
+        _, status, text, kind, behind, *head_only = came
+        body = reply(status, text, f"read {tid}", kind, *head_only)
+        lines = "".join(f"{word} {w} {hex16(oid)} {what}\n" for word, oid, what in behind)
+        return f"reply {w} read {tid} {len(body)}\n".encode() + body + b"\n" + lines.encode()
 
     def vote(self, w, worker):
         try:
