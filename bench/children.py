@@ -1,0 +1,116 @@
+#!/usr/bin/env python3
+"""Adds the last of 10,000 children to folders, renames and deletes one among them, and deletes every tenth by one call, beside
+edits of the folders' titles.
+
+An edit of the title reads the folder's record and writes it, once each, and looks at no child. Each schedule has one call for
+each folder, so that all meet as many children; a call's cost is its run's time without that of a run that has no request, by
+the number of calls. The printing of what a call wrote, the folder's record among it, is part of its cost and of the edit's.
+"""
+
+import argparse
+import pathlib
+import subprocess
+import tempfile
+from urllib.parse import urlencode
+
+from replay import PROGRAM, Writer, be, least, text, timed
+
+DOCUMENT, FIRST_FOLDER = 1, 2
+# Add Folders, Delete objects, Manage properties
+GRANTED = (3, 7, 8)
+
+
+def listed(items):
+    return be(len(items), 2) + b"".join(items)
+
+
+def head(kind, name):
+    """The front of a record of an object in the root, without title, settings, local roles and properties."""
+    return b"Z2" + kind + text(name) + be(0, 8) + be(0, 8)
+
+
+def names(count):
+    return [b"child%05d" % number for number in range(count)]
+
+
+def root(folders):
+    """A root in which anyone may call."""
+    settings = [be(permission, 1) + be(0, 1) + listed([text(b"Anonymous")]) for permission in GRANTED]
+    children = [text(b"folder%d" % number) + be(FIRST_FOLDER + number, 8) for number in range(folders)]
+    return b"Z2F" + text(b"") + be(0, 8) + text(b"Site") + listed(settings) + be(0, 4) + listed(children)
+
+
+def write_site(path, folders, children):
+    """Folders with so many children, each of which is the same document."""
+    inside = listed([text(name) + be(DOCUMENT, 8) for name in names(children)])
+    objects = [(0, root(folders)), (DOCUMENT, head(b"D", b"document") + be(5, 4) + b"hello" + be(0, 2))]
+    objects += [(FIRST_FOLDER + number, head(b"F", b"folder%d" % number) + inside) for number in range(folders)]
+    with open(path, "wb") as out:
+        Writer(out).transaction(0x0331620000000000, b"", b"init", objects)
+
+
+def schedule(folders, call=None, fields=(), facts=2):
+    """A call for each folder, which asks for so many objects."""
+    lines = [b"zope schedule 1\n"]
+    for number in range(folders if call else 0):
+        body = urlencode(fields)
+        message = f"POST /folder{number}/{call} HTTP/1.0\r\nContent-Length: {len(body)}\r\n\r\n{body}".encode()
+        lines.append(b"request 0 %d\n%s\n" % (len(message), message) + b"step 0\n" * (facts + 4))
+    lines.append(b"end\n")
+    return b"".join(lines)
+
+
+def run_of(site, lines):
+    def run():
+        with open(lines, "rb") as given, open("/dev/null", "wb") as out:
+            return timed([PROGRAM, "replay", site], given, out)
+
+    return run
+
+
+def commits(site, lines):
+    with open(lines, "rb") as given:
+        shown = subprocess.run([PROGRAM, "replay", site], stdin=given, stdout=subprocess.PIPE, check=True).stdout
+    return shown.count(b"reply 0 commit ")
+
+
+def main():
+    options = argparse.ArgumentParser(description=__doc__)
+    options.add_argument("--children", type=int, default=10_000)
+    options.add_argument("--folders", type=int, default=40)
+    options.add_argument("--rounds", type=int, default=7)
+    given = options.parse_args()
+    tenth = [("ids:list", name.decode()) for name in names(given.children)[::10]]
+    # title, children before the call, the call, its fields and how many objects it asks for
+    rows = [
+        ("none", given.children, None, (), 0),
+        ("title", given.children, "manage_edit", [("title", "T")], 2),
+        ("adding the last one", given.children - 1, "manage_addFolder", [("id", "last")], 2),
+        ("renaming the first", given.children, "manage_renameObject", [("id", "child00000"), ("new_id", "renamed")], 3),
+        ("renaming the last", given.children, "manage_renameObject", [("id", f"child{given.children - 1:05}"), ("new_id", "renamed")], 3),
+        ("deleting the first", given.children, "manage_delObjects", [("ids", "child00000")], 2),
+        ("deleting the last", given.children, "manage_delObjects", [("ids", f"child{given.children - 1:05}")], 2),
+        (f"deleting {len(tenth)} by one call", given.children, "manage_delObjects", tenth, 2),
+    ]
+    with tempfile.TemporaryDirectory() as made:
+        at = pathlib.Path(made)
+        # builds the program where that is due
+        subprocess.run([PROGRAM, "init", at / "new.fs", "admin", "secret"], stdout=subprocess.DEVNULL, check=True)
+        seconds = {}
+        for title, children, call, fields, facts in rows:
+            site, lines = at / f"{children}.fs", at / "schedule"
+            if not site.exists():
+                write_site(site, given.folders, children)
+            lines.write_bytes(schedule(given.folders, call, fields, facts))
+            assert commits(site, lines) == (given.folders if call else 0), f"{title}: a call wasn't answered"
+            seconds[title], _ = least(run_of(site, lines), given.rounds)
+    opened = seconds.pop("none")
+    costs = {title: (took - opened) / given.folders for title, took in seconds.items()}
+    edit = costs.pop("title")
+    print(f"{given.folders} folders of {given.children} children; an edit of a title: {edit * 1000:.2f} ms")
+    for title, cost in costs.items():
+        print(f"{title}: {cost * 1000:.2f} ms, {cost / edit:.2f} times an edit of the title")
+
+
+if __name__ == "__main__":
+    main()
