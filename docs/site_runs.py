@@ -339,9 +339,8 @@ FILES = {"new_site": file_of(INIT), "old_site": file_of(INIT, 1)}
 CASES = []
 
 
-def case(title, play, file="new_site", left=None):
-    CASES.append((title, play.end(), file, left))
-    return play
+def case(title, play, file="new_site", limit=""):
+    CASES.append((title, play.end(), file, limit))
 
 
 def kept_lines(content):
@@ -405,29 +404,14 @@ def put_all():
             put_bytes(kept_lines(content))
             print()
         lines[name.replace("_site", "_kept") if name in ("new_site", "old_site") else f"{name}_kept"] = kept_lines(content)
-    for title, play, file, left in CASES:
+    for title, play, file, limit in CASES:
         print(f"case {title}")
-        print(f"words replay site.fs\nfile site.fs\n  use {file}\ninput\n  | zope schedule 1")
+        print(f"words replay site.fs{limit}\nfile site.fs\n  use {file}\ninput\n  | zope schedule 1")
         put_items(play.given)
         print("  | end\nstatus 0\noutput")
         # a piece ends with its line, so that what stands before and behind it are lines too
         put_shared(play.printed(), shared | lines)
-        if left:
-            print("left site.fs")
-            put_left(play, file, left)
         print()
-
-
-def put_left(play, file, left):
-    """The file that a run leaves: a piece, or the run's file and what it appends."""
-    content = play.run.disk.content
-    if left is not True:
-        assert content == FILES[left]
-        print(f"  use {left}")
-        return
-    assert content.startswith(FILES[file])
-    print(f"  use {file}")
-    put_hex(content[len(FILES[file]) :])
 
 
 # ---- what is run
@@ -473,6 +457,15 @@ def get(play, path, by=None):
     return play.whole(0, "GET", path, by=by)
 
 
+def put_limits(title, play, end):
+    """The first call of a run, over a file that may come to as many bytes as the call needs, and to one less."""
+    first = next(item for item in play.given if item[0] == "request")
+    for limit in (end - 1, end):
+        play = Play(FILES["old_site"], limit).put(("clock", T0)).send(0, first[2]).through(0)
+        assert (b"spent 0 full %d %d\n" % (end, limit) in play.printed()) == (limit < end)
+        case(f"{title}, which comes to {end} bytes, of {limit}", play, "old_site", f" --limit {limit}")
+
+
 def put_rows():
     play = over("old_site").put(("clock", T0))
     play.ask(0, "POST", "/index_html/acl_users/userFolderAddUser", form={"name": "bob", "password": "b", "roles": ["Editor"]}, by=ADMIN)
@@ -480,22 +473,23 @@ def put_rows():
     printed = play.printed()
     assert b"conflict 1 0000000000000001 0331620000000000 0331620000000001\n" in printed
     assert b"reply 1 commit 0331620000000002 143\n" in printed
-    case("a user is added while a page is edited: each read what the other wrote", play, "old_site", True)
+    case("a user is added while a page is edited: each read what the other wrote", play, "old_site")
 
     play = post(over("old_site").put(("clock", T0)), "/manage_addDTMLDocument", {"id": "d", "file": "hi"})
     places = {oid: place for oid, place, _ in play.run.store.known.transactions[-1][2]}
     assert places == {0: 464, 3: 583}
-    case("a document is added to a site whose records have the first version", get(play, "/d"), "old_site", True)
+    put_limits("a document is added", get(play, "/d"), 583 + 42 + len(spell(document("d", 0, "hi"))) + 8)
+    case("a document is added to a site whose records have the first version", play, "old_site")
 
     play = over("old_site").put(("clock", T0))
     for form, said in (({"id": "index_html"}, b"taken: index_html"), ({"id": "_x"}, b"bad field: id"), ({}, b"missing: id")):
         post(play, "/manage_addFolder", form)
         assert said in play.run.blocks[-1] and b"X-Transaction: read 0331620000000000" in play.run.blocks[-1]
-    case("a folder whose name is taken, one whose name is none, and one without a name", play, "old_site", True)
+    case("a folder whose name is taken, one whose name is none, and one without a name", play, "old_site")
 
     play = post(over("old_site").put(("clock", T0)), "/index_html/manage_proxy", {"roles": ["Manager"]})
-    assert len(play.run.disk.content) == 623
-    case("proxy roles of the front page of a site whose records have the first version", play, "old_site", True)
+    put_limits("proxy roles of the front page are set", play, 623)
+    case("proxy roles of the front page of a site whose records have the first version", play, "old_site")
 
 
 def put_works():
@@ -503,44 +497,44 @@ def put_works():
     play = get(post(over(), "/manage_addFolder", {"id": "f", "title": "A folder"}), "/f")
     get(get(play, "/f/f"), "/f/index_html")
     get(post(play, "/f/manage_addFolder", {"id": "f", "title": "One in it"}), "/f/f")
-    case("a folder is added, and then one in it", play, left=True)
+    case("a folder is added, and then one in it", play)
     play = get(over(), "/m")
     get(post(play, "/manage_addDTMLMethod", {"id": "m", "title": "M", "file": "a method"}), "/m")
     get(post(play, "/manage_addDTMLMethod", {"id": "k"}), "/k")
-    case("methods are added", play, left=True)
+    case("methods are added", play)
     play = get(over(), "/d")
     get(post(play, "/manage_addDTMLDocument", {"id": "d", "title": "D", "file": "a document"}), "/d")
     get(post(play, "/manage_addDTMLDocument", {"id": "k"}), "/k")
-    case("documents are added", play, left=True)
+    case("documents are added", play)
     play = post(over(), "/manage_addFolder", {"id": "f"})
     post(play, "/f/manage_addUserFolder")
     post(play, "/f/acl_users/userFolderAddUser", {"name": "bob", "password": "b", "roles": ["Manager"]})
     post(play, "/f/manage_addDTMLDocument", {"id": "d", "file": "by bob"}, "bob:b")
     post(play, "/manage_addDTMLDocument", {"id": "d", "file": "by bob"}, "bob:b")
-    case("a user folder is added, and its users are found", get(play, "/f/d"), left=True)
+    case("a user folder is added, and its users are found", get(play, "/f/d"))
     play = post(over("tree"), "/manage_renameObject", {"id": "d", "new_id": "e"})
     get(get(play, "/e"), "/d")
     post(play, "/manage_renameObject", {"id": "f", "new_id": "d"})
     get(get(play, "/d/x"), "/f/x")
-    case("a document and a folder are renamed", play, "tree", True)
+    case("a document and a folder are renamed", play, "tree")
     play = post(over("tree"), "/f/manage_renameObject", {"id": "me", "new_id": "self"})
     get(get(play, "/f/self/x"), "/f/me/x")
-    case("a folder that is its own child is renamed in itself", play, "tree", True)
+    case("a folder that is its own child is renamed in itself", play, "tree")
     play = get(post(over("tree"), "/f/manage_renameObject", {"id": "x", "new_id": "y"}), "/f/y")
-    case("a document with proxy roles and a property is renamed", play, "tree", True)
+    case("a document with proxy roles and a property is renamed", play, "tree")
     play = post(over("tree"), "/manage_renameObject", {"id": "lost", "new_id": "found"})
     case("a child that is gone isn't renamed", play, "tree")
     play = post(over("tree"), "/manage_delObjects", {"ids": ["f", "g"]})
     get(post(play, "/manage_addDTMLDocument", {"id": "f", "file": "another"}), "/f")
     post(play, "/manage_delObjects", {"ids": "f"})
     get(post(play, "/manage_addDTMLDocument", {"id": "f", "file": "a third"}), "/f")
-    case("a name is free again when its child was deleted, and ids aren't given twice", play, "tree", True)
+    case("a name is free again when its child was deleted, and ids aren't given twice", play, "tree")
     for call, form in FIVE.items():
         play = over("tree").whole(0, "GET", ("/g" if call == "manage_addUserFolder" else "") + f"/{call}", form=form, by=ADMIN)
         assert b"commit" in play.run.blocks[-1]
         case(f"{call} by GET", play, "tree")
     play = get(post(over(), "/manage_addDTMLDocument?id:int=7", {"file:int": "-07", "title": "a&b"}), "/7")
-    case("a document's name and its source are numbers, of which one stands in the query", play, left=True)
+    case("a document's name and its source are numbers, of which one stands in the query", play)
 
 
 def put_denied():
@@ -602,35 +596,32 @@ def put_together():
         printed = play.printed()
         assert b"busy 1 0\n" in printed and b"conflict 1 0000000000000000 0331620000000000 0331620000000001\n" in printed
         assert [t[2][-1][0] for t in play.run.store.known.transactions[1:]] == [3, 4]
-        case(f"two workers call {call} in one folder: the second begins anew and gets another id", get(get(play, "/a"), "/b"), left=True)
+        case(f"two workers call {call} in one folder: the second begins anew and gets another id", get(get(play, "/a"), "/b"))
     play = ask(ask(over("tree"), 0, "/f/manage_addFolder", {"id": "a"}), 1, "/g/manage_addFolder", {"id": "b"})
     play.to(0, "computed").to(1, "computed").through(1).through(0)
     assert b"conflict" not in play.printed() and [t[2][-1][0] for t in play.run.store.known.transactions[1:]] == [7, 8]
-    case("two workers add to two folders: the one that votes first gets the next id, the other the one behind it", play, "tree", True)
-    play = ask(ask(over(), 0, "/manage_addUserFolder", {}), 1, "/manage_addFolder", {"id": "a"})
-    play.to(0, "active").step(0, 3).through(1)
-    case("a refusal is an answer of its own moment, whatever is added behind it", play)
+    case("two workers add to two folders: the one that votes first gets the next id, the other the one behind it", play, "tree")
     play = ask(ask(over("tree"), 0, "/g/manage_addUserFolder", {}), 1, "/g/manage_addUserFolder", {})
     play.to(0, "computed").to(1, "computed").through(0).through(1)
     assert b"conflict 1" in play.printed() and b"taken: acl_users" in play.printed()
-    case("two workers add a user folder to one folder: the second is refused", play, "tree", True)
+    case("two workers add a user folder to one folder: the second is refused", play, "tree")
 
     play = ask(ask(over("tree"), 0, "/manage_renameObject", {"id": "d", "new_id": "e"}), 1, "/d/manage_edit", {"data": "edited"})
     play.to(0, "computed").to(1, "computed").through(0).step(1).through(1)
     assert b"conflict 1 0000000000000000" in play.printed() and b"not found: d" in play.printed()
-    case("a document is renamed while it is edited: the edit begins anew and doesn't find it", get(play, "/e"), "tree", True)
+    case("a document is renamed while it is edited: the edit begins anew and doesn't find it", get(play, "/e"), "tree")
     play = ask(ask(over("tree"), 0, "/manage_renameObject", {"id": "d", "new_id": "e"}), 1, "/d/manage_edit", {"data": "edited"})
     play.to(0, "computed").to(1, "computed").through(1).step(0).through(0)
     assert b"conflict 0 0000000000000003" in play.printed() and play.printed().count(b" commit ") > 2
-    case("a document is edited while it is renamed: the renaming begins anew and keeps the edit", get(play, "/e"), "tree", True)
+    case("a document is edited while it is renamed: the renaming begins anew and keeps the edit", get(play, "/e"), "tree")
     play = ask(ask(over("tree"), 0, "/f/manage_renameObject", {"id": "x", "new_id": "y"}), 1, "/d/manage_edit", {"data": "edited"})
     play.to(0, "computed").to(1, "computed").through(0).through(1)
     assert b"conflict" not in play.printed()
-    case("a document is edited while another one is renamed in another folder: neither meets the other", play, "tree", True)
+    case("a document is edited while another one is renamed in another folder: neither meets the other", play, "tree")
     play = ask(ask(over("tree"), 0, "/manage_renameObject", {"id": "d", "new_id": "n"}), 1, "/manage_renameObject", {"id": "g", "new_id": "n"})
     play.to(0, "computed").to(1, "computed").through(0).step(1).through(1)
     assert b"taken: n" in play.printed()
-    case("two children get one name: the second begins anew and finds it taken", play, "tree", True)
+    case("two children get one name: the second begins anew and finds it taken", play, "tree")
     play = ask(over("tree"), 0, "/manage_renameObject", {"id": "d", "new_id": "e"})
     play.ask(1, "GET", "/d").step(1).through(0).through(1)
     assert b"reply 1 read 0331620000000000" in play.printed() and b"hello" in play.printed()
@@ -638,11 +629,11 @@ def put_together():
     play = ask(ask(over("tree"), 0, "/manage_delObjects", {"ids": "g"}), 1, "/g/manage_addFolder", {"id": "n"})
     play.to(0, "computed").to(1, "computed").through(0).step(1).through(1)
     assert b"not found: g" in play.printed()
-    case("a folder is deleted while one is added to it", play, "tree", True)
+    case("a folder is deleted while one is added to it", play, "tree")
     play = ask(ask(over("tree"), 0, "/g/manage_addFolder", {"id": "n"}), 1, "/manage_delObjects", {"ids": "g"})
     play.to(0, "computed").to(1, "computed").through(0).through(1)
     assert b"conflict" not in play.printed() and play.printed().count(b" commit ") > 2
-    case("a folder is deleted while one is added to it, which the deletion doesn't read", play, "tree", True)
+    case("a folder is deleted while one is added to it, which the deletion doesn't read", play, "tree")
 
 
 # what builds a site out of a new one: paths, fields and users
@@ -697,19 +688,25 @@ def put_building():
         assert b" commit " in play.run.blocks[-1], (path, play.run.blocks[-1])
     assert len(BUILDING) == 40
     FILES["built"] = play.run.disk.content
-    case("forty calls build a site out of a new one", play, left="built")
+    case("forty calls build a site out of a new one", play)
     play = over("built")
     for path in ("/News/opening", "/News/minutes", "/people/cy", "/people/cy/guest.book", "/archive/letter.txt", "/news", "/old", "/attic"):
         get(play, path)
     case("the site that forty calls built is looked at", play, "built")
 
 
-def put_dump():
-    print("case the site that forty calls built is dumped")
-    print("words dump site.fs\nfile site.fs\n  use built\nstatus 0\noutput")
-    lines = Run(FILES["built"], site, NO_LIMIT).end()
-    put_shared(lines, {"built_kept": kept_lines(FILES["built"])})
-    print()
+def put_looks():
+    """The file that the forty calls come to, which is written here: its dump ends as their report does."""
+    known = Run(FILES["built"], site, NO_LIMIT).store.known
+    objects = {oid for _, _, records in known.transactions for oid, _, _ in records}
+    for command, lines in (
+        ("dump", Run(FILES["built"], site, NO_LIMIT).end()),
+        ("check", f"transactions 41\nobjects {len(objects)}\nlast {hex16(T0 + 40)}\nend {len(FILES['built'])}\ntorn 0\n".encode()),
+    ):
+        print(f"case {command} of the file that forty calls come to")
+        print(f"words {command} site.fs\nfile site.fs\n  use built\nstatus 0\noutput")
+        put_shared(lines, {"built_kept": kept_lines(FILES["built"])})
+        print()
 
 
 def main():
@@ -721,7 +718,7 @@ def main():
     put_together()
     put_building()
     put_all()
-    put_dump()
+    put_looks()
 
 
 if __name__ == "__main__":
