@@ -14,8 +14,8 @@ import re
 from urllib.parse import parse_qsl, unquote, urlencode
 
 from calls import CALLS, KINDS_ON, NEW, PERMISSIONS, Refused, Site, Unknown, kept, new, record as spelled
-from stopped_runs import T0, Run, hex16, item_bytes, put_bytes, put_hex, steps
-from stops import number, record
+from stopped_runs import T0, Run, described, hex16, item_bytes, put_bytes, put_hex, steps
+from stops import record
 
 FRONT = "<html><body><h1><dtml-var title html_quote></h1></body></html>"
 NO_LIMIT = 2**48 - 1
@@ -311,15 +311,9 @@ class Play:
         return self
 
 
-def described(tid, description, records):
-    texts = number(0, 2) + number(len(description), 2) + number(0, 2) + description
-    length = 23 + len(description) + sum(map(len, records))
-    return number(tid) + number(length) + b" " + texts + b"".join(records) + number(length)
-
-
 def file_of(objects, version=2):
     """A file of one transaction with these objects."""
-    return b"FS21" + described(T0, b"init", [record(oid, T0, 0, 4, spell(o, version)) for oid, o in sorted(objects.items())])
+    return b"FS21" + described(T0, b" ", b"", b"init", [record(oid, T0, 0, 4, spell(o, version)) for oid, o in sorted(objects.items())])
 
 
 ADMIN, SECRET = "admin:secret", kept("secret")
