@@ -13,7 +13,7 @@ import struct
 import subprocess
 import tempfile
 
-from replay import HOME, PROGRAM, timed
+from replay import HOME, build, timed
 
 # the program itself, without the script that builds it where that is due
 BUILT = HOME / "crates" / "zope_main" / "out" / "zope_main"
@@ -79,8 +79,7 @@ def main():
     words.add_argument("--size", type=int, default=158)
     words.add_argument("--rounds", type=int, default=15)
     given = words.parse_args()
-    # builds the program where that is due
-    subprocess.run([PROGRAM, "check", HOME / "demo" / "site.fs"], stdout=subprocess.DEVNULL, check=True)
+    build()
     for order in ("rising", "random", "apart", "one"):
         with tempfile.TemporaryDirectory() as made:
             files, kept = compare(pathlib.Path(made), order, given)

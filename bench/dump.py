@@ -10,7 +10,7 @@ import subprocess
 import tempfile
 
 from check import BUILT, write_file
-from replay import HOME, PROGRAM, least, timed
+from replay import build, least, timed
 
 
 def printed_to(path, command):
@@ -25,8 +25,7 @@ def main():
     words.add_argument("--size", type=int, default=158)
     words.add_argument("--rounds", type=int, default=5)
     given = words.parse_args()
-    # builds the program where that is due
-    subprocess.run([PROGRAM, "check", HOME / "demo" / "site.fs"], stdout=subprocess.DEVNULL, check=True)
+    build()
     with tempfile.TemporaryDirectory() as made:
         made = pathlib.Path(made)
         for together in (1000, 1):

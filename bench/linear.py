@@ -12,7 +12,7 @@ import subprocess
 import tempfile
 import time
 
-from replay import HOME, PROGRAM, schedule, write_site
+from replay import PROGRAM, build, schedule, write_site
 
 
 def replayed(file, lines):
@@ -38,10 +38,7 @@ def fed_by_bytes(words, text):
 
 
 def main():
-    demo = HOME / "demo"
-    # builds the program where that is due
-    with open(demo / "pages.schedule", "rb") as lines:
-        subprocess.run([PROGRAM, "replay", demo / "site.fs"], stdin=lines, stdout=subprocess.DEVNULL, check=True)
+    build()
     with tempfile.TemporaryDirectory() as folder:
         file, lines = pathlib.Path(folder) / "site.fs", pathlib.Path(folder) / "site.schedule"
         lines.write_bytes(schedule(4))

@@ -15,7 +15,7 @@ import time
 
 import jinja2
 
-from replay import HOME, PROGRAM, Writer, be, least, text, timed
+from replay import PROGRAM, Writer, be, build, least, text, timed
 
 HEADER = b"<html><head><title>&dtml-title;</title></head>\n<body>\n<h1>&dtml-title;</h1>\n"
 FOOTER = b'<p class="foot">A page of <dtml-var AUTHENTICATED_USER>.</p>\n</body></html>\n'
@@ -121,7 +121,7 @@ def main():
     options.add_argument("--pages", type=int, default=20_000)
     options.add_argument("--rounds", type=int, default=5)
     given = options.parse_args()
-    subprocess.run([PROGRAM, "check", HOME / "demo" / "site.fs"], stdout=subprocess.DEVNULL, check=True)
+    build()
     with tempfile.TemporaryDirectory() as made:
         at = pathlib.Path(made)
         for name, others in (("small", 0), ("large", OTHERS)):

@@ -102,6 +102,12 @@ def least(run, rounds):
     return min(seconds for seconds, _ in runs), max(memory for _, memory in runs)
 
 
+def build():
+    """Builds the program where that is due."""
+    with tempfile.TemporaryDirectory() as made:
+        subprocess.run([PROGRAM, "init", pathlib.Path(made) / "site.fs", "admin", "secret"], stdout=subprocess.DEVNULL, check=True)
+
+
 def main():
     options = argparse.ArgumentParser(description=__doc__)
     options.add_argument("--transactions", type=int, default=10_000)
@@ -109,8 +115,7 @@ def main():
     options.add_argument("--requests", type=int, default=100)
     options.add_argument("--rounds", type=int, default=5)
     given = options.parse_args()
-    # builds the program where that is due
-    subprocess.run([PROGRAM, "replay", HOME / "demo" / "site.fs"], stdin=open(HOME / "demo" / "pages.schedule", "rb"), stdout=subprocess.DEVNULL, check=True)
+    build()
     with tempfile.TemporaryDirectory() as folder_name:
         at = pathlib.Path(folder_name)
         write_site(at / "site.fs", given.transactions, given.size)

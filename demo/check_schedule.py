@@ -13,6 +13,7 @@ import subprocess
 import sys
 import tempfile
 
+from report import lines_of
 from schedule import Fault, schedule_of
 
 HERE = pathlib.Path(__file__).resolve().parent
@@ -63,6 +64,9 @@ REFUSED = [
     ("credentials without a password", "0 GET / as a", "line 1: behind `as`"),
     ("an open quote", "0 GET / 'a", "line 1: "),
     ("a run of no request", "run 0 1", "line 1: worker 0 has no request"),
+    ("lines that there aren't", "0 step\nlines none", "line 2: there are no lines none"),
+    ("lines of another folder", "lines ../site", "line 1: there are no lines ../site"),
+    ("lines that have others in them", "lines pages", "line 1: the lines pages have others in them"),
     ("a run over no file", "0 GET /\nrun 0", "line 2: `run` without a number of facts needs FILE"),
 ]
 
@@ -102,13 +106,17 @@ def made_over_stand_in(folder, lines):
     return told(lines, "file", program), wanted[0] + wanted[1] + 72 * "step 1\n" + 3 * "step 0\n"
 
 
-def file_of(name, folder):
-    """The file of a demonstration: a new site for the first edit, else the site that stands here."""
-    if name != "first_edit":
-        return str(HERE / "site.fs")
+def new_site(folder):
+    """The file of every demonstration."""
     file = os.path.join(folder, "site.fs")
     subprocess.run([PROGRAM, "init", file, "admin", "secret"], check=True, stdout=subprocess.DEVNULL)
     return file
+
+
+def refusals_in(schedule, file):
+    """The replies of a run that aren't a page or what a call did, and what else ended a request."""
+    ran = subprocess.run([PROGRAM, "replay", file], input=schedule, stdout=subprocess.PIPE, check=True)
+    return [words for words, reply in lines_of(ran.stdout) if words[0] == "reply" and not reply.startswith(b"HTTP/1.1 200")]
 
 
 def main():
@@ -128,9 +136,12 @@ def main():
         for title, lines, piece in REFUSED:
             came = told(lines)
             look(title, came if isinstance(came, bytes) or piece not in came else piece, piece)
-        for path in sorted(HERE.glob("*.lines")) if os.access(PROGRAM, os.X_OK) else []:
-            came = told(path.read_text(), file_of(path.stem, folder), PROGRAM)
-            look(f"demo/{path.name} over the program", came, path.with_suffix(".schedule").read_bytes())
+        if os.access(PROGRAM, os.X_OK):
+            site = new_site(folder)
+            for path in sorted(HERE.glob("*.lines")):
+                came = told(path.read_text(), site, PROGRAM)
+                look(f"demo/{path.name} over the program", came, path.with_suffix(".schedule").read_bytes())
+            look("demo/site.lines: every call does what it says", refusals_in((HERE / "site.schedule").read_bytes(), site), [])
     if not os.access(PROGRAM, os.X_OK):
         print("the program isn't built, so that the demonstrations weren't made anew")
     print(f"schedule.py: {wrong} wrong")

@@ -9,6 +9,7 @@ LINES has one of these in a line; empty lines and lines that begin with # mean n
     W step [COUNT]      so many steps of the worker, one where no count is given
     run W [FACTS]       as many steps as the worker needs for its reply: FACTS + 2 where the request reads, and FACTS + 4
                         where it is a call; without FACTS these are counted by a replay over FILE
+    lines NAME          the lines of demo/NAME.lines
     clock HEX           the stamp of the votes behind it, 16 digits
     stop CALL SEED      the machine stops at that device call
     fail CALL SEED      that device call fails
@@ -28,7 +29,8 @@ import urllib.parse
 
 from report import lines_of
 
-ZOPE = pathlib.Path(__file__).resolve().parent.parent / "zope"
+HERE = pathlib.Path(__file__).resolve().parent
+ZOPE = HERE.parent / "zope"
 WORKERS = 16
 # a request has its reply after so many steps at most, waits for votes aside
 MOST_STEPS = 48_020
@@ -81,6 +83,16 @@ def message(method, path, words):
 def is_call(path):
     """Whether the last segment of a path may name a call that writes."""
     return path.partition("?")[0].rstrip("/").rpartition("/")[2].startswith(("manage_", "userFolderAddUser"))
+
+
+def lines_named(name):
+    """The lines of that name, which have no lines of others in them."""
+    if not re.fullmatch(r"[a-z_]+", name) or not (HERE / f"{name}.lines").exists():
+        raise Fault(f"there are no lines {name}")
+    text = (HERE / f"{name}.lines").read_text()
+    if any(line.split()[:1] == ["lines"] for line in text.splitlines()):
+        raise Fault(f"the lines {name} have others in them")
+    return text
 
 
 class Schedule:
@@ -143,6 +155,8 @@ class Schedule:
                 self.run(worker(name))
             case ["run", name, facts]:
                 self.run(worker(name), number(facts))
+            case ["lines", name]:
+                self.lines(lines_named(name))
             case ["clock", stamp] if re.fullmatch(r"[0-9a-f]{16}", stamp):
                 self.items.append(f"clock {stamp}\n".encode())
             case ["stop" | "fail" as word, call, seed]:
@@ -151,16 +165,21 @@ class Schedule:
                 raise Fault("this is none of the lines that there are")
 
 
+    def lines(self, text):
+        """Takes the lines of a text."""
+        for at, line in enumerate(text.splitlines(), 1):
+            if not line.strip() or line.lstrip().startswith("#"):
+                continue
+            try:
+                self.line(shlex.split(line))
+            except (Fault, ValueError) as fault:
+                raise Fault(f"line {at}: {fault}") from None
+
+
 def schedule_of(text, file=None, program=ZOPE):
     """The schedule that lines are."""
     schedule = Schedule(file, program)
-    for at, line in enumerate(text.splitlines(), 1):
-        if not line.strip() or line.lstrip().startswith("#"):
-            continue
-        try:
-            schedule.line(shlex.split(line))
-        except (Fault, ValueError) as fault:
-            raise Fault(f"line {at}: {fault}") from None
+    schedule.lines(text)
     return schedule.text()
 
 
