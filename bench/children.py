@@ -13,7 +13,7 @@ import subprocess
 import tempfile
 from urllib.parse import urlencode
 
-from replay import PROGRAM, Writer, be, least, text, timed
+from replay import PROGRAM, Writer, be, build, least, text, timed
 
 DOCUMENT, FIRST_FOLDER = 1, 2
 # Add Folders, Delete objects, Manage properties
@@ -80,6 +80,7 @@ def main():
     options.add_argument("--folders", type=int, default=40)
     options.add_argument("--rounds", type=int, default=7)
     given = options.parse_args()
+    build()
     tenth = [("ids:list", name.decode()) for name in names(given.children)[::10]]
     # title, children before the call, the call, its fields and how many objects it asks for
     rows = [
@@ -94,8 +95,6 @@ def main():
     ]
     with tempfile.TemporaryDirectory() as made:
         at = pathlib.Path(made)
-        # builds the program where that is due
-        subprocess.run([PROGRAM, "init", at / "new.fs", "admin", "secret"], stdout=subprocess.DEVNULL, check=True)
         seconds = {}
         for title, children, call, fields, facts in rows:
             site, lines = at / f"{children}.fs", at / "schedule"
