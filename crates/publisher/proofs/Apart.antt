@@ -1,7 +1,7 @@
 -- Contents that a user may not view make no difference to his pages.
-use Rattle.std.proofs.Common.{ℕ, ◌≡◌, ◌∙◌, inl, inr, refl, sym, ap, subst, Bool, true, false, List, [], Option, Some, Result, Ok, Err, if◌then◌else◌}
+use Rattle.std.proofs.Common.{ℕ, ◌≡◌, ◌∙◌, inl, inr, refl, sym, ap, subst, List, [], Option, Some, Result, Ok, Err}
 use Rattle.zbase.specs.History.{History}
-use Rattle.zbase.specs.Query.{Stops, run, and_then, or_else, ◌>>=◌ as ◌>>>◌}
+use Rattle.zbase.specs.Query.{run, and_then, or_else, ◌>>=◌ as ◌>>>◌}
 use Rattle.zbase.specs.QueryLaws.{run_then}
 use Rattle.zobject.specs.declared.object.Object.{Object}
 use Rattle.zknown.specs.Seen.{Seen, Shapes, Objects}
@@ -18,7 +18,6 @@ use Rattle.form_fields.specs.declared.field.Field.{Field}
 use Rattle.form_fields.specs.Cookies.{cookies_of}
 use Rattle.form_fields.specs.Fields.{fields_of}
 use Rattle.http_in.specs.declared.message.Request.{Request}
-use Rattle.manage.specs.declared.call.Call.{Call}
 use Rattle.namespace.specs.LookLaws.{Same, contents_stay_apart, run_veiled}
 use Rattle.namespace.specs.Looks.{looked, taken, through, veiled, view}
 use Rattle.namespace.specs.Requests.{request_names}
@@ -34,7 +33,7 @@ use Rattle.publisher.specs.Pages.{page_text}
 use Rattle.publisher.specs.Replies.{by_verb, runaway_facts}
 use Rattle.publisher.specs.Site.{answered, authorization, bad_credentials, over_history, page, page_for, scope_answer, request, shown_page, with_credentials, with_fields}
 use Rattle.publisher.proofs.ForUsers.{AreOwn, page_own}
-use Rattle.publisher.specs.Backwards.{came, shapes_came, stops_came}
+use Rattle.publisher.specs.Backwards.{shapes_came, stops_came}
 
 module _ (own : AreOwn) (w : Who) (k l : ℕ → Option (Seen Object)) (same : Same w k l) (none : NoneHasProxyRoles k) (q : Request) where
   both : {A B : Type 0} (p : Objects Fault A) (f g : A → Objects Fault B) → run k p ≡ run l p → ((x : A) → run k p ≡ Ok x → run k (f x) ≡ run l (g x)) → run k (p >>> f) ≡ run l (p >>> g)

@@ -1,6 +1,6 @@
 -- For whom a page is: its user, and whoever has the proxy roles of an object.
-use Rattle.std.proofs.Common.{ℕ, suc, ◌≡◌, ◌∙◌, ◌⊎◌, inl, inr, refl, sym, ap, true, List, Option, Some, None, Result, Ok, Err}
-use Rattle.zbase.specs.Query.{Stops, run}
+use Rattle.std.proofs.Common.{ℕ, suc, ◌≡◌, ◌∙◌, ◌⊎◌, inl, inr, refl, sym, ap, List, Option, Some, None, Result, Ok, Err}
+use Rattle.zbase.specs.Query.{run}
 use Rattle.zobject.specs.declared.object.Object.{Object}
 use Rattle.zobject.specs.Shapes.{shape_of}
 use Rattle.zknown.specs.Seen.{Seen}
@@ -20,7 +20,6 @@ use Rattle.dtml_render.specs.Access.{HasProxyRoles, IsActing, NoneHasProxyRoles}
 use Rattle.dtml_render.specs.Rendering.{or_bad, source_of, source_text, tree_text, whole_text}
 use Rattle.publisher.specs.Access.{IsOfPage}
 use Rattle.publisher.specs.Pages.{page_scope, page_text, scope_page, source_page, whole_budget}
-use Rattle.publisher.specs.Site.{page}
 
 -- a page for users of a sort is one for those of a wider sort
 for_more : {A : Type 0} (S T : Who → Type 0) (k : ℕ → Option (Seen Object)) (q : Looks A) → ((w : Who) → S w → T w) → IsFor S k q → IsFor T k q

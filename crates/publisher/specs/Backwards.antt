@@ -11,11 +11,9 @@ use Rattle.permissions.specs.Verdicts.{verdict_on}
 use Rattle.evaluator.specs.declared.outcome.Outcome.{Outcome}
 use Rattle.evaluator.specs.declared.reply.Reply.{Reply}
 use Rattle.evaluator.specs.declared.reply.Shown.{Shown}
-use Rattle.evaluator.specs.Questions.{outcome}
 use Rattle.form_fields.specs.declared.field.Field.{Field}
 use Rattle.http_in.specs.declared.message.Request.{Request}
 use Rattle.manage.specs.declared.call.Call.{Call}
-use Rattle.manage.specs.declared.changes.Change.{Change}
 use Rattle.manage.specs.Calling.{permission_at}
 use Rattle.manage.specs.Changing.{change}
 use Rattle.namespace.specs.LookLaws.{run_veiled}
@@ -27,7 +25,7 @@ use Rattle.publisher.specs.declared.answer.Answer.TheVariants as answer
 use Rattle.publisher.specs.Comes.{reworded, run_reworded}
 use Rattle.publisher.specs.Faults as faults
 use Rattle.publisher.specs.Faults.{Fault, by_shapes, or_stops}
-use Rattle.publisher.specs.Site.{call_on, call_with, change_by, change_for, page, where_granted}
+use Rattle.publisher.specs.Site.{call_on, call_with, change_by, change_for, where_granted}
 use Rattle.publisher.specs.Ways.{Any, ComesTo, Keeps, keeps_any, keeps_run, keeps_then}
 
 -- ---- from an outcome back

@@ -1,5 +1,5 @@
 -- A site's changes keep the rules of a change: each is that of a call, over the objects that facts show.
-use Rattle.std.proofs.Common.{ℕ, ◌≤◌, ◌≡◌, refl, sym, subst, arith, List, [], ◌∷◌, length, Option, Some, None, option_map}
+use Rattle.std.proofs.Common.{ℕ, ◌≤◌, ◌≡◌, refl, sym, subst, arith, List, length, Option, Some, None, option_map}
 use Rattle.zobject.specs.declared.object.Object.{Object}
 use Rattle.zknown.specs.Seen.{Seen, Here, Absent}
 use Rattle.acquisition.specs.Acquiring.{first}

@@ -1,6 +1,6 @@
 -- Each change was granted.
-use Rattle.std.proofs.Common.{ℕ, ◌≡◌, ◌∙◌, inl, inr, refl, sym, ap, subst, Bool, true, false, List, [], Option, Some, None, Result, Ok, Err, if◌then◌else◌}
-use Rattle.zbase.specs.Query.{Stops, run, or_else, Halt, Need, Cause}
+use Rattle.std.proofs.Common.{ℕ, ◌≡◌, ◌∙◌, inl, inr, refl, sym, ap, subst, List, [], Option, Some, None, Result, Ok, Err}
+use Rattle.zbase.specs.Query.{run, or_else, Halt, Need, Cause}
 use Rattle.zobject.specs.declared.object.Object.{Object}
 use Rattle.zknown.specs.Seen.{Seen, Objects}
 use Rattle.acquisition.specs.Acquiring.{first}

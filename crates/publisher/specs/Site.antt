@@ -4,7 +4,7 @@
 -- permission that he needs, and the page or the call. The first refusal is the reply.
 --
 -- Zope Developer's Guide, "Object Publishing" and "Security".
-use Rattle.std.specs.Prelude.{ℕ, nat_lt, List, [], length, Option, Some, None, Result, Ok, Err, codes, if◌then◌else◌}
+use Rattle.std.specs.Prelude.{ℕ, List, [], Option, Some, None, Result, Ok, Err, codes}
 use Rattle.zbase.specs.Query.{Done, Stops, ◌>>=◌, or_else}
 use Rattle.zbase.specs.History.{Value}
 use Rattle.zobject.specs.declared.object.Object.{Object}
@@ -23,7 +23,6 @@ use Rattle.evaluator.specs.declared.draft.Draft.{Draft}
 use Rattle.evaluator.specs.declared.fact.Fact.{Fact}
 use Rattle.evaluator.specs.declared.reply.Reply.{Reply}
 use Rattle.evaluator.specs.declared.reply.Shown.{Shown}
-use Rattle.evaluator.specs.Change.{longest_text}
 use Rattle.evaluator.specs.Exec.{Eval}
 use Rattle.evaluator.specs.Questions.{Evaluation, Made, Reads, Changes, meaning_of, over_facts, within_limits}
 use Rattle.form_fields.specs.declared.field.Field.{Field}

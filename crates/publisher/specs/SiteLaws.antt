@@ -1,8 +1,7 @@
 -- A site keeps the laws of an evaluator: what is decided is decided on the whole, a change rests on what lasts, no message
 -- asks for more than 12,000 facts, and its changes and replies keep their rules.
-use Rattle.std.proofs.Common.{ℕ, ◌<◌, ◌≤◌, ◌≡◌, ◌==◌, ◌&&◌, refl, sym, subst, arith, lit<, lit≤, Bool, true, false, List, [], ◌∷◌, length, Option, Some, None, Result, Ok, Err, nat_lt, if◌then◌else◌}
+use Rattle.std.proofs.Common.{ℕ, ◌≤◌, ◌≡◌, ◌==◌, refl, subst, arith, Bool, true, false, List, [], length, Option, Some, None, Result, Ok, Err, if◌then◌else◌}
 use Rattle.std.specs.List.{list_any}
-use Rattle.std.proofs.lemmas.Bool.Decides.{nat_tests}
 use Rattle.zbase.specs.Query.{Done, Stops, Halt, Need, Cause, ◌>>=◌, or_else, run}
 use Rattle.zobject.specs.declared.object.Object.{Object}
 use Rattle.zobject.specs.Shapes.{Shape}
@@ -63,7 +62,7 @@ use Rattle.publisher.specs.Faults.{Fault, by_shapes, or_stops}
 use Rattle.publisher.specs.Pages.{page_text}
 use Rattle.publisher.specs.PageRules.{AreShown, FaultRule, ShownRule, none_shown, through_keeps}
 use Rattle.publisher.specs.Replies.{by_verb, call_reply, cause_reply, fault_reply, message_reply, no_page_reply, page_reply, path_reply, runaway_facts, unauthorized, user_reply}
-use Rattle.publisher.specs.Site.{answered, authorization, bad_credentials, call_on, call_with, called, change_by, change_for, changed, draft_of, evaluation, made_by, over_history, page, page_for, scope_answer, read_as, refused_by, request, seen, shown_page, site, user_name, where_granted, with_credentials, with_fields}
+use Rattle.publisher.specs.Site.{answered, authorization, bad_credentials, call_on, call_with, called, change_by, change_for, changed, evaluation, made_by, over_history, page, page_for, scope_answer, read_as, refused_by, request, seen, shown_page, site, where_granted, with_credentials, with_fields}
 use Rattle.publisher.specs.TextRules.{read_keeps}
 use Rattle.publisher.specs.UserRules.{IsRight, IsRightShown, NameRule, VerdictRule, shape_right, verdict_keeps, who_keeps}
 use Rattle.publisher.specs.Ways.{Any, ComesTo, Keeps, keeps_then, keeps_else, keeps_any, keeps_facts, keeps_limited, keeps_objects, keeps_run}
