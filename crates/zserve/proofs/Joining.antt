@@ -16,12 +16,12 @@ use Rattle.txn_core.specs.Replying.{terms_of}
 use Rattle.zserve.specs.Rounds.{AllGiven, RoundDone, TurnedSoFar}
 use Rattle.zserve.specs.Sweeping.{Replied, Turned, Unanswered, Waits}
 use Rattle.zserve.specs.Tapes.{given_from, workers_from}
-use Rattle.zserve.specs.Turns.{AreTurns, all_in, lines_in, waiting}
+use Rattle.zserve.specs.Turns.{AreTurns, GotReply, all_in, lines_in, waiting}
 use Rattle.http_clients.specs.Numbers.{Among, Distinct}
 use Rattle.zserve.specs.Waiting.{AreWorkers, Wait}
 use Rattle.zserve.proofs.Goings.{goes_none, goes_quietly, goes_then}
 use Rattle.schedule.specs.Items.{item_text}
-use Rattle.zserve.proofs.Lists.{among_either, among_left, among_right}
+use Rattle.zserve.proofs.Lists.{among_either, among_left, among_right, got_before, got_behind}
 use Rattle.zserve.proofs.Stepping.{text_joined}
 
 -- ---- turns
@@ -35,6 +35,7 @@ turns_none takes eval core now ws replies waits = record {
   goes = goes_none takes eval core now;
   goes_on = λ more turns. turns;
   waits = waits;
+  answered = λ w among. inl among;
   long = refl;
   replied = λ done replied none. (subst (Replied replies) (sym (append-nil done)) replied, subst (Unanswered ws) (sym (append-nil done)) none);
 }
@@ -48,6 +49,10 @@ turns_more {E} {R} {S} takes eval first old new now ws left left' turns turn rep
   goes = subst (λ xs. Goes takes eval first now xs new now) (sym (all_more turns turn)) (goes_then takes eval first old new now now now (all_in turns) turn so.goes one.goes);
   goes_on = λ more are. subst (λ ts. AreTurns ws ts) (sym (append_assoc turns (turn ∷ []) more)) (so.goes_on (turn ∷ more) (next left one.steps some more are));
   waits = one.waits;
+  answered = λ w among. elim (so.answered w among) [
+    | inl a ↦ elim (one.answered w a) [ inl b ↦ inl b | inr got ↦ inr (subst (GotReply w) (sym (all_more turns turn)) (got_behind w (all_in turns) turn got)) ]
+    | inr got ↦ inr (subst (GotReply w) (sym (all_more turns turn)) (got_before w (all_in turns) turn got))
+  ];
   long = one.long ∙ so.long;
   replied = λ done replied none.
       (let before = so.replied done replied none in
@@ -65,21 +70,21 @@ turns_more {E} {R} {S} takes eval first old new now ws left left' turns turn rep
 none_more : (w : ℕ) → w ≡ 0 + w
 none_more w = omega arith
 
-given_last : (w : ℕ) (ms : List (List ℕ)) (m : List ℕ) → given_from w (ms ++ m ∷ []) ≡ given_from w ms ++ (Item2.Request (length ms + w) m, []) ∷ []
+pub given_last : (w : ℕ) (ms : List (List ℕ)) (m : List ℕ) → given_from w (ms ++ m ∷ []) ≡ given_from w ms ++ (Item2.Request (length ms + w) m, []) ∷ []
 given_last w [] m = ap (λ n. (Item2.Request n m, []) ∷ []) (none_more w)
 given_last w (x ∷ ms) m = ap (λ hs. (Item2.Request w x, []) ∷ hs) (given_last (w + 1) ms m ∙ ap (λ n. given_from (w + 1) ms ++ (Item2.Request n m, []) ∷ []) (move (length ms) w))
   where
     move : (a b : ℕ) → a + (b + 1) ≡ suc a + b
     move a b = omega arith
 
-workers_last : (w : ℕ) (ms : List (List ℕ)) (m : List ℕ) → workers_from w (ms ++ m ∷ []) ≡ workers_from w ms ++ (length ms + w) ∷ []
+pub workers_last : (w : ℕ) (ms : List (List ℕ)) (m : List ℕ) → workers_from w (ms ++ m ∷ []) ≡ workers_from w ms ++ (length ms + w) ∷ []
 workers_last w [] m = ap (λ n. n ∷ []) (none_more w)
 workers_last w (x ∷ ms) m = ap (λ ws. w ∷ ws) (workers_last (w + 1) ms m ∙ ap (λ n. workers_from (w + 1) ms ++ n ∷ []) (move (length ms) w))
   where
     move : (a b : ℕ) → a + (b + 1) ≡ suc a + b
     move a b = omega arith
 
-workers_bound : (w v : ℕ) (ms : List (List ℕ)) → Among v (workers_from w ms) → (w ≤ v) × (v < length ms + w)
+pub workers_bound : (w v : ℕ) (ms : List (List ℕ)) → Among v (workers_from w ms) → (w ≤ v) × (v < length ms + w)
 workers_bound w v [] among = absurd among
 workers_bound w v (m ∷ ms) (inl e) = (omega (arith, e), omega (arith, e))
 workers_bound w v (m ∷ ms) (inr among) = (let b = workers_bound (w + 1) v ms among in (omega (arith, b.0), omega (arith, b.1)))
@@ -190,6 +195,7 @@ round_done {E} {R} {S} takes eval old given new since stamp ms turns replies' fi
   goes = goes_then takes eval old given new since since stamp (given_from 0 ms) ((Item2.Clock stamp, []) ∷ all_in turns) first.goes (goes_then takes eval given given new since stamp stamp ((Item2.Clock stamp, []) ∷ []) (all_in turns) (clock_goes takes eval given since stamp images) so.goes);
   turns_are = subst (AreTurns (workers_from 0 ms)) (append-nil turns) (so.goes_on [] tt);
   idle = so.waits;
+  answered = λ w among. elim (so.answered w among) [ inl none ↦ absurd none | inr got ↦ got ];
   long = so.long;
   replied = (so.replied [] (none_yet 16) (λ w among. refl)).0;
 }

@@ -8,3 +8,6 @@ mod Stepping
 mod Worked
 mod Replaying
 mod Rounding
+mod Handing
+mod Closings
+mod Shutting

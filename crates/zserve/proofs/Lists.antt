@@ -5,7 +5,8 @@ use Rattle.schedule.specs.declared.line.Line.{Line}
 use Rattle.txn_core.specs.declared.slot.Slot.{Slot}
 use Rattle.txn_core.specs.Counting.{left, left_of}
 use Rattle.zserve.specs.Happened.{Happening}
-use Rattle.zserve.specs.Turns.{lines_in, reply_among, reply_in, sooner}
+use Rattle.zserve.specs.Turns.{GotReply, lines_in, reply_among, reply_in, sooner}
+use Rattle.std.proofs.lemmas.Grind.{flat_map-append}
 use Rattle.http_clients.specs.Numbers.{Among, Distinct}
 use Rattle.zserve.specs.Waiting.{total}
 
@@ -102,3 +103,16 @@ reply_kept w done h none = reply_more w done h ∙ ap (sooner (reply_among w (li
 
 pub reply_comes : (w : ℕ) (done : List Happening) (h : Happening) → reply_among w (lines_in done) ≡ None → reply_among w (lines_in (done ++ h ∷ [])) ≡ reply_among w h.1
 reply_comes w done h none = reply_more w done h ∙ ap (λ x. sooner x (reply_among w h.1)) none
+
+lines_joined : (xs ys : List Happening) → lines_in (xs ++ ys) ≡ lines_in xs ++ lines_in ys
+lines_joined xs ys = flat_map-append (λ (h : Happening). h.1) xs ys
+
+pub got_before : (w : ℕ) (xs ys : List Happening) → GotReply w xs → GotReply w (xs ++ ys)
+got_before w xs ys got = (got.0, ap (reply_among w) (lines_joined xs ys) ∙ among_lines w (lines_in xs) (lines_in ys) ∙ ap (λ x. sooner x (reply_among w (lines_in ys))) got.1)
+
+pub got_behind : (w : ℕ) (xs ys : List Happening) → GotReply w ys → GotReply w (xs ++ ys)
+got_behind w xs ys got = first (reply_among w (lines_in xs)) (ap (reply_among w) (lines_joined xs ys) ∙ among_lines w (lines_in xs) (lines_in ys) ∙ ap (sooner (reply_among w (lines_in xs))) got.1)
+  where
+    first : (x : Option (List ℕ)) → reply_among w (lines_in (xs ++ ys)) ≡ sooner x (Some got.0) → GotReply w (xs ++ ys)
+    first None e = (got.0, e)
+    first (Some bytes) e = (bytes, e)

@@ -1,5 +1,6 @@
 -- Rounds behind one another.
-use Rattle.std.proofs.Common.{◌≡◌, ℕ, zero, suc, ◌-◌, ◌<◌, ◌≤◌, min, false, List, [], ◌∷◌, ◌++◌, map, length, slice_get, append_assoc, append-nil, Option, Some, None, refl, sym, ap, ◌∙◌, subst, arith}
+use Rattle.std.proofs.Common.{◌≡◌, ℕ, zero, suc, inl, inr, ◌+◌, ◌-◌, ◌<◌, ◌≤◌, min, false, List, [], ◌∷◌, ◌++◌, map, length, slice_get, append_assoc, append-nil, Option, Some, None, refl, sym, ap, ◌∙◌, subst, arith}
+use Rattle.std.specs.Prelude.{◌⊎◌}
 use Rattle.std.specs.List.{AllByRecursion}
 use Rattle.std.proofs.lemmas.List.{map-append}
 use Rattle.evaluator.specs.Exec.{Eval}
@@ -10,7 +11,8 @@ use Rattle.zserve.specs.Rounds.{RoundDone}
 use Rattle.zserve.specs.Serving.{AnsweredBy, RoundsSoFar}
 use Rattle.zserve.specs.Sweeping.{Replied}
 use Rattle.http_clients.specs.Clients.{Client, held}
-use Rattle.zserve.specs.Tapes.{AreRounds, IsAnswered, IsRound, Round, Takes, assigned, clients_of, happened, happened_in, messages, sizes}
+use Rattle.http_clients.specs.Numbers.{Among}
+use Rattle.zserve.specs.Tapes.{workers_from, AreRounds, IsAnswered, IsRound, Round, Takes, assigned, clients_of, happened, happened_in, messages, sizes}
 use Rattle.zserve.specs.Turns.{all_in, lines_in, reply_among}
 
 -- ---- replies
@@ -30,6 +32,23 @@ answered_lines replies done (c, Some w) replied a = (a.0, same_reply (reply_amon
 all_answered : (replies : List (Option (List ℕ))) (done : List Happening) (xs : List (Client × Option ℕ)) → Replied replies done → AllByRecursion (AnsweredBy replies) xs → AllByRecursion (IsAnswered (lines_in done)) xs
 all_answered replies done [] replied all = tt
 all_answered replies done (x ∷ xs) replied all = (answered_lines replies done x replied all.0, all_answered replies done xs replied all.1)
+
+same_or_less : (w v : ℕ) → w ≤ v → (v ≡ w) ⊎ (w + 1 ≤ v)
+same_or_less zero zero le = inl refl
+same_or_less zero (suc v) le = inr (omega arith)
+same_or_less (suc w) zero le = absurd (omega (arith, le))
+same_or_less (suc w) (suc v) le = elim (same_or_less w v (omega (arith, le))) [ inl e ↦ inl (ap suc e) | inr more ↦ inr (omega (arith, more)) ]
+
+among_workers : (w v : ℕ) (ms : List (List ℕ)) → w ≤ v → v < length ms + w → Among v (workers_from w ms)
+among_workers w v [] le less = absurd (omega (arith, le, less))
+among_workers w v (m ∷ ms) le less = elim (same_or_less w v le) [ inl e ↦ inl e | inr more ↦ inr (among_workers (w + 1) v ms more (omega (arith, less))) ]
+
+-- each worker of a round that is done has its reply
+pub each_replied : {E R S : Type 0} (takes : List ℕ → Option R) (eval : Eval R) (old new : CoreView E R S) (since stamp : ℕ) (ms : List (List ℕ)) (turns : List (List Happening)) (replies : List (Option (List ℕ))) → RoundDone takes eval old new since stamp ms turns replies → length ms ≤ 16
+    → (w : ℕ) → w < length ms → (reply : List ℕ) × (slice_get replies w ≡ Some (Some reply))
+each_replied takes eval old new since stamp ms turns replies done few w less =
+    let got = done.answered w (among_workers 0 w ms (omega arith) (omega (arith, less))) in
+    (got.0, done.replied w (let long = done.long in omega (arith, long, less, few)) ∙ ap (λ (r : Option (List ℕ)). Some r) got.1)
 
 -- a round is done, its replies are written, and its connections are closed
 pub is_round : {E R S : Type 0} (takes : List ℕ → Option R) (eval : Eval R) (old new : CoreView E R S) (since : ℕ) (begins : List ℕ → Option (List ℕ)) (r : Round) (replies : List (Option (List ℕ)))
@@ -55,7 +74,7 @@ each_more begins [] r all one = (one, tt)
 each_more begins (x ∷ rounds) r all one = (all.0, each_more begins rounds r all.1 one)
 
 pub rounds_none : (begins : List ℕ → Option (List ℕ)) (connections most : ℕ) (peers : Peers) → RoundsSoFar begins connections most peers peers [] connections
-rounds_none begins connections most peers = record { came = refl; accepted = sym (append-nil peers.accepted); sized = λ no_more more takes. takes; each = tt }
+rounds_none begins connections most peers = record { came = refl; accepted = sym (append-nil peers.accepted); sized = λ last more takes. takes; each = tt }
 
 came_more : (old mid new : Peers) (rounds : List Round) (r : Round) → old.coming ≡ map held (clients_of rounds) ++ mid.coming → mid.coming ≡ map held r.clients ++ new.coming → old.coming ≡ map held (clients_of (rounds ++ r ∷ [])) ++ new.coming
 came_more old mid new rounds r e f =
@@ -78,7 +97,7 @@ pub rounds_more : (begins : List ℕ → Option (List ℕ)) (connections most : 
 rounds_more begins connections most old mid new rounds left r so some full came accepted one = record {
   came = came_more old mid new rounds r so.came came;
   accepted = accepted_more old mid new rounds r so.accepted accepted;
-  sized = λ no_more more takes. subst (λ ks. Takes most connections no_more ks) (sym (sizes_more rounds r more)) (so.sized no_more (length r.clients ∷ more) (some, omega (arith, full), (λ less. absurd (omega (arith, full, less))), takes));
+  sized = λ last more takes. subst (λ ks. Takes most connections (last.coming ≡ []) ks) (sym (sizes_more rounds r more)) (so.sized last (length r.clients ∷ more) (some, omega (arith, full), (λ less. absurd (omega (arith, full, less))), takes));
   each = each_more begins rounds r so.each one;
 }
 
@@ -89,10 +108,10 @@ pub rounds_short : (begins : List ℕ → Option (List ℕ)) (connections most :
 rounds_short begins connections most old mid new rounds left r so some fits ended came accepted one = record {
   came = came_more old mid new rounds r so.came came;
   accepted = accepted_more old mid new rounds r so.accepted accepted;
-  sized = subst (λ ks. Takes most connections (new.coming ≡ []) ks) (sym (sym (append-nil (sizes (rounds ++ r ∷ []))) ∙ sizes_more rounds r [])) (so.sized (new.coming ≡ []) (length r.clients ∷ []) (some, fits, (λ less. (ended, refl)), tt));
+  sized = subst (λ ks. Takes most connections (new.coming ≡ []) ks) (sym (sym (append-nil (sizes (rounds ++ r ∷ []))) ∙ sizes_more rounds r [])) (so.sized new (length r.clients ∷ []) (some, fits, (λ less. (ended, refl)), tt));
   each = each_more begins rounds r so.each one;
 }
 
 -- and those so far are the whole, where none is left or none comes
 pub rounds_whole : (begins : List ℕ → Option (List ℕ)) (connections most : ℕ) (old new : Peers) (rounds : List Round) (left : ℕ) → RoundsSoFar begins connections most old new rounds left → AreRounds begins connections most old new rounds
-rounds_whole begins connections most old new rounds left so = record { came = so.came; accepted = so.accepted; sized = subst (λ ks. Takes most connections (new.coming ≡ []) ks) (append-nil (sizes rounds)) (so.sized (new.coming ≡ []) [] tt); each = so.each }
+rounds_whole begins connections most old new rounds left so = record { came = so.came; accepted = so.accepted; sized = subst (λ ks. Takes most connections (new.coming ≡ []) ks) (append-nil (sizes rounds)) (so.sized new [] tt); each = so.each }

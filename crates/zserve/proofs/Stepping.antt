@@ -32,7 +32,7 @@ comes_next still ws i d less = subst (λ rest. Among (get_or ws i d) (still ++ r
 
 -- ---- the text of the tape
 
-items_more : (all more : List Happening) → items (all ++ more) ≡ items all ++ items more
+pub items_more : (all more : List Happening) → items (all ++ more) ≡ items all ++ items more
 items_more all more = map-append (λ (h : Happening). h.0) all more
 
 pub text_joined : (first old new : List ℕ) (all more : List Happening) → old ≡ first ++ flat_map item_text (items all) → new ≡ old ++ flat_map item_text (items more) → new ≡ first ++ flat_map item_text (items (all ++ more))

@@ -17,11 +17,11 @@ use Rattle.zserve.specs.Going.{Goes}
 use Rattle.zserve.specs.Happened.{Happening, items}
 use Rattle.txn_core.specs.Replying.{final}
 use Rattle.zserve.specs.Sweeping.{Filed, Replied, Turned, Unanswered, Waits}
-use Rattle.zserve.specs.Turns.{has_reply, lines_in, reply_among, waiting}
+use Rattle.zserve.specs.Turns.{GotReply, has_reply, lines_in, reply_among, waiting}
 use Rattle.http_clients.specs.Numbers.{Among, Distinct}
 use Rattle.zserve.specs.Waiting.{Stepped, Wait, total}
 use Rattle.zserve.proofs.Goings.{goes_none, goes_then}
-use Rattle.zserve.proofs.Lists.{among_either, among_here, among_with, among_without, distinct_without, reply_comes, reply_kept, same_list, total_falls}
+use Rattle.zserve.proofs.Lists.{among_either, among_here, among_left, got_before, got_behind, among_with, among_without, distinct_without, reply_comes, reply_kept, same_list, total_falls}
 use Rattle.zserve.proofs.StepFacts.{final_elsewhere, final_here, has_final, is_there}
 
 -- ---- a worker's slot
@@ -285,6 +285,7 @@ pub record Swept {E R S : Type 0} (takes : List ℕ → Option R) (eval : Eval R
   pub goes : Goes takes eval old now turn new now
   pub steps : items turn ≡ map Item2.Step seen
   pub left : still ≡ waiting turn
+  pub answered : (w : ℕ) → Among w seen → Among w still ⊎ GotReply w turn
   pub waits : Waits new (still ++ rest)
   pub long : length replies' ≡ length replies
   pub replied : (done : List Happening) → Replied replies done → Unanswered (seen ++ rest) done → Replied replies' (done ++ turn) × Unanswered (still ++ rest) (done ++ turn)
@@ -295,6 +296,7 @@ swept_none takes eval core now ws replies waits = record {
   goes = goes_none takes eval core now;
   steps = refl;
   left = refl;
+  answered = λ w none. absurd none;
   waits = waits;
   long = refl;
   replied = λ done replied none. (subst (Replied replies) (sym (append-nil done)) replied, subst (Unanswered ws) (sym (append-nil done)) none);
@@ -317,6 +319,10 @@ swept_more {E} {R} {S} takes eval first old new now w line seen rest still more 
   goes = goes_then takes eval first old new now now now turn (step ∷ []) swept.goes s.goes;
   steps = map-append (λ (h : Happening). h.0) turn (step ∷ []) ∙ ap (λ xs. xs ++ Item2.Step w ∷ []) swept.steps ∙ sym (map-append Item2.Step seen (w ∷ []));
   left = left_is filed;
+  answered = λ v among. elim (among_either v seen (w ∷ []) among) [
+    | inl a ↦ elim (swept.answered v a) [ inl b ↦ inl (stays v b filed) | inr got ↦ inr (got_before v turn (step ∷ []) got) ]
+    | inr b ↦ elim b [ inl same ↦ subst (λ k. Among k more ⊎ GotReply k (turn ++ step ∷ [])) (sym same) (itself filed) | inr none ↦ absurd none ]
+  ];
   waits = waits_is filed;
   long = filed_long line w mid replies' still more filed ∙ swept.long;
   replied = λ done replied none.
@@ -330,6 +336,14 @@ swept_more {E} {R} {S} takes eval first old new now w line seen rest still more 
   where
     step : Happening
     step = (Item2.Step w, step_lines answer w line)
+
+    stays : (v : ℕ) → Among v still → Filed line w mid replies' still more → Among v more
+    stays v among (inl f) = subst (Among v) (sym f.1) (among_left v still (w ∷ []) among)
+    stays v among (inr f) = subst (Among v) (sym f.2) among
+
+    itself : Filed line w mid replies' still more → Among w more ⊎ GotReply w (turn ++ step ∷ [])
+    itself (inl f) = inl (subst (Among w) (sym f.1) (among_here w still []))
+    itself (inr f) = inr (got_behind w turn (step ∷ []) (f.0, ap (reply_among w) (append-nil (step_lines answer w line)) ∙ final_here w line ∙ f.1))
 
     left_is : Filed line w mid replies' still more → more ≡ waiting (turn ++ step ∷ [])
     left_is (inl f) = f.1 ∙ ap (λ xs. xs ++ w ∷ []) swept.left ∙ sym (waiting_more turn step false (has_final w line ∙ ap is_there f.0))
@@ -354,6 +368,7 @@ swept_whole takes eval old new now ws still turn replies replies' long waits swe
   goes = swept.goes;
   steps = swept.steps;
   rest = swept.left;
+  answered = swept.answered;
   waits = subst (Waits new) (append-nil still) swept.waits;
   long = swept.long;
   replied = λ done replied none. (let r = swept.replied done replied (subst (λ xs. Unanswered xs done) (sym (append-nil ws)) none) in (r.0, subst (λ xs. Unanswered xs (done ++ turn)) (append-nil still) r.1));

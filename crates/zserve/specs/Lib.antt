@@ -8,6 +8,7 @@ pub mod Waiting
 pub mod Sweeping
 pub mod Rounds
 pub mod Reports
-pub mod Serving
 pub mod Giving
 pub mod Taping
+pub mod Refusals
+pub mod Serving

@@ -1,5 +1,5 @@
 -- What a round makes of a core, its clock and the replies, from its messages on.
-use Rattle.std.specs.Prelude.{◌≡◌, ℕ, List, [], ◌∷◌, ◌++◌, length, Option}
+use Rattle.std.specs.Prelude.{◌≡◌, ◌⊎◌, ℕ, List, [], ◌∷◌, ◌++◌, length, Option}
 use Rattle.evaluator.specs.Exec.{Eval}
 use Rattle.schedule.specs.declared.item.Item2.{Item2}
 use Rattle.txn_core.specs.Cores.{CoreView}
@@ -7,13 +7,15 @@ use Rattle.zserve.specs.Going.{Goes}
 use Rattle.zserve.specs.Happened.{Happening}
 use Rattle.zserve.specs.Sweeping.{Replied, Unanswered, Waits}
 use Rattle.zserve.specs.Tapes.{given_from, workers_from}
-use Rattle.zserve.specs.Turns.{AreTurns, all_in}
+use Rattle.zserve.specs.Turns.{AreTurns, GotReply, all_in}
+use Rattle.http_clients.specs.Numbers.{Among}
 
 -- Turns so far: these workers wait still, and whatever turns they take, all together are turns of those that waited at first.
 pub record TurnedSoFar {E R S : Type 0} (takes : List ℕ → Option R) (eval : Eval R) (old new : CoreView E R S) (now : ℕ) (ws left : List ℕ) (turns : List (List Happening)) (replies replies' : List (Option (List ℕ))) : Type 0 where
   pub goes : Goes takes eval old now (all_in turns) new now
   pub goes_on : (more : List (List Happening)) → AreTurns left more → AreTurns ws (turns ++ more)
   pub waits : Waits new left
+  pub answered : (w : ℕ) → Among w ws → Among w left ⊎ GotReply w (all_in turns)
   pub long : length replies' ≡ length replies
   pub replied : (done : List Happening) → Replied replies done → Unanswered ws done → Replied replies' (done ++ all_in turns) × Unanswered left (done ++ all_in turns)
 
@@ -31,5 +33,6 @@ pub record RoundDone {E R S : Type 0} (takes : List ℕ → Option R) (eval : Ev
   pub goes : Goes takes eval old since (round_of ms stamp turns) new stamp
   pub turns_are : AreTurns (workers_from 0 ms) turns
   pub idle : Waits new []
+  pub answered : (w : ℕ) → Among w (workers_from 0 ms) → GotReply w (all_in turns)
   pub long : length replies ≡ 16
   pub replied : Replied replies (all_in turns)

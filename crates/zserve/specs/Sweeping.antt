@@ -7,7 +7,7 @@ use Rattle.txn_core.specs.declared.step_line.StepLine.{StepLine}
 use Rattle.zserve.specs.Going.{Goes}
 use Rattle.zserve.specs.Happened.{Happening, items}
 use Rattle.txn_core.specs.Replying.{final}
-use Rattle.zserve.specs.Turns.{AreTurns, lines_in, reply_among, waiting}
+use Rattle.zserve.specs.Turns.{AreTurns, GotReply, lines_in, reply_among, waiting}
 use Rattle.http_clients.specs.Numbers.{Among, Distinct}
 use Rattle.zserve.specs.Waiting.{AreWorkers, Wait, total}
 
@@ -36,6 +36,7 @@ pub record Turned {E R S : Type 0} (takes : List ℕ → Option R) (eval : Eval 
   pub goes : Goes takes eval old now turn new now
   pub steps : items turn ≡ map Item2.Step ws
   pub rest : left ≡ waiting turn
+  pub answered : (w : ℕ) → Among w ws → Among w left ⊎ GotReply w turn
   pub waits : Waits new left
   pub long : length replies' ≡ length replies
   pub replied : (done : List Happening) → Replied replies done → Unanswered ws done → Replied replies' (done ++ turn) × Unanswered left (done ++ turn)

@@ -54,3 +54,7 @@ lines_in all = flat_map (λ h. h.1) all
 -- what happened in all turns
 abbrev pub all_in : List (List Happening) → List Happening
 all_in turns = flat_map (λ turn. turn) turns
+
+-- the worker has a reply among what happened
+abbrev pub GotReply : ℕ → List Happening → Type 0
+GotReply w all = (reply : List ℕ) × (reply_among w (lines_in all) ≡ Some reply)
