@@ -11,3 +11,4 @@ mod Rounding
 mod Handing
 mod Closings
 mod Shutting
+mod Behind

@@ -143,7 +143,7 @@ each_kept takes eval old new stamp asked turns replies slice numbers done few ma
 
 -- ---- counts of faults
 
-no_counts : (a : Counter) (F : Type 0) → (F → ⊥) → Counts a a F
+pub no_counts : (a : Counter) (F : Type 0) → (F → ⊥) → Counts a a F
 no_counts a F none = record {
   later = omega arith;
   told = λ less. absurd (omega (arith, less));

@@ -12,3 +12,4 @@ pub mod Giving
 pub mod Taping
 pub mod Refusals
 pub mod Serving
+pub mod Served

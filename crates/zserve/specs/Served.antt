@@ -1,0 +1,41 @@
+-- What a server did so far: rounds behind one another.
+use Rattle.std.specs.Prelude.{◌≡◌, ◌⊎◌, ℕ, ◌+◌, List, [], flat_map, length, map, Option}
+use Rattle.zbase.specs.Faults.{Counter}
+use Rattle.zdisk.specs.Disk.{Told}
+use Rattle.zio.specs.Clocks.{Tick}
+use Rattle.zio.specs.Hubs.{Peers}
+use Rattle.evaluator.specs.Exec.{Eval}
+use Rattle.http_clients.specs.Arriving.{Tells}
+use Rattle.http_clients.specs.Hearing.{message_front}
+use Rattle.txn_core.specs.Cores.{CoreView}
+use Rattle.zserve.specs.Going.{Goes}
+use Rattle.zserve.specs.Happened.{Happening, items}
+use Rattle.zserve.specs.Serving.{RoundsSoFar}
+use Rattle.zserve.specs.Stamped.{AreStamps}
+use Rattle.zserve.specs.Sweeping.{Waits}
+use Rattle.zserve.specs.Tapes.{AreRounds, Round, happened, messages, sizes, total}
+use Rattle.zserve.specs.Taping.{Continues}
+
+-- how many messages the connections of some rounds sent
+abbrev pub replies_of : List Round → ℕ
+replies_of rounds = length (flat_map (λ r. messages message_front r.clients) rounds)
+
+-- What the hub tells of the rounds so far, behind which so many connections are left: each took as many as it could, or the last
+-- one found no more.
+pub record ToldSoFar (connections most : ℕ) (all : List Happening) (ticks : Option (List Tick)) (counter : Counter) (ticks' : Option (List Tick)) (counter' : Counter) (left replies : ℕ) (old new : Peers) : Type 0 where
+  pub rounds : List Round
+  pub is : all ≡ happened message_front rounds
+  pub port : new.port ≡ old.port
+  pub kept : RoundsSoFar message_front connections most old new rounds left ⊎ (AreRounds message_front connections most old new rounds × (new.coming ≡ []))
+  pub stamps : AreStamps ticks counter (map (λ r. r.stamp) rounds) ticks' counter'
+  pub count : total (sizes rounds) + left ≡ connections
+  pub replied : replies_of rounds ≡ replies
+
+-- Rounds so far: the core went by what happened, and the tape has that behind what it had.
+pub record RoundsGone {E R S : Type 0} (takes : List ℕ → Option R) (eval : Eval R) (connections most : ℕ) (old new : CoreView E R S) (ticks : Option (List Tick)) (counter : Counter) (ticks' : Option (List Tick)) (counter' : Counter) (tape tape' : Option Told) (hub hub' : Option Peers) (left replies : ℕ) : Type 0 where
+  pub all : List Happening
+  pub now : ℕ
+  pub goes : Goes takes eval old 0 all new now
+  pub idle : Waits new []
+  pub taped : Continues tape (items all) tape'
+  pub told : Tells hub hub' (ToldSoFar connections most all ticks counter ticks' counter' left replies)
