@@ -1,6 +1,8 @@
 //! What a case has done to a disk in memory at one of its calls.
+ghost use Rattle.std.specs.Prelude.{◌≡◌};
+
 use cases::{Case, CasesRefusal, Part};
-use zdisk::MemoryDisk;
+use zdisk::{Disk, MemoryDisk};
 
 // Whether a part of this key plans a stop; none where it plans neither a stop nor a failure.
 fn stops_by(key: &str) -> Option<bool> {
@@ -21,12 +23,9 @@ fn seed_of(part: &Part) -> Result<u64, CasesRefusal> {
 
 /// Arms on a disk that has had no call what the parts `failing WHICH NUMBER SEED` and `stopping WHICH NUMBER SEED` of the case
 /// plan, where the numbers count the calls behind so many. They have to rise.
-pub fn arm(
-    disk: &mut MemoryDisk,
-    case: &Case,
-    which: &str,
-    behind: u64,
-) -> Result<(), CasesRefusal> {
+pub fn arm(disk: &mut MemoryDisk, case: &Case, which: &str, behind: u64) -> Result<(), CasesRefusal>
+    ensures told { ⟦<MemoryDisk as Disk>⟧.told disk.new ≡ ⟦<MemoryDisk as Disk>⟧.told disk.old }
+{
     let mut before = 0u64;
     for part in &case.parts {
         let Some(stops) = stops_by(part.key()) else {

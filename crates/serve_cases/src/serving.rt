@@ -1,5 +1,7 @@
 //! A server over objects in memory, from the opening of the site's file until its disk is handed back.
-ghost use Rattle.std.specs.Prelude.{◌≡◌, ◌≤◌, IfOk, None, false};
+ghost use Rattle.std.specs.Prelude.{◌≡◌, ◌≤◌, IfOk, None, [], false};
+ghost use Rattle.std.specs.Option.{ForSome};
+ghost use Rattle.zdisk.specs.Disk.{content};
 ghost use Rattle.fs_store.specs.Stores.{most_length};
 
 use crate::arming::arm;
@@ -11,7 +13,7 @@ use publisher::Site;
 use std::alloc::Global;
 use txn_core::Core;
 use zbase::Bytes;
-use zdisk::MemoryDisk;
+use zdisk::{Disk, MemoryDisk};
 use zio::{MemoryClock, MemoryHub};
 use zserve::{ServePlan, ServeRefusal, Served, serve};
 
@@ -60,7 +62,10 @@ fn disk_of(alloc: Global, case: &Case) -> Result<MemoryDisk, CasesRefusal> {
 // The disk of a core that is closed.
 fn closed(core: Core<MemoryDisk, Site>) -> MemoryDisk {
     match core.close() {
-        Ok((store, _lost)) => store.into_disk(),
+        Ok(closed) => {
+            let (store, _lost) = closed;
+            store.into_disk()
+        }
         Err((_, store)) => {
             store.is_sound();
             store.into_disk()
@@ -80,6 +85,7 @@ fn serve_over(
     requires idle { store.out ≡ None }
     requires fresh { store.stale ≡ false }
     requires clients { (1 ≤ plan.clients) × (plan.clients ≤ 16) }
+    requires empty { ForSome (⟦<MemoryDisk as Disk>⟧.told tape.old) (λ told. content told ≡ []) }
 {
     let Ok(core) = Core::new(alloc, store, Site::new(alloc)) else {
         return Err(CasesRefusal::Memory);
