@@ -6,14 +6,20 @@ use Rattle.evaluator.specs.Exec.{Eval}
 use Rattle.http_clients.specs.Arriving.{Tells}
 use Rattle.schedule.specs.Items.{HasLine, item_text}
 use Rattle.schedule.specs.declared.item.Item2.{Item2}
-use Rattle.txn_core.specs.Cores.{CoreView}
+use Rattle.txn_core.specs.Cores.{CoreView, IsAtRest}
+use Rattle.txn_core.specs.Slots.{computed_of, doing_of}
+use Rattle.txn_core.specs.declared.slot.Slot.{Slot}
+use Rattle.schedule.specs.Moments.{Attempt, Doing, Free}
+use Rattle.evaluator.specs.declared.draft.Draft.{Draft}
+use Rattle.evaluator.specs.declared.reply.Reply.{Reply}
+use Rattle.std.proofs.Common.{replicate, slice_get}
 use Rattle.zserve.specs.Sweeping.{Waits}
 use Rattle.zserve.specs.Taping.{Continues, Grows}
 use Rattle.std.proofs.lemmas.Grind.{flat_map-append}
 use Rattle.std.proofs.lemmas.List.{map-append}
 use Rattle.zbase.specs.Faults.{Counter, Counts, counts_as, counts_then}
 use Rattle.std.specs.Prelude.{IsErrOf}
-use Rattle.std.proofs.Common.{Ok}
+use Rattle.std.proofs.Common.{Result, Ok}
 use Rattle.zserve.specs.declared.refusal.ServeRefusal.{ServeRefusal}
 use Rattle.zio.specs.Clocks.{Tick}
 use Rattle.zio.specs.Hubs.{Peers}
@@ -24,7 +30,7 @@ use Rattle.zserve.specs.Rounds.{round_of}
 use Rattle.zserve.specs.Served.{RoundsGone, ToldSoFar, replies_of}
 use Rattle.zserve.specs.Serving.{RoundServed, RoundTold, RoundsSoFar}
 use Rattle.zserve.specs.Stamped.{AreStamps, Stamps}
-use Rattle.zserve.specs.Tapes.{AreRounds, Round, happened_in, messages, sizes, total}
+use Rattle.zserve.specs.Tapes.{AreRounds, Round, Takes, happened, happened_in, messages, sizes, total}
 use Rattle.zserve.proofs.Goings.{goes_none, goes_then}
 use Rattle.zserve.proofs.Handing.{all_joined}
 use Rattle.zserve.proofs.Rounding.{happened_more, rounds_more, rounds_none, rounds_short}
@@ -159,3 +165,36 @@ fewer_left replies answered left accepted most connections before some fits most
 
 pub least_left : (most clients left : ℕ) → most ≡ min clients left → most ≤ left
 least_left most clients left is = omega (arith, is)
+
+-- ---- a core at rest
+
+none_computed : {R : Type 0} (a : Attempt R) (ready : Option (Reply × Draft)) → computed_of a ready ≡ Free → ⊥
+none_computed a None e = cc
+none_computed a (Some x) e = cc
+
+idle_slot : {E R S : Type 0} (eval : Eval R) (s : Slot E R S) → doing_of eval s ≡ Free → s ≡ Slot.Idle
+idle_slot eval Slot.Idle e = refl
+idle_slot eval (Slot.Fresh f) e = absurd cc
+idle_slot eval (Slot.Active a) e = absurd cc
+idle_slot eval (Slot.Computed a) e = absurd (none_computed a.attempt a.ready e)
+idle_slot eval (Slot.Pending p) e = absurd cc
+
+same_doing : {R : Type 0} (a b : Doing R) → Some a ≡ Some b → a ≡ b
+same_doing a b e = cc
+
+idle_at : {E R S : Type 0} (eval : Eval R) (slots : List (Slot E R S)) (v : ℕ) → slice_get (map (doing_of eval) slots) v ≡ Some Free → slice_get slots v ≡ Some Slot.Idle
+idle_at eval [] v e = absurd cc
+idle_at eval (s ∷ slots) zero e = ap (λ x. Some x) (idle_slot eval s (same_doing (doing_of eval s) Free e))
+idle_at eval (s ∷ slots) (suc v) e = idle_at eval slots v e
+
+all_free : {R : Type 0} (n v : ℕ) → v < n → slice_get (replicate n (let free : Doing R = Free in free)) v ≡ Some Free
+all_free zero v less = absurd (omega (arith, less))
+all_free (suc n) zero less = refl
+all_free (suc n) (suc v) less = all_free n v (omega (arith, less))
+
+pub rest_waits : {E R S : Type 0} (eval : Eval R) (core : CoreView E R S) → IsAtRest eval core → Waits core []
+rest_waits eval core rest = record {
+  wait = λ v below. ((λ among i. among), (λ none. idle_at eval core.slots v (ap (λ ds. slice_get ds v) rest.1 ∙ all_free 16 v below)));
+  distinct = tt;
+  workers = λ w among. absurd among;
+}

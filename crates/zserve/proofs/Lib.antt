@@ -12,3 +12,4 @@ mod Handing
 mod Closings
 mod Shutting
 mod Behind
+mod Whole

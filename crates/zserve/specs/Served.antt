@@ -1,19 +1,27 @@
--- What a server did so far: rounds behind one another.
-use Rattle.std.specs.Prelude.{◌≡◌, ◌⊎◌, ℕ, ◌+◌, List, [], flat_map, length, map, Option}
+-- What a server did: a whole run, or what came before it was refused.
+use Rattle.std.specs.Prelude.{◌≡◌, ◌⊎◌, ℕ, ◌+◌, ◌++◌, List, [], false, flat_map, length, map, Option, Some, IfSome, MatchOption}
+use Rattle.std.specs.List.{AllByRecursion}
 use Rattle.zbase.specs.Faults.{Counter}
-use Rattle.zdisk.specs.Disk.{Told}
+use Rattle.zdisk.specs.Crashes.{IsSynced}
+use Rattle.zdisk.specs.Disk.{Told, content}
 use Rattle.zio.specs.Clocks.{Tick}
 use Rattle.zio.specs.Hubs.{Peers}
 use Rattle.evaluator.specs.Exec.{Eval}
 use Rattle.http_clients.specs.Arriving.{Tells}
+use Rattle.http_clients.specs.Clients.{Client, held}
 use Rattle.http_clients.specs.Hearing.{message_front}
+use Rattle.schedule.specs.Items.{IsSchedule}
+use Rattle.fs_store.specs.Stores.{IsTold, StoreView}
 use Rattle.txn_core.specs.Cores.{CoreView}
+use Rattle.txn_core.specs.Replying.{terms_of}
+use Rattle.txn_core.specs.Slots.{Possible}
 use Rattle.zserve.specs.Going.{Goes}
 use Rattle.zserve.specs.Happened.{Happening, items}
+use Rattle.zserve.specs.Reports.{Reports}
 use Rattle.zserve.specs.Serving.{RoundsSoFar}
 use Rattle.zserve.specs.Stamped.{AreStamps}
 use Rattle.zserve.specs.Sweeping.{Waits}
-use Rattle.zserve.specs.Tapes.{AreRounds, Round, happened, messages, sizes, total}
+use Rattle.zserve.specs.Tapes.{AreRounds, IsWhole, RefusedRounds, Round, happened, messages, sizes, total}
 use Rattle.zserve.specs.Taping.{Continues}
 
 -- how many messages the connections of some rounds sent
@@ -39,3 +47,14 @@ pub record RoundsGone {E R S : Type 0} (takes : List ℕ → Option R) (eval : E
   pub idle : Waits new []
   pub taped : Continues tape (items all) tape'
   pub told : Tells hub hub' (ToldSoFar connections most all ticks counter ticks' counter' left replies)
+
+-- What the hub tells of a whole run: on the port, rounds of so many connections in all, which are what happened.
+pub record RunTold (port connections most : ℕ) (all : List Happening) (ticks : Option (List Tick)) (counter : Counter) (ticks' : Option (List Tick)) (counter' : Counter) (accepted replies : ℕ) (old new : Peers) : Type 0 where
+  pub port_is : new.port ≡ Some port
+  pub rounds : List Round
+  pub is : all ≡ happened message_front rounds
+  pub are : AreRounds message_front connections most old new rounds
+  pub whole : IsWhole connections new rounds
+  pub stamps : AreStamps ticks counter (map (λ r. r.stamp) rounds) ticks' counter'
+  pub many : accepted ≡ total (sizes rounds)
+  pub replied : replies ≡ replies_of rounds

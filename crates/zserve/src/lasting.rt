@@ -1,19 +1,40 @@
-ghost use Rattle.std.specs.Prelude.{◌≡◌, ◌⊎◌, ◌≤◌, ◌<◌, ◌+◌, ℕ, List, [], IfOk, IfSome, IsErrOf, min};
+ghost use Rattle.std.specs.Prelude.{◌≡◌, ◌⊎◌, ◌≤◌, ◌<◌, ◌+◌, ℕ, List, [], false, IfOk, IfSome, IsErrOf, OnOk, min};
+ghost use Rattle.std.specs.Option.{ForSome};
+ghost use Rattle.zdisk.specs.Crashes.{IsSynced};
+ghost use Rattle.zdisk.specs.Disk.{content};
+ghost use Rattle.http_clients.specs.Arriving.{Tells};
+ghost use Rattle.schedule.specs.Items.{IsSchedule, item_text};
+ghost use Rattle.schedule.specs.declared.item.Item2.{Item2};
+ghost use Rattle.fs_store.specs.Stores.{IsTold, StoreView};
+ghost use Rattle.txn_core.specs.Cores.{IsAtRest};
+ghost use Rattle.txn_core.specs.Replying.{terms_of};
+ghost use Rattle.txn_core.specs.Slots.{Possible};
+ghost use Rattle.zserve.specs.Going.{Goes};
+ghost use Rattle.zserve.specs.Happened.{Happening, items};
+ghost use Rattle.zserve.specs.Reports.{Reports};
 ghost use Rattle.zbase.specs.Faults.{Counts};
 ghost use Rattle.http_in.specs.Messages.{one_message};
-ghost use Rattle.zserve.specs.Served.{RoundsGone};
+ghost use Rattle.zserve.specs.Served.{RoundsGone, RunTold};
 ghost use Rattle.zserve.specs.Sweeping.{Waits};
-ghost use Rattle.zserve.specs.Taping.{IsLong};
+ghost use Rattle.zserve.specs.Taping.{Grows, IsLong};
 
+use crate::refusal::{of_hub, of_tape};
 use crate::serving::serve_round;
+use crate::taping::{put, sync};
 use crate::{ServePlan, ServeRefusal, Served};
 use evaluator::Evaluator;
 use http_in::Message;
-use schedule::WORKERS;
+use schedule::{WORKERS, served_runs_are_serial};
 use std::alloc::Global;
 use txn_core::Core;
 use zdisk::Disk;
 use zio::{Clock, Hub};
+
+/// The first line of a tape.
+const FIRST_LINE: &[u8] = b"zope schedule 1\n";
+
+/// The last line of a tape.
+const LAST_LINE: &[u8] = b"end\n";
 
 // How many connections the next round accepts at most.
 fn most_of(clients: u32, left: u64) -> u32
@@ -26,8 +47,7 @@ fn most_of(clients: u32, left: u64) -> u32
     }
 }
 
-/// Serves rounds until the plan is done, or no connection comes. What was served, and the tape's new length. Listening, the tape's
-/// first line and its end are the caller's.
+// Serves rounds until the plan is done, or no connection comes. What was served, and the tape's new length.
 pub fn serve_rounds<D: Disk + Drop, E: Evaluator<Request = Message>, H: Hub, C: Clock, R: Disk>(
     alloc: Global,
     core: &mut Core<D, E>,
@@ -72,4 +92,65 @@ pub fn serve_rounds<D: Disk + Drop, E: Evaluator<Request = Message>, H: Hub, C: 
         replies,
     };
     Ok((served, at))
+}
+
+// Puts a text at the end of the tape, which is so long. The tape's new length.
+fn put_on_tape<R: Disk>(tape: &mut R, at: u64, text: &[u8]) -> Result<u64, ServeRefusal>
+    requires long { IsLong (R.told tape.old) at }
+    ensures grows { OnOk result (Grows (R.told tape.old) text.now (R.told tape.new)) }
+    ensures long { IfOk result (λ end. IsLong (R.told tape.new) end) }
+    ensures cause { IsErrOf result ServeRefusal.Hub → ⊥ }
+    ensures disk { Counts (R.counter tape.old) (R.counter tape.new) (IsErrOf result ServeRefusal.Tape) }
+{
+    match put(tape, at, text) {
+        Ok(end) => Ok(end),
+        Err(refusal) => Err(of_tape(refusal)),
+    }
+}
+
+// Puts the last line on the tape, and brings it to the device.
+fn end_tape<R: Disk>(tape: &mut R, at: u64) -> Result<(), ServeRefusal>
+    requires long { IsLong (R.told tape.old) at }
+    ensures ended { OnOk result (Grows (R.told tape.old) (item_text Item2.End) (R.told tape.new) × ForSome (R.told tape.new) IsSynced) }
+    ensures cause { IsErrOf result ServeRefusal.Hub → ⊥ }
+    ensures disk { Counts (R.counter tape.old) (R.counter tape.new) (IsErrOf result ServeRefusal.Tape) }
+{
+    put_on_tape(tape, at, LAST_LINE)?;
+    match sync(tape) {
+        Ok(()) => Ok(()),
+        Err(refusal) => Err(of_tape(refusal)),
+    }
+}
+
+/// Serves connections of a hub, as the plan says, and writes what happened to the tape.
+pub fn serve<D: Disk + Drop, E: Evaluator<Request = Message>, H: Hub, C: Clock, R: Disk>(
+    alloc: Global,
+    core: &mut Core<D, E>,
+    plan: ServePlan,
+    hub: &mut H,
+    clock: &mut C,
+    tape: &mut R,
+) -> Result<Served, ServeRefusal>
+    requires rest { IsAtRest E.meaning core.old }
+    requires fresh { core.old.store.stale ≡ false }
+    requires plan { (1 ≤ plan.clients) × (plan.clients ≤ WORKERS) }
+    requires empty { ForSome (R.told tape.old) (λ told. content told ≡ []) }
+    requires takes { (bytes : List ℕ) → E.takes bytes ≡ one_message bytes }
+    ensures tape { IfOk result (λ served. (all : List Happening) × (now : ℕ) × Goes E.takes E.meaning core.old 0 all core.new now
+        × IfSome (R.told tape.new) (λ told. IsSynced told × IsSchedule (content told) (items all))
+        × Tells (H.peers hub.old) (H.peers hub.new) (RunTold plan.port plan.connections plan.clients all (C.ticks clock.old) (C.counter clock.old) (C.ticks clock.new) (C.counter clock.new) served.connections served.replies)
+        × (IsTold core.old.store → (may : StoreView) → Possible core.new.store may → Reports (terms_of E.takes E.meaning core.old.store.limit core.old.store.end) core.old.store.disk.counter.count core.new.store.disk.counter.count core.old.store.history all may)) }
+    ensures hub { Counts (H.listening hub.old) (H.listening hub.new) (IsErrOf result ServeRefusal.Hub) }
+    ensures disk { Counts (R.counter tape.old) (R.counter tape.new) (IsErrOf result ServeRefusal.Tape) }
+{
+    served_runs_are_serial::<E>();
+    core.is_sound();
+    core.store().is_sound();
+    if let Err(refusal) = hub.listen(plan.port) {
+        return Err(of_hub(refusal));
+    }
+    let at = put_on_tape(tape, 0, FIRST_LINE)?;
+    let (served, at) = serve_rounds(alloc, core, plan, hub, clock, tape, at)?;
+    end_tape(tape, at)?;
+    Ok(served)
 }

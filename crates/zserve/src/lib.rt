@@ -23,7 +23,7 @@ mod stamping;
 mod taping;
 mod turning;
 
-pub use lasting::serve_rounds;
+pub use lasting::{serve, serve_rounds};
 pub use plan::{ServePlan, Served};
 pub use refusal::ServeRefusal;
 pub use running::run_round;
