@@ -19,7 +19,7 @@ use Rattle.std.proofs.lemmas.Grind.{flat_map-append}
 use Rattle.std.proofs.lemmas.List.{map-append}
 use Rattle.zbase.specs.Faults.{Counter, Counts, counts_as, counts_then}
 use Rattle.std.specs.Prelude.{IsErrOf}
-use Rattle.std.proofs.Common.{Result, Ok}
+use Rattle.std.proofs.Common.{Ok}
 use Rattle.zserve.specs.declared.refusal.ServeRefusal.{ServeRefusal}
 use Rattle.zio.specs.Clocks.{Tick}
 use Rattle.zio.specs.Hubs.{Peers}
@@ -30,7 +30,7 @@ use Rattle.zserve.specs.Rounds.{round_of}
 use Rattle.zserve.specs.Served.{RoundsGone, ToldSoFar, replies_of}
 use Rattle.zserve.specs.Serving.{RoundServed, RoundTold, RoundsSoFar}
 use Rattle.zserve.specs.Stamped.{AreStamps, Stamps}
-use Rattle.zserve.specs.Tapes.{AreRounds, Round, Takes, happened, happened_in, messages, sizes, total}
+use Rattle.zserve.specs.Tapes.{AreRounds, Round, happened_in, messages, sizes, total}
 use Rattle.zserve.proofs.Goings.{goes_none, goes_then}
 use Rattle.zserve.proofs.Handing.{all_joined}
 use Rattle.zserve.proofs.Rounding.{happened_more, rounds_more, rounds_none, rounds_short}

@@ -43,14 +43,17 @@ run_told None listening done port connections most all ticks counter ticks' coun
     subst (λ (o : Option Peers). Tells o done (ToldSoFar connections most all ticks counter ticks' counter' left replies)) listens told
 run_told (Some p) listening done port connections most all ticks counter ticks' counter' left accepted replies listens told count ends =
     let so : Tells (Some (listening_on port p)) done (ToldSoFar connections most all ticks counter ticks' counter' left replies) = subst (λ (o : Option Peers). Tells o done (ToldSoFar connections most all ticks counter ticks' counter' left replies)) listens told in
-    let sum = so.2.count in
-    (so.0, so.1, record {
-      port_is = so.2.port;
-      rounds = so.2.rounds;
-      is = so.2.is;
-      are = same_rounds connections most port p so.0 so.2.rounds (elim so.2.kept [ inl far ↦ rounds_whole message_front connections most (listening_on port p) so.0 so.2.rounds left far | inr last ↦ last.0 ]);
-      whole = elim ends [ inl none ↦ inl (omega (arith, sum, none)) | inr ended ↦ inr (subst (λ (o : Option Peers). IfSome o (λ q. q.coming ≡ [])) so.1 ended) ];
-      stamps = so.2.stamps;
-      many = omega (arith, sum, count);
-      replied = sym so.2.replied;
-    })
+    let sum = so.2.count in (
+      so.0,
+      so.1,
+      record {
+        port_is = so.2.port;
+        rounds = so.2.rounds;
+        is = so.2.is;
+        are = same_rounds connections most port p so.0 so.2.rounds (elim so.2.kept [ inl far ↦ rounds_whole message_front connections most (listening_on port p) so.0 so.2.rounds left far | inr last ↦ last.0 ]);
+        whole = elim ends [ inl none ↦ inl (omega (arith, sum, none)) | inr ended ↦ inr (subst (λ (o : Option Peers). IfSome o (λ q. q.coming ≡ [])) so.1 ended) ];
+        stamps = so.2.stamps;
+        many = omega (arith, sum, count);
+        replied = sym so.2.replied;
+      },
+    )

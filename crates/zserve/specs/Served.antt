@@ -1,27 +1,19 @@
 -- What a server did: a whole run, or what came before it was refused.
-use Rattle.std.specs.Prelude.{◌≡◌, ◌⊎◌, ℕ, ◌+◌, ◌++◌, List, [], false, flat_map, length, map, Option, Some, IfSome, MatchOption}
-use Rattle.std.specs.List.{AllByRecursion}
+use Rattle.std.specs.Prelude.{◌≡◌, ◌⊎◌, ℕ, ◌+◌, List, [], flat_map, length, map, Option, Some}
 use Rattle.zbase.specs.Faults.{Counter}
-use Rattle.zdisk.specs.Crashes.{IsSynced}
-use Rattle.zdisk.specs.Disk.{Told, content}
+use Rattle.zdisk.specs.Disk.{Told}
 use Rattle.zio.specs.Clocks.{Tick}
 use Rattle.zio.specs.Hubs.{Peers}
 use Rattle.evaluator.specs.Exec.{Eval}
 use Rattle.http_clients.specs.Arriving.{Tells}
-use Rattle.http_clients.specs.Clients.{Client, held}
 use Rattle.http_clients.specs.Hearing.{message_front}
-use Rattle.schedule.specs.Items.{IsSchedule}
-use Rattle.fs_store.specs.Stores.{IsTold, StoreView}
 use Rattle.txn_core.specs.Cores.{CoreView}
-use Rattle.txn_core.specs.Replying.{terms_of}
-use Rattle.txn_core.specs.Slots.{Possible}
 use Rattle.zserve.specs.Going.{Goes}
 use Rattle.zserve.specs.Happened.{Happening, items}
-use Rattle.zserve.specs.Reports.{Reports}
 use Rattle.zserve.specs.Serving.{RoundsSoFar}
 use Rattle.zserve.specs.Stamped.{AreStamps}
 use Rattle.zserve.specs.Sweeping.{Waits}
-use Rattle.zserve.specs.Tapes.{AreRounds, IsWhole, RefusedRounds, Round, happened, messages, sizes, total}
+use Rattle.zserve.specs.Tapes.{AreRounds, IsWhole, Round, happened, messages, sizes, total}
 use Rattle.zserve.specs.Taping.{Continues}
 
 -- how many messages the connections of some rounds sent

@@ -12,6 +12,7 @@ ghost use Rattle.txn_core.specs.Slots.{Possible};
 ghost use Rattle.zserve.specs.Going.{Goes};
 ghost use Rattle.zserve.specs.Happened.{Happening, items};
 ghost use Rattle.zserve.specs.Reports.{Reports};
+ghost use Rattle.zserve.specs.Safety.{IsSafe};
 ghost use Rattle.zbase.specs.Faults.{Counts};
 ghost use Rattle.http_in.specs.Messages.{one_message};
 ghost use Rattle.zserve.specs.Served.{RoundsGone, RunTold};
@@ -140,6 +141,9 @@ pub fn serve<D: Disk + Drop, E: Evaluator<Request = Message>, H: Hub, C: Clock, 
         × IfSome (R.told tape.new) (λ told. IsSynced told × IsSchedule (content told) (items all))
         × Tells (H.peers hub.old) (H.peers hub.new) (RunTold plan.port plan.connections plan.clients all (C.ticks clock.old) (C.counter clock.old) (C.ticks clock.new) (C.counter clock.new) served.connections served.replies)
         × (IsTold core.old.store → (may : StoreView) → Possible core.new.store may → Reports (terms_of E.takes E.meaning core.old.store.limit core.old.store.end) core.old.store.disk.counter.count core.new.store.disk.counter.count core.old.store.history all may)) }
+    // A stop at any moment of it leaves an image that opens to the history that stands then, or to that and one transaction more.
+    ensures safe { OnOk result (IsTold core.old.store → (all : List Happening)
+        × IsSafe core.old.store.disk.told core.old.store.history all core.new.store.disk.told core.new.store.history) }
     ensures hub { Counts (H.listening hub.old) (H.listening hub.new) (IsErrOf result ServeRefusal.Hub) }
     ensures disk { Counts (R.counter tape.old) (R.counter tape.new) (IsErrOf result ServeRefusal.Tape) }
 {
