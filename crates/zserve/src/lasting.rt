@@ -49,7 +49,7 @@ fn most_of(clients: u32, left: u64) -> u32
 }
 
 // Serves rounds until the plan is done, or no connection comes. What was served, and the tape's new length.
-pub fn serve_rounds<D: Disk + Drop, E: Evaluator<Request = Message>, H: Hub, C: Clock, R: Disk>(
+fn serve_rounds<D: Disk + Drop, E: Evaluator<Request = Message>, H: Hub, C: Clock, R: Disk>(
     alloc: Global,
     core: &mut Core<D, E>,
     plan: ServePlan,
@@ -123,7 +123,14 @@ fn end_tape<R: Disk>(tape: &mut R, at: u64) -> Result<(), ServeRefusal>
     }
 }
 
-/// Serves connections of a hub, as the plan says, and writes what happened to the tape.
+/// Serves connections of a hub in rounds, as the plan says, over a core at rest, and writes what happens to an empty tape: a
+/// schedule, whose replay over the file as it was serves them again.
+///
+/// A round accepts its first connection in any case and each further one only where it waits. The tape's first line is written
+/// once the hub listens, a round before the first of its replies, and the last line behind the last round; then the tape is
+/// brought to the device. A connection that sends no message gets no reply, and all are closed at each end.
+///
+/// Refused for the hub where it can't listen or accept, for the tape where a write or the sync of it fails, and for want of memory.
 pub fn serve<D: Disk + Drop, E: Evaluator<Request = Message>, H: Hub, C: Clock, R: Disk>(
     alloc: Global,
     core: &mut Core<D, E>,

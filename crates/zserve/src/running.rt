@@ -41,7 +41,7 @@ fn put_clock(now: Tid, text: &mut Bytes) -> Result<(), Memory>
 
 /// A round of a core whose workers have no request: the messages are given to them from the first on, the clock is read, and the
 /// workers step in turns until each has its reply. The replies, by their workers; the text has what happened.
-pub fn run_round<D: Disk + Drop, E: Evaluator<Request = Message>, C: Clock>(
+pub(crate) fn run_round<D: Disk + Drop, E: Evaluator<Request = Message>, C: Clock>(
     alloc: Global,
     core: &mut Core<D, E>,
     clock: &mut C,

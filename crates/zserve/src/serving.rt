@@ -20,20 +20,26 @@ use zio::{Clock, Hub};
 
 /// How a round ended.
 #[derive(Clone, Copy, Debug)]
-pub struct RoundEnd {
+pub(crate) struct RoundEnd {
     /// How many connections it accepted.
-    pub accepted: u32,
+    pub(crate) accepted: u32,
     /// How many of them sent a message, and so have a reply.
-    pub answered: u32,
+    pub(crate) answered: u32,
     /// The length of the tape behind it.
-    pub at: u64,
+    pub(crate) at: u64,
 }
 
 /// A round: connections are accepted, so many at most, and served. Where it accepted none, the hub has no further one, and nothing
 /// happened.
 ///
 /// All connections of the round are closed, also where it is refused.
-pub fn serve_round<D: Disk + Drop, E: Evaluator<Request = Message>, H: Hub, C: Clock, R: Disk>(
+pub(crate) fn serve_round<
+    D: Disk + Drop,
+    E: Evaluator<Request = Message>,
+    H: Hub,
+    C: Clock,
+    R: Disk,
+>(
     alloc: Global,
     core: &mut Core<D, E>,
     hub: &mut H,

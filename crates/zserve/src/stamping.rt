@@ -17,7 +17,7 @@ fn stamp_or_zero(seconds: i64, nanos: u32) -> Tid
 }
 
 /// The stamp of the moment that a clock answers; 0 where it fails, or its moment has none.
-pub fn stamp_of<C: Clock>(clock: &mut C) -> Tid
+pub(crate) fn stamp_of<C: Clock>(clock: &mut C) -> Tid
     ensures { Stamps (C.ticks clock.old) (C.counter clock.old) result (C.ticks clock.new) (C.counter clock.new) }
 {
     match clock.now() {

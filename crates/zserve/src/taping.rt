@@ -8,7 +8,7 @@ use zdisk::Disk;
 use zio::OutsideRefusal;
 
 /// Puts a text at the end of the tape, which is so long. The tape's new length.
-pub fn put<R: Disk>(tape: &mut R, at: u64, text: &[u8]) -> Result<u64, OutsideRefusal>
+pub(crate) fn put<R: Disk>(tape: &mut R, at: u64, text: &[u8]) -> Result<u64, OutsideRefusal>
     requires long { IsLong (R.told tape.old) at }
     ensures grows { OnOk result (Grows (R.told tape.old) text.now (R.told tape.new)) }
     ensures long { IfOk result (λ end. IsLong (R.told tape.new) end) }
@@ -26,7 +26,7 @@ pub fn put<R: Disk>(tape: &mut R, at: u64, text: &[u8]) -> Result<u64, OutsideRe
 }
 
 /// Brings the tape to the device.
-pub fn sync<R: Disk>(tape: &mut R) -> Result<(), OutsideRefusal>
+pub(crate) fn sync<R: Disk>(tape: &mut R) -> Result<(), OutsideRefusal>
     ensures synced { OnOk result (Grows (R.told tape.old) [] (R.told tape.new) × ForSome (R.told tape.new) IsSynced) }
     ensures counts { Counts (R.counter tape.old) (R.counter tape.new) (IsErrOf result OutsideRefusal.Failed) }
 {

@@ -81,7 +81,7 @@ fn turn<D: Disk + Drop, E: Evaluator>(
 }
 
 /// Steps the workers that wait in turns, until each has its reply.
-pub fn take_turns<D: Disk + Drop, E: Evaluator>(
+pub(crate) fn take_turns<D: Disk + Drop, E: Evaluator>(
     alloc: Global,
     core: &mut Core<D, E>,
     now: Tid,
