@@ -34,7 +34,8 @@ fn tape_round<D: Disk + Drop, E: Evaluator<Request = Message>, C: Clock, R: Disk
     requires takes { (bytes : List ℕ) → E.takes bytes ≡ one_message bytes }
     requires messages { AreMessages asked.items }
     requires long { IsLong (R.told tape.old) at }
-    ensures done { IfOk result (λ (replies, _). (stamp : ℕ) × (turns : List (List Happening)) × RoundTaped E.takes E.meaning core.old core.new (C.ticks clock.old) (C.counter clock.old) (C.ticks clock.new) (C.counter clock.new)
+    ensures done { IfOk result (λ (replies, _). (stamp : ℕ) × (turns : List (List Happening))
+        × RoundTaped E.takes E.meaning core.old core.new (C.ticks clock.old) (C.counter clock.old) (C.ticks clock.new) (C.counter clock.new)
         (R.told tape.old) (R.told tape.new) (bytes_of asked.items) stamp turns replies.items) }
     ensures long { IfOk result (λ (_, end). IsLong (R.told tape.new) end) }
     ensures disk { Counts (R.counter tape.old) (R.counter tape.new) (IsErrOf result OutsideRefusal.Failed) }
@@ -70,8 +71,10 @@ pub(crate) fn answer_round<
     requires long { IsLong (R.told tape.old) at }
     requires open { WereOpen numbers.now (H.peers hub.old) }
     requires as_many { length numbers.now ≡ length asked.items }
-    ensures done { IfOk result (λ _. (stamp : ℕ) × (turns : List (List Happening)) × (replies : List (Option (List ℕ))) × RoundTaped E.takes E.meaning core.old core.new (C.ticks clock.old) (C.counter clock.old) (C.ticks clock.new) (C.counter clock.new)
-        (R.told tape.old) (R.told tape.new) (bytes_of asked.items) stamp turns replies × EndsAll (SendsReply replies) numbers.now (H.peers hub.old) (H.peers hub.new)) }
+    ensures done { IfOk result (λ _. (stamp : ℕ) × (turns : List (List Happening)) × (replies : List (Option (List ℕ)))
+        × RoundTaped E.takes E.meaning core.old core.new (C.ticks clock.old) (C.counter clock.old) (C.ticks clock.new) (C.counter clock.new)
+        (R.told tape.old) (R.told tape.new) (bytes_of asked.items) stamp turns replies
+        × EndsAll (SendsReply replies) numbers.now (H.peers hub.old) (H.peers hub.new)) }
     ensures ended { EndsAll (λ w end. ⊤) numbers.now (H.peers hub.old) (H.peers hub.new) }
     ensures long { IfOk result (λ end. IsLong (R.told tape.new) end) }
     ensures listening { H.listening hub.new ≡ H.listening hub.old }

@@ -62,7 +62,8 @@ fn serve_rounds<D: Disk + Drop, E: Evaluator<Request = Message>, H: Hub, C: Cloc
     requires plan { (1 ≤ plan.clients) × (plan.clients ≤ WORKERS) }
     requires takes { (bytes : List ℕ) → E.takes bytes ≡ one_message bytes }
     requires long { IsLong (R.told tape.old) at }
-    ensures served { IfOk result (λ (served, _). (left : ℕ) × RoundsGone E.takes E.meaning plan.connections plan.clients core.old core.new (C.ticks clock.old) (C.counter clock.old) (C.ticks clock.new) (C.counter clock.new)
+    ensures served { IfOk result (λ (served, _). (left : ℕ) × RoundsGone E.takes E.meaning plan.connections plan.clients core.old core.new
+        (C.ticks clock.old) (C.counter clock.old) (C.ticks clock.new) (C.counter clock.new)
         (R.told tape.old) (R.told tape.new) (H.peers hub.old) (H.peers hub.new) left served.replies × (served.connections + left ≡ plan.connections)
         × ((left ≡ 0) ⊎ IfSome (H.peers hub.new) (λ q. q.coming ≡ []))) }
     ensures long { IfOk result (λ (_, end). IsLong (R.told tape.new) end) }
@@ -146,8 +147,11 @@ pub fn serve<D: Disk + Drop, E: Evaluator<Request = Message>, H: Hub, C: Clock, 
     requires takes { (bytes : List ℕ) → E.takes bytes ≡ one_message bytes }
     ensures tape { IfOk result (λ served. (all : List Happening) × (now : ℕ) × Goes E.takes E.meaning core.old 0 all core.new now
         × IfSome (R.told tape.new) (λ told. IsSynced told × IsSchedule (content told) (items all))
-        × Tells (H.peers hub.old) (H.peers hub.new) (RunTold plan.port plan.connections plan.clients all (C.ticks clock.old) (C.counter clock.old) (C.ticks clock.new) (C.counter clock.new) served.connections served.replies)
-        × (IsTold core.old.store → (may : StoreView) → Possible core.new.store may → Reports (terms_of E.takes E.meaning core.old.store.limit core.old.store.end) core.old.store.disk.counter.count core.new.store.disk.counter.count core.old.store.history all may)) }
+        × Tells (H.peers hub.old) (H.peers hub.new) (RunTold plan.port plan.connections plan.clients all (C.ticks clock.old) (C.counter clock.old)
+        (C.ticks clock.new) (C.counter clock.new) served.connections served.replies)
+        × (IsTold core.old.store → (may : StoreView) → Possible core.new.store may
+        → Reports (terms_of E.takes E.meaning core.old.store.limit core.old.store.end) core.old.store.disk.counter.count
+        core.new.store.disk.counter.count core.old.store.history all may)) }
     // A stop at any moment of it leaves an image that opens to the history that stands then, or to that and one transaction more.
     ensures safe { OnOk result (IsTold core.old.store → (all : List Happening)
         × IsSafe core.old.store.disk.told core.old.store.history all core.new.store.disk.told core.new.store.history) }

@@ -52,8 +52,10 @@ pub(crate) fn run_round<D: Disk + Drop, E: Evaluator<Request = Message>, C: Cloc
     requires few { length asked.items ≤ WORKERS }
     requires takes { (bytes : List ℕ) → E.takes bytes ≡ one_message bytes }
     requires messages { AreMessages asked.items }
-    ensures done { IfOk result (λ replies. (stamp : ℕ) × (turns : List (List Happening)) × ((since : ℕ) → RoundDone E.takes E.meaning core.old core.new since stamp (bytes_of asked.items) turns replies.items)
-        × Stamps (C.ticks clock.old) (C.counter clock.old) stamp (C.ticks clock.new) (C.counter clock.new) × Spelt text.old (items (round_of (bytes_of asked.items) stamp turns)) text.new) }
+    ensures done { IfOk result (λ replies. (stamp : ℕ) × (turns : List (List Happening))
+        × ((since : ℕ) → RoundDone E.takes E.meaning core.old core.new since stamp (bytes_of asked.items) turns replies.items)
+        × Stamps (C.ticks clock.old) (C.counter clock.old) stamp (C.ticks clock.new) (C.counter clock.new)
+        × Spelt text.old (items (round_of (bytes_of asked.items) stamp turns)) text.new) }
 {
     let waiting = give_all(alloc, core, asked, text)?;
     core.store().is_sound();

@@ -52,9 +52,11 @@ pub(crate) fn serve_round<
     requires most { (1 ≤ most) × (most ≤ WORKERS) }
     requires takes { (bytes : List ℕ) → E.takes bytes ≡ one_message bytes }
     requires long { IsLong (R.told tape.old) at }
-    ensures served { IfOk result (λ end. 1 ≤ end.accepted → RoundServed E.takes E.meaning core.old core.new (C.ticks clock.old) (C.counter clock.old) (C.ticks clock.new) (C.counter clock.new)
+    ensures served { IfOk result (λ end. 1 ≤ end.accepted → RoundServed E.takes E.meaning core.old core.new (C.ticks clock.old)
+        (C.counter clock.old) (C.ticks clock.new) (C.counter clock.new)
         (R.told tape.old) (R.told tape.new) (H.peers hub.old) (H.peers hub.new) end.accepted end.answered) }
-    ensures none { IfOk result (λ end. end.accepted ≡ 0 → (core.new ≡ core.old) × (C.ticks clock.new ≡ C.ticks clock.old) × (C.counter clock.new ≡ C.counter clock.old) × (R.told tape.new ≡ R.told tape.old)
+    ensures none { IfOk result (λ end. end.accepted ≡ 0 → (core.new ≡ core.old) × (C.ticks clock.new ≡ C.ticks clock.old)
+        × (C.counter clock.new ≡ C.counter clock.old) × (R.told tape.new ≡ R.told tape.old)
         × Tells (H.peers hub.old) (H.peers hub.new) ArrivesNone) }
     ensures most { IfOk result (λ end. (end.answered ≤ end.accepted) × (end.accepted ≤ most)) }
     ensures fewer { IfOk result (λ end. end.accepted < most → IfSome (H.peers hub.new) (λ q. q.coming ≡ [])) }

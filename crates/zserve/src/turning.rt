@@ -49,7 +49,8 @@ fn step_and_file<D: Disk + Drop, E: Evaluator>(
 ) -> Result<(), Memory>
     requires worker { worker < WORKERS }
     requires within { worker < length replies.old.items }
-    ensures stepped { OnOk result ((line : StepLine) × Stepped E.takes E.meaning core.old core.new worker now line × Filed line worker replies.old.items replies.new.items still.old.items still.new.items) }
+    ensures stepped { OnOk result ((line : StepLine) × Stepped E.takes E.meaning core.old core.new worker now line
+        × Filed line worker replies.old.items replies.new.items still.old.items still.new.items) }
     ensures text { OnOk result (text.new ≡ text.old ++ item_text (Item2.Step worker)) }
 {
     match step(alloc, core, worker, now, text)? {
@@ -70,7 +71,9 @@ fn turn<D: Disk + Drop, E: Evaluator>(
 ) -> Result<Vec<u32>, Memory>
     requires waits { Waits core.old waiting.now }
     requires sixteen { length replies.old.items ≡ WORKERS }
-    ensures turned { IfOk result (λ still. (turn : List Happening) × Turned E.takes E.meaning core.old core.new now waiting.now still.items turn replies.old.items replies.new.items × (text.new ≡ text.old ++ flat_map item_text (items turn))) }
+    ensures turned { IfOk result (λ still. (turn : List Happening)
+        × Turned E.takes E.meaning core.old core.new now waiting.now still.items turn replies.old.items replies.new.items
+        × (text.new ≡ text.old ++ flat_map item_text (items turn))) }
 {
     core.is_sound();
     let mut still = Vec::new(alloc);
@@ -91,7 +94,9 @@ pub(crate) fn take_turns<D: Disk + Drop, E: Evaluator>(
 ) -> Result<(), Memory>
     requires waits { Waits core.old waiting.items }
     requires sixteen { length replies.old.items ≡ WORKERS }
-    ensures turned { OnOk result ((turns : List (List Happening)) × TurnedSoFar E.takes E.meaning core.old core.new now waiting.items [] turns replies.old.items replies.new.items × (text.new ≡ text.old ++ flat_map item_text (items (all_in turns)))) }
+    ensures turned { OnOk result ((turns : List (List Happening))
+        × TurnedSoFar E.takes E.meaning core.old core.new now waiting.items [] turns replies.old.items replies.new.items
+        × (text.new ≡ text.old ++ flat_map item_text (items (all_in turns)))) }
 {
     let mut waiting = waiting;
     'taking: while !waiting.is_empty() {
