@@ -13,7 +13,7 @@ import subprocess
 import tempfile
 from urllib.parse import urlencode
 
-from replay import PROGRAM, Writer, be, build, least, text, timed
+from replay import PROGRAM, Writer, be, build, least, run_of, text
 
 DOCUMENT, FIRST_FOLDER = 1, 2
 # Add Folders, Delete objects, Manage properties
@@ -58,14 +58,6 @@ def schedule(folders, call=None, fields=(), facts=2):
         lines.append(b"request 0 %d\n%s\n" % (len(message), message) + b"step 0\n" * (facts + 4))
     lines.append(b"end\n")
     return b"".join(lines)
-
-
-def run_of(site, lines):
-    def run():
-        with open(lines, "rb") as given, open("/dev/null", "wb") as out:
-            return timed([PROGRAM, "replay", site], given, out)
-
-    return run
 
 
 def commits(site, lines):

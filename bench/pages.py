@@ -15,7 +15,7 @@ import time
 
 import jinja2
 
-from replay import PROGRAM, Writer, be, build, least, text, timed
+from replay import PROGRAM, Writer, be, build, least, run_of, text, timed
 
 HEADER = b"<html><head><title>&dtml-title;</title></head>\n<body>\n<h1>&dtml-title;</h1>\n"
 FOOTER = b'<p class="foot">A page of <dtml-var AUTHENTICATED_USER>.</p>\n</body></html>\n'
@@ -87,14 +87,6 @@ def schedule(pages):
         lines.append(b"request 0 %d\n%s\n" % (len(message), message) + b"step 0\n" * 7)
     lines.append(b"end\n")
     return b"".join(lines)
-
-
-def run_of(site, lines):
-    def run():
-        with open(lines, "rb") as given, open("/dev/null", "wb") as out:
-            return timed([PROGRAM, "replay", site], given, out)
-
-    return run
 
 
 class Document:

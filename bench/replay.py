@@ -96,6 +96,15 @@ def timed(words, given=None, out=None):
     return seconds, usage.ru_maxrss * 1024
 
 
+def run_of(site, lines):
+    """A run of the program, which replays a schedule over a site and prints to nowhere."""
+    def run():
+        with open(lines, "rb") as given, open("/dev/null", "wb") as out:
+            return timed([PROGRAM, "replay", site], given, out)
+
+    return run
+
+
 def least(run, rounds):
     """The least seconds of so many runs, and the greatest memory; each run gives both."""
     runs = [run() for _ in range(rounds)]
