@@ -1,3 +1,4 @@
+pub mod AheadRead
 mod Behind
 mod Scanning
 pub mod Backwards

@@ -19,6 +19,8 @@ use Rattle.fs_scan.specs.Followed.{MeansValues}
 use Rattle.fs_scan.specs.Marked.{AreRecords, NoRecords}
 use Rattle.fs_scan.specs.Present.{AllStand}
 use Rattle.fs_scan.specs.Wholes.{records_in}
+use Rattle.fs_scan.specs.Backs.{CostsBodies}
+use Rattle.fs_scan.proofs.ValuesRead.{CostAll, dearer, free}
 use Rattle.fs_scan.proofs.Walking.{same_ds}
 
 -- ---- the head
@@ -34,6 +36,10 @@ within told at b more s = omega (arith, ap length s.spelled, length-append (bloc
 pub no_head : (disk : Option Told) (len at left : ℕ) → ForSome disk (λ told. len ≡ length (content told)) → left ≡ len - at → left < 23 → HasHead disk at None
 no_head None len at left whole e few = tt
 no_head (Some told) len at left whole e few = λ b more s. absurd (omega (arith, within told at b more s, whole told refl, e, few))
+
+pub short_head : (disk : Option Told) (at : ℕ) → IfSome disk (λ told. length (content told) < at + 23) → HasHead disk at None
+short_head None at short = tt
+short_head (Some told) at short = λ b more s. absurd (omega (arith, within told at b more s, short))
 
 -- bytes whose head was read
 headed : (rest piece : List ℕ) (h : TxnHead) → piece ≡ take 23 rest → piece ≡ txn_head h ++ drop 23 piece → length piece ≡ 23 → rest ≡ txn_head h ++ drop 23 rest
@@ -130,16 +136,39 @@ taken_inside : (b : Block) (more : List ℕ) (size : ℕ) → length (inside_spe
 unfolding behind_texts
 taken_inside b more size long = take_at (inside_spelling b.inside) (be64 b.tail ++ more) size long
 
+-- what was read behind the texts is the records
+area_records : (told : Told) (len at place size : ℕ) (h : TxnHead) (area : List ℕ) (b : Block) (ds : List Data) (more : List ℕ) → len ≡ length (content told) → len < 2 ^ 64 → area ≡ bytes_at told place size
+    → place ≡ min (at + texts_end h) 18446744073709551615 → size ≡ h.length - texts_end h → Stands b (drop at (content told)) more → b.inside ≡ Records ds → h ≡ txn_head_of b → AreRecords area ds
+area_records told len at place size h area b ds more whole lt there here long s is e =
+    let end = end_of h b e in
+    let front = txn_head (txn_head_of b) ++ texts_spelling b.texts in
+    let rest = drop at (content told) in
+    let place_is : place ≡ at + texts_end h = omega (arith, within told at b more s, whole, lt, here, end) in
+    let dropped : drop place (content told) ≡ behind_texts b more =
+    ap (λ (n : ℕ). drop n (content told)) place_is ∙ sym (drop-drop (texts_end h) at (content told)) ∙ ap (drop (texts_end h)) (fronted b rest more s) ∙ drop_at front (behind_texts b more) (texts_end h) (long_front b ∙ sym end) in
+    let size_is : length (inside_spelling b.inside) ≡ size = omega (arith, long, long_is h b e, end) in
+    fits_records b.status b.inside ds area s.fits.inside is (there ∙ ap (take size) dropped ∙ taken_inside b more size size_is)
+
 pub reads_values : (disk moved : Option Told) (len at place size : ℕ) (h : TxnHead) (area : List ℕ) (found : Option (List OidValue)) → moved ≡ disk → ForSome disk (λ told. len ≡ length (content told)) → len < 2 ^ 64 → IfSome disk (λ told. area ≡ bytes_at told place size)
     → place ≡ min (at + texts_end h) 18446744073709551615 → size ≡ h.length - texts_end h → MatchOption found (NoRecords area) (MeansValues moved area) → HasValues disk at h found
 reads_values None moved len at place size h area found same whole lt there here long says = tt
 reads_values (Some told) moved len at place size h area found same whole lt there here long says = λ b ds more records s is e stand right.
-    let end = end_of h b e in
-    let front = txn_head (txn_head_of b) ++ texts_spelling b.texts in
-    let rest = drop at (content told) in
-    let place_is : place ≡ at + texts_end h = omega (arith, within told at b more s, whole told refl, lt, here, end) in
-    let dropped : drop place (content told) ≡ behind_texts b more =
-    ap (λ (n : ℕ). drop n (content told)) place_is ∙ sym (drop-drop (texts_end h) at (content told)) ∙ ap (drop (texts_end h)) (fronted b rest more s) ∙ drop_at front (behind_texts b more) (texts_end h) (long_front b ∙ sym end) in
-    let size_is : length (inside_spelling b.inside) ≡ size = omega (arith, long, long_is h b e, end) in
-    let area_is : area ≡ inside_spelling b.inside = there ∙ ap (take size) dropped ∙ taken_inside b more size size_is in
-    found_values told area found ds records (fits_records b.status b.inside ds area s.fits.inside is area_is) (subst (λ (d : Option Told). MatchOption found (NoRecords area) (MeansValues d area)) same says) stand right
+    found_values told area found ds records (area_records told len at place size h area b ds more (whole told refl) lt there here long s is e)
+    (subst (λ (d : Option Told). MatchOption found (NoRecords area) (MeansValues d area)) same says) stand right
+
+-- ---- what they cost
+
+-- what is said of it behind this head
+abbrev pub HasCosts : Option Told → ℕ → TxnHead → ℕ → ℕ → Type 0
+HasCosts disk at h calls now = IfSome disk (λ told. (b : Block) (ds : List Data) (more : List ℕ) (records : List Earlier) → Stands b (drop at (content told)) more → b.inside ≡ Records ds → h ≡ txn_head_of b → AllStand (content told) records → list_all (has_body (rows records)) ds ≡ true → CostsBodies (content told) ds calls now)
+
+pub free_costs : (disk : Option Told) (at : ℕ) (h : TxnHead) (calls now : ℕ) → now ≤ calls → HasCosts disk at h calls now
+free_costs None at h calls now le = tt
+free_costs (Some told) at h calls now le = λ b ds more records s is e stand right. free (content told) ds calls now le
+
+pub reads_costs : (disk moved : Option Told) (len at place size : ℕ) (h : TxnHead) (area : List ℕ) (calls mid now : ℕ) → moved ≡ disk → ForSome disk (λ told. len ≡ length (content told)) → len < 2 ^ 64 → IfSome disk (λ told. area ≡ bytes_at told place size)
+    → place ≡ min (at + texts_end h) 18446744073709551615 → size ≡ h.length - texts_end h → mid ≤ calls → CostAll moved area mid now → HasCosts disk at h calls now
+reads_costs None moved len at place size h area calls mid now same whole lt there here long le costs = tt
+reads_costs (Some told) moved len at place size h area calls mid now same whole lt there here long le costs = λ b ds more records s is e stand right.
+    dearer (content told) ds calls mid now le
+    (subst (λ (d : Option Told). CostAll d area mid now) same costs ds records (area_records told len at place size h area b ds more (whole told refl) lt there here long s is e) stand right)

@@ -2,7 +2,8 @@
 --
 -- FileStorage format notes: a data record has data, or it points back to an earlier record of the object; 0 means no
 -- value.
-use Rattle.std.specs.Prelude.{◌≡◌, ◌⊎◌, ◌+◌, ◌*◌, ◌<◌, ◌≤◌, ◌++◌, ℕ, zero, suc, List, drop, None}
+use Rattle.std.specs.Prelude.{◌≡◌, ◌⊎◌, ◌+◌, ◌*◌, ◌<◌, ◌≤◌, ◌++◌, ℕ, zero, suc, List, [], ◌∷◌, drop, None}
+use Rattle.fs_record.specs.declared.body.Body.{Body}
 use Rattle.fs_record.specs.declared.body.Body.TheVariants.{Back, Full}
 use Rattle.fs_record.specs.File.{Earlier, value_at}
 use Rattle.fs_record.specs.Fits.{FitsData}
@@ -29,6 +30,17 @@ pub record CostsBacks (bytes : List ℕ) (place calls more : ℕ) : Type 0 where
   pub at : ℕ
   pub leads : LeadsTo bytes backs place at
   pub within : more ≤ calls + 1 + 2 * backs
+
+-- What it may cost to know the value of a record that was read: nothing where it has data; two calls for the record to
+-- which it points back, and two for each back pointer that leads on from there.
+abbrev pub CostsBody : List ℕ → Body → ℕ → ℕ → Type 0
+CostsBody bytes (Full value) calls more = more ≤ calls
+CostsBody bytes (Back place) calls more = (backs : ℕ) × (at : ℕ) × LeadsTo bytes backs place at × (more ≤ calls + 2 + 2 * backs)
+
+-- and to know those of records that were read, one after another
+abbrev pub CostsBodies : List ℕ → List Data → ℕ → ℕ → Type 0
+CostsBodies bytes [] calls more = more ≤ calls
+CostsBodies bytes (d ∷ ds) calls more = (mid : ℕ) × CostsBody bytes d.body calls mid × CostsBodies bytes ds mid more
 
 -- a data record that has data stands at the place
 pub record HasData (bytes : List ℕ) (place : ℕ) : Type 0 where

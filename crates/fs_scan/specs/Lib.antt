@@ -1,3 +1,4 @@
+pub mod Ahead
 pub mod Found
 pub mod Marked
 pub mod Extent

@@ -7,7 +7,7 @@ ghost use Rattle.fs_record.specs.File.{Earlier, value_at};
 ghost use Rattle.fs_record.specs.Fits.{FitsData};
 ghost use Rattle.fs_record.specs.Spelling.{Data, data_spelling, head_of};
 ghost use Rattle.fs_record.specs.Standing.{IsPlace};
-ghost use Rattle.fs_scan.specs.Backs.{CostsBacks, HasDataOf};
+ghost use Rattle.fs_scan.specs.Backs.{CostsBacks, CostsBody, HasDataOf};
 ghost use Rattle.fs_scan.specs.OnlyReads.{OnlyReads};
 ghost use Rattle.fs_scan.specs.Present.{AllStand};
 
@@ -191,6 +191,8 @@ pub fn follow<D: Disk>(
     ensures value { IfOk result (λ value. IfSome (D.told disk.old)
         (λ told. (records : List Earlier) (oid : ℕ) → AllStand (content told) records → IsPlace records oid place → value ≡ value_at place records)) }
     ensures undamaged { (kind : Kind) (place : ℕ) → IsErrOf result (ScanRefusal.Damaged kind place) → ⊥ }
+    ensures reads { IfSome (D.told disk.old) (λ told. (records : List Earlier) (oid : ℕ) → AllStand (content told) records → IsPlace records oid place
+        → CostsBody (content told) (Back place) (D.counter disk.old).calls (D.counter disk.new).calls) }
     ensures only_reads { OnlyReads D.Disk disk.old disk.new (IsErrOf result ScanRefusal.Disk) }
 {
     match read_head(disk, len, place)? {

@@ -7,6 +7,7 @@
 //! asked for. `specs/OnlyReads` says what all of them leave.
 #![tactic(auto)]
 
+mod ahead;
 mod checking;
 mod data;
 mod extent;
@@ -24,6 +25,7 @@ mod walk;
 mod wholes;
 mod window;
 
+pub use ahead::Ahead;
 pub use checking::{Checked, check};
 pub use following::{data_place, follow_from, read_head};
 pub use opening::{ScanRefusal, Scanned, scan};

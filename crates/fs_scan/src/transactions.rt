@@ -1,4 +1,4 @@
-ghost use Rattle.std.specs.Prelude.{◌≡◌, ◌+◌, ◌<◌, ◌≤◌, ℕ, List, IfOk, IfSome, IsErr, IsErrOf, MatchOption, Some, drop, length, true};
+ghost use Rattle.std.specs.Prelude.{◌≡◌, ◌+◌, ◌<◌, ◌≤◌, ℕ, List, IfOk, IfSome, IsErr, IsErrOf, MatchOption, OnOk, Some, drop, length, true};
 ghost use Rattle.std.specs.Option.{ForSome, option_map};
 ghost use Rattle.std.specs.List.{list_all};
 ghost use Rattle.zdisk.specs.Disk.{bytes_at, content};
@@ -6,6 +6,7 @@ ghost use Rattle.fs_record.specs.declared.damage.Damage.{Damage as Kind};
 ghost use Rattle.fs_record.specs.File.{Earlier, has_body, rows, values_of};
 ghost use Rattle.fs_record.specs.Opening.{Stands};
 ghost use Rattle.fs_record.specs.Spelling.{Block, Data, Records, txn_head_of};
+ghost use Rattle.fs_scan.specs.Backs.{CostsBodies};
 ghost use Rattle.fs_scan.specs.OnlyReads.{OnlyReads};
 ghost use Rattle.fs_scan.specs.Present.{AllStand};
 ghost use Rattle.fs_scan.specs.Wholes.{records_in};
@@ -91,7 +92,8 @@ pub fn texts_at<D: Disk>(
 }
 
 /// The values that the transaction with this head at a place gives, in a disk's file of this length, back pointers
-/// followed. None only where no such transaction stands there.
+/// followed. None only where no such transaction stands there. One device call at most for all its records, and for each
+/// back pointer what it costs to follow it.
 pub fn values_at<D: Disk>(
     alloc: Global,
     disk: &mut D,
@@ -104,6 +106,10 @@ pub fn values_at<D: Disk>(
         (λ told. (b : Block) (ds : List Data) (more : List ℕ) (records : List Earlier) → Stands b (drop at (content told)) more
         → b.inside ≡ Records ds → head.now ≡ txn_head_of b → AllStand (content told) records → list_all (has_body (rows records)) ds ≡ true
         → option_map records_in found ≡ Some (values_of records ds))) }
+    ensures reads { OnOk result (IfSome (D.told disk.old)
+        (λ told. (b : Block) (ds : List Data) (more : List ℕ) (records : List Earlier) → Stands b (drop at (content told)) more
+        → b.inside ≡ Records ds → head.now ≡ txn_head_of b → AllStand (content told) records → list_all (has_body (rows records)) ds ≡ true
+        → CostsBodies (content told) ds ((D.counter disk.old).calls + 1) (D.counter disk.new).calls)) }
     ensures undamaged { (kind : Kind) (place : ℕ) → IsErrOf result (ScanRefusal.Damaged kind place) → ⊥ }
     ensures only_reads { OnlyReads D.Disk disk.old disk.new (IsErrOf result ScanRefusal.Disk) }
 {

@@ -1,9 +1,11 @@
-ghost use Rattle.std.specs.Prelude.{◌≡◌, ◌+◌, ◌<◌, ◌≤◌, ℕ, List, IfOk, IfSome, IsErrOf, MatchOption, length, true};
+ghost use Rattle.std.specs.Prelude.{◌≡◌, ◌+◌, ◌<◌, ◌≤◌, ℕ, List, IfOk, IfSome, IsErrOf, MatchOption, OnOk, length, true};
+ghost use Rattle.std.specs.List.{list_all};
 ghost use Rattle.std.specs.Option.{ForSome};
 ghost use Rattle.zdisk.specs.Disk.{content};
 ghost use Rattle.fs_record.specs.declared.damage.Damage.{Damage as Kind};
 ghost use Rattle.fs_record.specs.File.{Earlier, has_body, rows, value_of};
 ghost use Rattle.fs_record.specs.Spelling.{Data};
+ghost use Rattle.fs_scan.specs.Backs.{CostsBodies, CostsBody};
 ghost use Rattle.fs_scan.specs.Extent.{IsWhole, area_in};
 ghost use Rattle.fs_scan.specs.Followed.{MeansValues, MeansWhole};
 ghost use Rattle.fs_scan.specs.Found.{data_in};
@@ -35,6 +37,9 @@ fn value_at_front<D: Disk>(
     ensures value { IfOk result (λ value. IfSome (D.told disk.old)
         (λ told. (records : List Earlier) → AllStand (content told) records → has_body (rows records) (data_in found.now rest.now) ≡ true
         → value ≡ value_of records (data_in found.now rest.now).body)) }
+    ensures reads { IfSome (D.told disk.old) (λ told. (records : List Earlier) → AllStand (content told) records
+        → has_body (rows records) (data_in found.now rest.now) ≡ true
+        → CostsBody (content told) (data_in found.now rest.now).body (D.counter disk.old).calls (D.counter disk.new).calls) }
     ensures undamaged { (kind : Kind) (place : ℕ) → IsErrOf result (ScanRefusal.Damaged kind place) → ⊥ }
     ensures only_reads { OnlyReads D.Disk disk.old disk.new (IsErrOf result ScanRefusal.Disk) }
 {
@@ -57,6 +62,9 @@ pub fn read_values<D: Disk>(
 ) -> Result<Option<OidValues>, ScanRefusal>
     requires { ForSome (D.told disk.old) (λ told. len ≡ length (content told)) }
     ensures values { IfOk result (λ found. MatchOption found (NoRecords area.now) (MeansValues (D.told disk.old) area.now)) }
+    ensures reads { OnOk result (IfSome (D.told disk.old) (λ told. (ds : List Data) (records : List Earlier) → AreRecords area.now ds
+        → AllStand (content told) records → list_all (has_body (rows records)) ds ≡ true
+        → CostsBodies (content told) ds (D.counter disk.old).calls (D.counter disk.new).calls)) }
     ensures undamaged { (kind : Kind) (place : ℕ) → IsErrOf result (ScanRefusal.Damaged kind place) → ⊥ }
     ensures only_reads { OnlyReads D.Disk disk.old disk.new (IsErrOf result ScanRefusal.Disk) }
 {

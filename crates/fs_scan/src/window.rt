@@ -99,8 +99,13 @@ impl Window {
         &self.buffer[..self.long]
     }
 
-    // Reads so many bytes at a place, with one device call; none are shown where it fails.
-    fn read<D: Disk>(&mut self, disk: &mut D, at: u64, size: u64) -> Result<(), ScanRefusal>
+    /// Reads so many bytes at a place, with one device call; none are shown where it fails.
+    pub(crate) fn read<D: Disk>(
+        &mut self,
+        disk: &mut D,
+        at: u64,
+        size: u64,
+    ) -> Result<(), ScanRefusal>
         requires { HasRange (D.told disk.old) at size }
         ensures bytes { OnOk result (IfSome (D.told disk.old) (λ told. self.new ≡ bytes_at told at size)) }
         ensures size { OnOk result (length self.new ≡ size) }
