@@ -13,6 +13,7 @@ pub mod OpeningMoments
 pub mod PutBack
 pub mod Readings
 pub mod Stale
+pub mod Sought
 pub mod Sorting
 pub mod Sound
 pub mod Tellings

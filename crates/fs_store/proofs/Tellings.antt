@@ -1,5 +1,5 @@
 -- What is said of a disk where it tells.
-use Rattle.std.proofs.Common.{◌≡◌, Option, Some, None, IfSome, sym, subst}
+use Rattle.std.proofs.Common.{◌≡◌, Option, Some, None, IfSome, Result, Ok, Err, IfOk, sym, subst}
 use Rattle.zdisk.specs.Disk.{Told}
 
 pub always : (o : Option Told) (Q : Told → Type 0) → ((s : Told) → Q s) → IfSome o Q
@@ -25,3 +25,8 @@ on_four (Some s) P Q R S T f p q r t = f s p q r t
 -- the same of a disk that tells the same
 pub moved : (o u : Option Told) (P : Told → Type 0) → u ≡ o → IfSome o P → IfSome u P
 moved o u P same p = subst (λ (x : Option Told). IfSome x P) (sym same) p
+
+-- the same of what a call answers at Ok
+pub on_ok : {X E : Type 0} (r : Result X E) (P Q : X → Type 0) → ((x : X) → P x → Q x) → IfOk r P → IfOk r Q
+on_ok (Ok x) P Q f p = f x p
+on_ok (Err e) P Q f p = tt

@@ -1,41 +1,35 @@
 -- A walk over the heads of a store's file: the transactions so far.
-use Rattle.std.proofs.Common.{◌≡◌, ℕ, ◌+◌, ◌<◌, ◌≤◌, ◌^◌, ◌==◌, Bool, true, false, cond, List, [], ◌∷◌, ◌++◌, map, filter, find, length, drop, Option, Some, None, refl, sym, ap, ap₂, subst, ◌∙◌, append_assoc, append-nil, arith, inl, inr}
+use Rattle.std.proofs.Common.{◌≡◌, ℕ, ◌+◌, ◌*◌, ◌<◌, ◌≤◌, ◌^◌, ◌==◌, Bool, true, false, cond, List, [], ◌∷◌, ◌++◌, map, filter, length, drop, Option, Some, None, refl, sym, ap, ap₂, subst, ◌∙◌, append_assoc, append-nil, arith, inl, inr}
 use Rattle.std.specs.Prelude.{◌⊎◌, ◌&&◌, nat_le, nat_lt}
-use Rattle.std.specs.List.{list_all}
-use Rattle.std.specs.Option.{option_map}
 use Rattle.std.proofs.lemmas.Bool.{false≢true}
 use Rattle.std.proofs.lemmas.List.{drop_at, length-append, length-take, map-append, take-append-drop}
 use Rattle.std.proofs.lemmas.List.Elements.{filter-append}
 use Rattle.zbase.specs.History.{Transaction}
-use Rattle.zbase.specs.Values.{last, transaction, upto}
-use Rattle.zbase.specs.declared.ids.Row.{Row}
+use Rattle.zbase.specs.Values.{upto}
 use Rattle.zdisk.specs.Disk.{Told, content}
 use Rattle.evaluator.specs.Facts.{log_row, unpacked}
 use Rattle.evaluator.specs.declared.fact.LogRow.{LogRow}
-use Rattle.fs_record.specs.declared.damage.Damage.TheVariants.{BadTid, BadPrev, BadBack}
 use Rattle.fs_record.specs.declared.body.TxnTexts.{TxnTexts}
 use Rattle.fs_record.specs.declared.heads.TxnHead.{TxnHead}
-use Rattle.fs_record.specs.File.{AreRight, Earlier, Front, after_in, bytes_of, fault_in, front_of, has_body, rows, transaction_of, values_of}
+use Rattle.fs_record.specs.File.{AreRight, Front, after_in, bytes_of, front_of, rows, transaction_of}
 use Rattle.fs_record.specs.Fits.{FitsInside}
 use Rattle.fs_record.specs.Opening.{Stands}
 use Rattle.fs_record.specs.Spelling.{Block, Data, Inside, Records, Skipped, block_spelling, long_of, txn_head_of}
 use Rattle.fs_record.specs.SpellingLaws.{length-block}
-use Rattle.fs_record.specs.StandingLaws.{each_stands, passed}
-use Rattle.fs_scan.specs.declared.wholes.OidValue.{OidValue}
+use Rattle.fs_record.specs.StandingLaws.{each_stands}
 use Rattle.fs_scan.specs.Present.{AllStand}
-use Rattle.fs_scan.specs.Wholes.{records_in}
 use Rattle.fs_store.specs.declared.file.OpenFile.{OpenFile}
 use Rattle.fs_store.specs.Fronts.{file_at, history_at}
 use Rattle.fs_store.specs.Knowing.{Knows}
-use Rattle.fs_store.specs.Parts.{behind, is_logged, is_with, records_of, row_of}
+use Rattle.fs_store.specs.Parts.{CostsLog, behind, is_logged, row_of}
 
 -- ---- the first of a file's blocks, which stand newest first
 
-right_part : (xs ys : List Block) → AreRight (xs ++ ys) → AreRight ys
+pub right_part : (xs ys : List Block) → AreRight (xs ++ ys) → AreRight ys
 right_part [] ys right = right
 right_part (x ∷ xs) ys right = right_part xs ys right.1
 
-bytes_part : (xs ys : List Block) → (z : List ℕ) × (bytes_of (xs ++ ys) ≡ bytes_of ys ++ z)
+pub bytes_part : (xs ys : List Block) → (z : List ℕ) × (bytes_of (xs ++ ys) ≡ bytes_of ys ++ z)
 bytes_part [] ys = ([], sym (append-nil (bytes_of ys)))
 bytes_part (x ∷ xs) ys = let r = bytes_part xs ys in (r.0 ++ block_spelling x, ap (λ (z : List ℕ). z ++ block_spelling x) r.1 ∙ append_assoc (bytes_of ys) r.0 (block_spelling x))
 
@@ -74,14 +68,14 @@ pub walked_none : (told : Told) (known : OpenFile) → Knows told known → Walk
 walked_none told known k = record { knows = k; later = k.file.blocks; gone = []; all = sym (append-nil k.file.blocks); place_is = refl; said = refl }
 
 -- this block stands next
-record NextIs (told : Told) (known : OpenFile) (place : ℕ) (ts : List Transaction) (later : List Block) (b : Block) : Type 0 where
-  knows : Knows told known
-  gone : List Block
-  all : knows.file.blocks ≡ later ++ b ∷ gone
-  place_is : place ≡ length (bytes_of gone)
-  said : (front_of gone).history.transactions ≡ ts
+pub record NextIs (told : Told) (known : OpenFile) (place : ℕ) (ts : List Transaction) (later : List Block) (b : Block) : Type 0 where
+  pub knows : Knows told known
+  pub gone : List Block
+  pub all : knows.file.blocks ≡ later ++ b ∷ gone
+  pub place_is : place ≡ length (bytes_of gone)
+  pub said : (front_of gone).history.transactions ≡ ts
 
-long_file : (told : Told) (known : OpenFile) → Knows told known → length (file_at told known.end) ≡ known.end
+pub long_file : (told : Told) (known : OpenFile) → Knows told known → length (file_at told known.end) ≡ known.end
 long_file told known k = omega (arith, length-take known.end (content told), k.within)
 
 next_by : (told : Told) (known : OpenFile) (place : ℕ) (ts : List Transaction) (w : WalkedTo told known place ts) → place < known.end → (w.later ≡ []) ⊎ ((ys : List Block) × (y : Block) × (w.later ≡ ys ++ y ∷ [])) → (later : List Block) × (b : Block) × NextIs told known place ts later b
@@ -100,32 +94,43 @@ next_by told known place ts w lt (inr s) = (
   },
 )
 
+next_gone : (told : Told) (known : OpenFile) (place : ℕ) (ts : List Transaction) (w : WalkedTo told known place ts) (lt : place < known.end) (s : (w.later ≡ []) ⊎ ((ys : List Block) × (y : Block) × (w.later ≡ ys ++ y ∷ []))) → (next_by told known place ts w lt s).2.gone ≡ w.gone
+unfolding next_by
+next_gone told known place ts w lt (inl none) =
+    let gone : w.knows.file.blocks ≡ w.gone = w.all ∙ ap (λ (z : List Block). z ++ w.gone) none in
+    absurd (omega (arith, lt, w.place_is, long_file told known w.knows, ap length w.knows.file.spelled, ap (λ (z : List Block). length (bytes_of z)) gone))
+next_gone told known place ts w lt (inr s) = refl
+
 next_is : (told : Told) (known : OpenFile) (place : ℕ) (ts : List Transaction) → WalkedTo told known place ts → place < known.end → (later : List Block) × (b : Block) × NextIs told known place ts later b
 next_is told known place ts w lt = next_by told known place ts w lt (last_of w.later)
 
+next_is_gone : (told : Told) (known : OpenFile) (place : ℕ) (ts : List Transaction) (w : WalkedTo told known place ts) (lt : place < known.end) → (next_is told known place ts w lt).2.gone ≡ w.gone
+unfolding next_is
+next_is_gone told known place ts w lt = next_gone told known place ts w lt (last_of w.later)
+
 module _ (told : Told) (known : OpenFile) (place : ℕ) (ts : List Transaction) (later : List Block) (b : Block) (n : NextIs told known place ts later b) where
-  rights : AreRight (b ∷ n.gone)
+  pub rights : AreRight (b ∷ n.gone)
   rights = right_part later (b ∷ n.gone) (subst AreRight n.all n.knows.file.right)
 
   -- what stands behind it in the file
   rest_in : List ℕ
   rest_in = (bytes_part later (b ∷ n.gone)).0
 
-  rest : List ℕ
+  pub rest : List ℕ
   rest = rest_in ++ drop known.end (content told)
 
   file_is : file_at told known.end ≡ (bytes_of n.gone ++ block_spelling b) ++ rest_in
   unfolding rest_in
   file_is = n.knows.file.spelled ∙ ap bytes_of n.all ∙ (bytes_part later (b ∷ n.gone)).1
 
-  content_is : content told ≡ bytes_of n.gone ++ (block_spelling b ++ rest)
+  pub content_is : content told ≡ bytes_of n.gone ++ (block_spelling b ++ rest)
   unfolding rest
   content_is = sym (take-append-drop known.end (content told)) ∙ ap (λ (z : List ℕ). z ++ drop known.end (content told)) file_is ∙ regroup (bytes_of n.gone) (block_spelling b) rest_in (drop known.end (content told))
     where
       regroup : (x y z w : List ℕ) → ((x ++ y) ++ z) ++ w ≡ x ++ (y ++ (z ++ w))
       regroup x y z w = simp append_assoc
 
-  stands : Stands b (drop place (content told)) rest
+  pub stands : Stands b (drop place (content told)) rest
   stands = record {
     fits = rights.0.fits;
     spelled = ap (drop place) content_is ∙ drop_at (bytes_of n.gone) (block_spelling b ++ rest) place (sym n.place_is);
@@ -134,7 +139,7 @@ module _ (told : Told) (known : OpenFile) (place : ℕ) (ts : List Transaction) 
   ends : place + (long_of b + 8) ≤ known.end
   ends = omega (arith, n.place_is, long_file told known n.knows, ap length file_is, length-append (bytes_of n.gone ++ block_spelling b) rest_in, length-append (bytes_of n.gone) (block_spelling b), length-block b)
 
-  all_stand : AllStand (content told) (front_of n.gone).records
+  pub all_stand : AllStand (content told) (front_of n.gone).records
   all_stand = subst (λ (bytes : List ℕ). AllStand bytes (front_of n.gone).records) (sym content_is) (each_stands (bytes_of n.gone) (block_spelling b ++ rest) (front_of n.gone) (record { blocks = n.gone; right = rights.1; spelled = refl; said = refl }))
 
   -- behind it
@@ -147,6 +152,10 @@ module _ (told : Told) (known : OpenFile) (place : ℕ) (ts : List Transaction) 
     place_is = omega (arith, is, n.place_is, length-append (bytes_of n.gone) (block_spelling b), length-block b);
     said = said;
   }
+
+  walked_on_gone : (next : ℕ) (more : List Transaction) (is : next ≡ place + (long_of b + 8)) (said : (after_in (front_of n.gone) b b.inside).history.transactions ≡ more) → (walked_on next more is said).gone ≡ b ∷ n.gone
+  unfolding walked_on
+  walked_on_gone next more is said = refl
 
 -- the head that was read is the next one's
 head_is : (b : Block) (head : TxnHead) → Some head ≡ Some (txn_head_of b) → head ≡ txn_head_of b
@@ -174,103 +183,16 @@ walked_all told known place ts w le = by_last (last_of w.later)
         let n : NextIs told known place ts s.0 s.1 = record { knows = w.knows; gone = w.gone; all = w.all ∙ ap (λ (z : List Block). z ++ w.gone) s.2 ∙ append_assoc s.0 (s.1 ∷ []) w.gone; place_is = w.place_is; said = w.said } in
         absurd (omega (arith, ends told known place ts s.0 s.1 n, le))
 
--- ---- the transaction that is wanted
-
-abbrev pub found_in : List Transaction → ℕ → Option Transaction
-found_in ts tid = find (λ (x : Transaction). x.tid == tid) ts
-
-none_more : (ts : List Transaction) (x : Transaction) (tid : ℕ) → found_in ts tid ≡ None → (x.tid == tid) ≡ false → found_in (ts ++ x ∷ []) tid ≡ None
-none_more [] x tid none other = rw other refl
-none_more (y ∷ ys) x tid none other = go (y.tid == tid) none (none_more ys x tid)
-  where
-    go : (b : Bool) → cond b (Some y) (found_in ys tid) ≡ None → (found_in ys tid ≡ None → (x.tid == tid) ≡ false → found_in (ys ++ x ∷ []) tid ≡ None) → cond b (Some y) (found_in (ys ++ x ∷ []) tid) ≡ None
-    go true e deeper = absurd cc
-    go false e deeper = deeper e other
-
-found_there : (ts more : List Transaction) (x : Transaction) (tid : ℕ) → found_in ts tid ≡ None → (x.tid == tid) ≡ true → found_in (ts ++ x ∷ more) tid ≡ Some x
-found_there [] more x tid none own = rw own refl
-found_there (y ∷ ys) more x tid none own = go (y.tid == tid) none (found_there ys more x tid)
-  where
-    go : (b : Bool) → cond b (Some y) (found_in ys tid) ≡ None → (found_in ys tid ≡ None → (x.tid == tid) ≡ true → found_in (ys ++ x ∷ more) tid ≡ Some x) → cond b (Some y) (found_in (ys ++ x ∷ more) tid) ≡ Some x
-    go true e deeper = absurd cc
-    go false e deeper = deeper e own
-
--- none of those before the place has the id
-pub record Sought (told : Told) (known : OpenFile) (place tid : ℕ) : Type 0 where
-  pub ts : List Transaction
-  pub walked : WalkedTo told known place ts
-  pub none : found_in ts tid ≡ None
-
-pub sought_none : (told : Told) (known : OpenFile) (tid : ℕ) → Knows told known → Sought told known 4 tid
-sought_none told known tid k = record { ts = []; walked = walked_none told known k; none = refl }
-
 -- by whether the block counts, what its front says behind it
-skipped_said : (front : Front) (b : Block) (i : Inside) → FitsInside b.status i → (b.status == 117) ≡ true → (after_in front b i).history.transactions ≡ front.history.transactions
+pub skipped_said : (front : Front) (b : Block) (i : Inside) → FitsInside b.status i → (b.status == 117) ≡ true → (after_in front b i).history.transactions ≡ front.history.transactions
 unfolding after_in
 skipped_said front b (Skipped bytes) fits undone = refl
 skipped_said front b (Records ds) fits undone = absurd (false≢true (sym fits.0 ∙ undone))
 
-counted_said : (front : Front) (b : Block) (i : Inside) → FitsInside b.status i → (b.status == 117) ≡ false → (ds : List Data) × (i ≡ Records ds) × ((after_in front b i).history.transactions ≡ front.history.transactions ++ transaction_of front.records b ds ∷ [])
+pub counted_said : (front : Front) (b : Block) (i : Inside) → FitsInside b.status i → (b.status == 117) ≡ false → (ds : List Data) × (i ≡ Records ds) × ((after_in front b i).history.transactions ≡ front.history.transactions ++ transaction_of front.records b ds ∷ [])
 unfolding after_in
 counted_said front b (Skipped bytes) fits counted = absurd (false≢true (sym counted ∙ fits))
 counted_said front b (Records ds) fits counted = (ds, refl, refl)
-
-pub sought_more : (told : Told) (known : OpenFile) (place tid next : ℕ) (head : TxnHead) → known.end < 2 ^ 64 → Sought told known place tid → place < known.end → Tells told place (Some head) → is_with tid head ≡ false → next ≡ behind place head → Sought told known next tid
-sought_more told known place tid next head lt64 s lt tells other is =
-    let n = next_is told known place s.ts s.walked lt in
-    let b = n.1 in
-    let h : head ≡ txn_head_of b = head_is b head (tells b (rest told known place s.ts n.0 b n.2) (stands told known place s.ts n.0 b n.2)) in
-    let at : next ≡ place + (long_of b + 8) = is ∙ next_place told known place b head lt64 (ends told known place s.ts n.0 b n.2) h in
-    go n.0 b n.2 at (sym (ap (is_with tid) h) ∙ other) (b.status == 117) refl
-  where
-    go : (later : List Block) (b : Block) (n : NextIs told known place s.ts later b) → next ≡ place + (long_of b + 8) → is_with tid (txn_head_of b) ≡ false → (t : Bool) → (b.status == 117) ≡ t → Sought told known next tid
-    go later b n at miss true undone = record {
-      ts = s.ts;
-      walked = walked_on told known place s.ts later b n next s.ts at (skipped_said (front_of n.gone) b b.inside (rights told known place s.ts later b n).0.fits.inside undone ∙ n.said);
-      none = s.none;
-    }
-    go later b n at miss false counted =
-        let c = counted_said (front_of n.gone) b b.inside (rights told known place s.ts later b n).0.fits.inside counted in
-        let x = transaction_of (front_of n.gone).records b c.0 in
-        let tid_not : (b.tid == tid) ≡ false = ap (λ (u : Bool). cond u false (b.tid == tid)) (sym counted) ∙ miss in
-        record {
-          ts = s.ts ++ x ∷ [];
-          walked = walked_on told known place s.ts later b n next (s.ts ++ x ∷ []) at (c.2 ∙ ap (λ (z : List Transaction). z ++ x ∷ []) n.said);
-          none = none_more s.ts x tid s.none tid_not;
-        }
-
-pub sought_all : (told : Told) (known : OpenFile) (place tid : ℕ) → Sought told known place tid → known.end ≤ place → None ≡ option_map records_of (transaction (history_at told known.end) tid)
-sought_all told known place tid s le = sym (ap (option_map records_of) (ap (λ (ts : List Transaction). found_in ts tid) (walked_all told known place s.ts s.walked le) ∙ s.none))
-
-right_bodies : (place t : ℕ) (rs : List Row) (b : Block) (ds : List Data) → fault_in place t rs b (Records ds) ≡ None → list_all (has_body rs) ds ≡ true
-unfolding fault_in
-right_bodies place t rs b ds e = (passed _ _ BadBack (passed _ _ BadPrev (passed _ _ BadTid e).1).1).0
-
--- what is said of the values that were read behind this head
-abbrev pub GivesValues : Told → ℕ → TxnHead → Option (List OidValue) → Type 0
-GivesValues told place head found = (b : Block) (ds : List Data) (more : List ℕ) (records : List Earlier) → Stands b (drop place (content told)) more → b.inside ≡ Records ds → head ≡ txn_head_of b → AllStand (content told) records → list_all (has_body (rows records)) ds ≡ true → option_map records_in found ≡ Some (values_of records ds)
-
-pub sought_here : (told : Told) (known : OpenFile) (place tid : ℕ) (head : TxnHead) (found : Option (List OidValue)) → Sought told known place tid → place < known.end → Tells told place (Some head) → is_with tid head ≡ true → GivesValues told place head found → option_map records_in found ≡ option_map records_of (transaction (history_at told known.end) tid)
-sought_here told known place tid head found s lt tells own gives =
-    let n = next_is told known place s.ts s.walked lt in
-    let b = n.1 in
-    let h : head ≡ txn_head_of b = head_is b head (tells b (rest told known place s.ts n.0 b n.2) (stands told known place s.ts n.0 b n.2)) in
-    go n.0 b n.2 h (sym (ap (is_with tid) h) ∙ own) (b.status == 117) refl
-  where
-    go : (later : List Block) (b : Block) (n : NextIs told known place s.ts later b) → head ≡ txn_head_of b → is_with tid (txn_head_of b) ≡ true → (t : Bool) → (b.status == 117) ≡ t → option_map records_in found ≡ option_map records_of (transaction (history_at told known.end) tid)
-    go later b n h hit true undone = absurd (false≢true (ap (λ (u : Bool). cond u false (b.tid == tid)) (sym undone) ∙ hit))
-    go later b n h hit false counted =
-        let right = (rights told known place s.ts later b n).0 in
-        let front = front_of n.gone in
-        let c = counted_said front b b.inside right.fits.inside counted in
-        let x = transaction_of front.records b c.0 in
-        let tid_is : (b.tid == tid) ≡ true = ap (λ (u : Bool). cond u false (b.tid == tid)) (sym counted) ∙ hit in
-        let bodies = right_bodies front.place (last front.history) (rows front.records) b c.0 (subst (λ (i : Inside). fault_in front.place (last front.history) (rows front.records) b i ≡ None) c.1 right.right) in
-        let more = said_part later (b ∷ n.gone) in
-        let ts : (history_at told known.end).transactions ≡ s.ts ++ x ∷ more.0 =
-        ap (λ (f : Front). f.history.transactions) n.knows.file.said ∙ ap (λ (z : List Block). (front_of z).history.transactions) n.all ∙ more.1 ∙ ap (λ (z : List Transaction). z ++ more.0) (c.2 ∙ ap (λ (z : List Transaction). z ++ x ∷ []) n.said) ∙ append_assoc s.ts (x ∷ []) more.0 in
-        gives b c.0 (rest told known place s.ts later b n) front.records (stands told known place s.ts later b n) c.1 h (all_stand told known place s.ts later b n) bodies
-        ∙ sym (ap (option_map records_of) (ap (λ (z : List Transaction). found_in z tid) ts ∙ found_there s.ts more.0 x tid s.none tid_is))
 
 -- ---- the log
 
@@ -280,13 +202,23 @@ between ts floor at = filter (λ (x : Transaction). nat_lt floor x.tid) (filter 
 abbrev pub rows_of : List Transaction → ℕ → ℕ → List LogRow
 rows_of ts floor at = map log_row (between ts floor at)
 
-pub record Logged (told : Told) (known : OpenFile) (place at : ℕ) (rows : List LogRow) : Type 0 where
+-- each of those before the place has cost two calls
+pub record Logged (told : Told) (known : OpenFile) (place at : ℕ) (rows : List LogRow) (calls now : ℕ) : Type 0 where
   pub ts : List Transaction
   pub walked : WalkedTo told known place ts
   pub rows_are : rows ≡ rows_of ts known.floor at
+  pub within : now ≤ calls + 2 * length walked.gone
 
-pub logged_none : (told : Told) (known : OpenFile) (at : ℕ) (rows : List LogRow) → Knows told known → rows ≡ [] → Logged told known 4 at rows
-logged_none told known at rows k none = record { ts = []; walked = walked_none told known k; rows_are = none }
+pub logged_none : (told : Told) (known : OpenFile) (at calls : ℕ) (rows : List LogRow) → Knows told known → rows ≡ [] → Logged told known 4 at rows calls calls
+logged_none told known at calls rows k none = record { ts = []; walked = walked_none told known k; rows_are = none; within = omega arith }
+
+pub logged_costs : (told : Told) (known : OpenFile) (place at : ℕ) (rows : List LogRow) (calls now : ℕ) → Logged told known place at rows calls now → CostsLog told known.end calls now
+logged_costs told known place at rows calls now l = record {
+  blocks = l.walked.knows.file.blocks;
+  right = l.walked.knows.file.right;
+  spelled = l.walked.knows.file.spelled;
+  within = omega (arith, l.within, ap length l.walked.all, length-append l.walked.later l.walked.gone);
+}
 
 between_more : (ts : List Transaction) (x : Transaction) (floor at : ℕ) → between (ts ++ x ∷ []) floor at ≡ between ts floor at ++ between (x ∷ []) floor at
 between_more ts x floor at =
@@ -320,31 +252,35 @@ the_row b head texts is e =
 pub no_texts : {X : Type 0} (b : Block) → None ≡ Some b.texts → X
 no_texts b e = absurd cc
 
-pub logged_more : (told : Told) (known : OpenFile) (place at next : ℕ) (rows more : List LogRow) (head : TxnHead) → known.end < 2 ^ 64 → Logged told known place at rows → place < known.end → Tells told place (Some head) → AddsRow told place head known.floor at rows more → next ≡ behind place head → Logged told known next at more
-logged_more told known place at next rows more head lt64 l lt tells adds is =
+pub logged_more : (told : Told) (known : OpenFile) (place at next : ℕ) (rows more : List LogRow) (head : TxnHead) (calls now costs : ℕ) → known.end < 2 ^ 64 → Logged told known place at rows calls now → place < known.end → Tells told place (Some head) → AddsRow told place head known.floor at rows more
+    → next ≡ behind place head → costs ≤ now + 2 → Logged told known next at more calls costs
+logged_more told known place at next rows more head calls now costs lt64 l lt tells adds is le =
     let n = next_is told known place l.ts l.walked lt in
+    let same : length n.2.gone ≡ length l.walked.gone = ap length (next_is_gone told known place l.ts l.walked lt) in
     let b = n.1 in
     let there = stands told known place l.ts n.0 b n.2 in
     let h : head ≡ txn_head_of b = head_is b head (tells b (rest told known place l.ts n.0 b n.2) there) in
     let to : next ≡ place + (long_of b + 8) = is ∙ next_place told known place b head lt64 (ends told known place l.ts n.0 b n.2) h in
     let added : more ≡ rows ++ cond (is_logged known.floor at (txn_head_of b)) (row_of b ∷ []) [] = adds b (rest told known place l.ts n.0 b n.2) there h ∙ ap (λ (g : TxnHead). rows ++ cond (is_logged known.floor at g) (row_of b ∷ []) []) h in
-    go n.0 b n.2 to added (b.status == 117) refl
+    go n.0 b n.2 to added (omega (arith, same, l.within, le)) (b.status == 117) refl
   where
-    go : (later : List Block) (b : Block) (n : NextIs told known place l.ts later b) → next ≡ place + (long_of b + 8) → more ≡ rows ++ cond (is_logged known.floor at (txn_head_of b)) (row_of b ∷ []) [] → (t : Bool) → (b.status == 117) ≡ t → Logged told known next at more
-    go later b n to added true undone = record {
+    go : (later : List Block) (b : Block) (n : NextIs told known place l.ts later b) → next ≡ place + (long_of b + 8) → more ≡ rows ++ cond (is_logged known.floor at (txn_head_of b)) (row_of b ∷ []) [] → costs ≤ calls + 2 + 2 * length n.gone → (t : Bool) → (b.status == 117) ≡ t → Logged told known next at more calls costs
+    go later b n to added cost true undone = record {
       ts = l.ts;
       walked = walked_on told known place l.ts later b n next l.ts to (skipped_said (front_of n.gone) b b.inside (rights told known place l.ts later b n).0.fits.inside undone ∙ n.said);
       rows_are = added ∙ ap (λ (u : Bool). rows ++ cond (cond u false (nat_lt known.floor b.tid && nat_le b.tid at)) (row_of b ∷ []) []) undone ∙ append-nil rows ∙ l.rows_are;
+      within = omega (arith, cost, ap length (walked_on_gone told known place l.ts later b n next l.ts to (skipped_said (front_of n.gone) b b.inside (rights told known place l.ts later b n).0.fits.inside undone ∙ n.said)));
     }
-    go later b n to added false counted =
+    go later b n to added cost false counted =
         let c = counted_said (front_of n.gone) b b.inside (rights told known place l.ts later b n).0.fits.inside counted in
         let x = transaction_of (front_of n.gone).records b c.0 in
         record {
           ts = l.ts ++ x ∷ [];
           walked = walked_on told known place l.ts later b n next (l.ts ++ x ∷ []) to (c.2 ∙ ap (λ (z : List Transaction). z ++ x ∷ []) n.said);
           rows_are = added ∙ ap (λ (u : Bool). rows ++ cond (cond u false (nat_lt known.floor b.tid && nat_le b.tid at)) (row_of b ∷ []) []) counted ∙ ap₂ (λ (p q : List LogRow). p ++ q) l.rows_are (one_row x known.floor (nat_le b.tid at) (nat_lt known.floor b.tid) refl) ∙ sym (rows_more l.ts x known.floor at);
+          within = omega (arith, cost, ap length (walked_on_gone told known place l.ts later b n next (l.ts ++ x ∷ []) to (c.2 ∙ ap (λ (z : List Transaction). z ++ x ∷ []) n.said)));
         }
 
-pub logged_all : (told : Told) (known : OpenFile) (place at : ℕ) (rows : List LogRow) → Knows told known → Logged told known place at rows → known.end ≤ place → rows ≡ map log_row (unpacked (upto (history_at told known.end) at))
-logged_all told known place at rows k l le =
+pub logged_all : (told : Told) (known : OpenFile) (place at : ℕ) (rows : List LogRow) (calls now : ℕ) → Knows told known → Logged told known place at rows calls now → known.end ≤ place → rows ≡ map log_row (unpacked (upto (history_at told known.end) at))
+logged_all told known place at rows calls now k l le =
     l.rows_are ∙ ap (λ (ts : List Transaction). rows_of ts known.floor at) (sym (walked_all told known place l.ts l.walked le)) ∙ ap (λ (n : ℕ). rows_of (history_at told known.end).transactions n at) k.floor_is

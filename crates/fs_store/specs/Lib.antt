@@ -11,6 +11,7 @@ pub mod Placed
 pub mod Pointing
 pub mod Reopening
 pub mod Seeing
+pub mod Seeking
 pub mod Settled
 pub mod StaleLaws
 pub mod Staleness

@@ -1,21 +1,19 @@
-ghost use Rattle.std.specs.Prelude.{◌≡◌, ◌++◌, ◌∷◌, ◌<◌, [], if◌then◌else◌, ℕ, List, OnOk, IfOk, IfSome, IsErrOf, drop, length, map};
-ghost use Rattle.std.specs.Option.{ForSome, option_map};
+ghost use Rattle.std.specs.Prelude.{◌≡◌, ◌-◌, ◌<◌, IfOk, IfSome, IsErrOf, map};
+ghost use Rattle.std.specs.Option.{option_map};
 ghost use Rattle.zbase.specs.Values.{before, transaction, upto};
-ghost use Rattle.zdisk.specs.Disk.{content};
-ghost use Rattle.evaluator.specs.Facts.{last_records, log_row, part_of, parts_of, unpacked, unpacked_at};
-ghost use Rattle.fs_record.specs.Opening.{Stands};
-ghost use Rattle.fs_record.specs.Spelling.{Block, txn_head_of};
+ghost use Rattle.evaluator.specs.Facts.{last_records, part_of, parts_of, unpacked_at};
 ghost use Rattle.fs_scan.specs.OnlyReads.{OnlyReads};
 ghost use Rattle.fs_scan.specs.Wholes.{records_in};
 ghost use Rattle.fs_store.specs.Fronts.{history_at};
 ghost use Rattle.fs_store.specs.Knowing.{IsKnown};
-ghost use Rattle.fs_store.specs.Parts.{behind, is_logged, is_with, records_of, row_of};
+ghost use Rattle.fs_store.specs.Parts.{records_of};
+ghost use Rattle.fs_store.specs.Finding.{CostsLoad};
+ghost use Rattle.fs_store.specs.Seeking.{CostsLoads, CostsParts, CostsValues, objects_of};
 
 use crate::file::OpenFile;
 use crate::{LoadRefusal, Loaded};
-use evaluator::{LogRow, LogRows, Part, Parts};
-use fs_record::{MAGIC_LEN, STATUS_UNDONE, TAIL_LEN, TxnHead, TxnTexts};
-use fs_scan::{OidValue, OidValues, read_txn, texts_at, values_at};
+use evaluator::{Part, Parts};
+use fs_scan::{OidValue, OidValues, values_at};
 use std::alloc::Global;
 use std::collections::BTreeSet;
 use zbase::{Memory, Tid, Value};
@@ -31,44 +29,8 @@ fn copy_of(value: &Value) -> Result<Value, Memory>
     }
 }
 
-// Where the transaction begins that stands behind one with this head.
-fn behind(place: u64, head: &TxnHead) -> u64
-    ensures { result ≡ behind place head.now }
-{
-    place
-        .saturating_add(head.length)
-        .saturating_add(TAIL_LEN as u64)
-}
-
-// Whether the transaction counts and has this id.
-fn is_with(head: &TxnHead, tid: u64) -> bool
-    ensures { result ≡ is_with tid head.now }
-{
-    if head.status == STATUS_UNDONE {
-        return false;
-    }
-    head.tid.0 == tid
-}
-
-// The transactions that a log shows: those above the floor and up to one.
-#[derive(Drop)]
-struct Span {
-    floor: Tid,
-    at: Tid,
-}
-
-// Whether the transaction counts and is one of the span.
-fn is_logged(head: &TxnHead, span: &Span) -> bool
-    ensures { result ≡ is_logged span.now.floor span.now.at head.now }
-{
-    if head.status == STATUS_UNDONE {
-        return false;
-    }
-    span.floor.0 < head.tid.0 && head.tid.0 <= span.at.0
-}
-
 impl OpenFile {
-    // The values that the transaction with this id gives. Of those before it the heads alone are read.
+    // The values that the transaction with this id gives, where there is one.
     fn values_with<D: Disk>(
         &self,
         alloc: Global,
@@ -78,22 +40,15 @@ impl OpenFile {
         requires { IsKnown (D.told disk.old) self.now }
         ensures found { IfOk result (λ found. IfSome (D.told disk.old)
             (λ told. option_map records_in found ≡ option_map records_of (transaction (history_at told self.now.end) tid))) }
+        ensures reads { IfOk result (λ found. IfSome (D.told disk.old)
+            (λ told. CostsValues told self.now.end tid found (D.counter disk.old).calls (D.counter disk.new).calls)) }
         ensures only_reads { OnlyReads D.Disk disk.old disk.new (IsErrOf result LoadRefusal.Disk) }
     {
-        let end = self.end;
-        let mut place = MAGIC_LEN as u64;
-        'each: while place < end {
-            let Some(head) = read_txn(disk, self.len, place)? else {
-                // only where the disk tells nothing
-                return Ok(None);
-            };
-            if is_with(&head, tid) {
-                let values = values_at(alloc, disk, self.len, place, &head)?;
-                return Ok(values);
-            }
-            place = behind(place, &head);
-        }
-        Ok(None)
+        let Some(found) = self.seek(disk, tid)? else {
+            return Ok(None);
+        };
+        let values = values_at(alloc, disk, self.len, found.place, &found.head)?;
+        Ok(values)
     }
 
     // What a record of a transaction did to its object.
@@ -108,6 +63,8 @@ impl OpenFile {
         requires positive { 0 < tid }
         ensures part { IfOk result (λ part. IfSome (D.told disk.old)
             (λ told. part ≡ part_of (before (history_at told self.now.end) tid) (written.now.oid, written.now.value))) }
+        ensures reads { IfSome (D.told disk.old)
+            (λ told. CostsLoad told self.now.end written.now.oid (tid - 1) (D.counter disk.old).calls (D.counter disk.new).calls) }
         ensures only_reads { OnlyReads D.Disk disk.old disk.new (IsErrOf result LoadRefusal.Disk) }
     {
         let after = copy_of(&written.value)?;
@@ -137,6 +94,8 @@ impl OpenFile {
         requires positive { 0 < tid }
         ensures parts { IfOk result (λ parts. IfSome (D.told disk.old)
             (λ told. parts ≡ map (part_of (before (history_at told self.now.end) tid)) (last_records (records_in values.now)))) }
+        ensures reads { IfOk result (λ parts. IfSome (D.told disk.old)
+            (λ told. CostsLoads told self.now.end (tid - 1) (objects_of parts) (D.counter disk.old).calls (D.counter disk.new).calls)) }
         ensures only_reads { OnlyReads D.Disk disk.old disk.new (IsErrOf result LoadRefusal.Disk) }
     {
         let mut parts = Vec::with_capacity(alloc, values.len())?;
@@ -153,8 +112,9 @@ impl OpenFile {
         Ok(Parts::from_vec(parts))
     }
 
-    /// What the transaction with this id did, where there is one above the floor and up to another. Of the file's other
-    /// transactions no value is read, but those that the parts say.
+    /// What the transaction with this id did, where there is one above the floor and up to another. It is looked for from
+    /// the file's end: two device calls for each transaction that isn't older, one for its records, and for each part a load
+    /// of the value before.
     pub(crate) fn transaction<D: Disk>(
         &self,
         alloc: Global,
@@ -165,6 +125,8 @@ impl OpenFile {
         requires { IsKnown (D.told disk.old) self.now }
         ensures parts { IfOk result (λ parts. IfSome (D.told disk.old)
             (λ told. parts ≡ option_map (parts_of (upto (history_at told self.now.end) at)) (unpacked_at (upto (history_at told self.now.end) at) tid))) }
+        ensures reads { IfOk result (λ parts. IfSome (D.told disk.old)
+            (λ told. CostsParts told self.now.end tid parts (D.counter disk.old).calls (D.counter disk.new).calls)) }
         ensures only_reads { OnlyReads D.Disk disk.old disk.new (IsErrOf result LoadRefusal.Disk) }
     {
         if at < tid {
@@ -177,72 +139,5 @@ impl OpenFile {
             None => Ok(None),
             Some(values) => Ok(Some(self.parts_of(alloc, disk, values.as_slice(), tid)?)),
         }
-    }
-}
-
-// Adds the row of the transaction with this head at a place, where it counts and is one of the span.
-fn add_row<D: Disk>(
-    alloc: Global,
-    disk: &mut D,
-    len: u64,
-    place: u64,
-    head: &TxnHead,
-    span: &Span,
-    rows: &mut LogRows,
-) -> Result<(), LoadRefusal>
-    requires { ForSome (D.told disk.old) (λ told. len ≡ length (content told)) }
-    ensures added { OnOk result (IfSome (D.told disk.old)
-        (λ told. (b : Block) (more : List ℕ) → Stands b (drop place (content told)) more → head.now ≡ txn_head_of b
-        → rows.new ≡ rows.old ++ (if is_logged span.now.floor span.now.at head.now then row_of b ∷ [] else []))) }
-    ensures only_reads { OnlyReads D.Disk disk.old disk.new (IsErrOf result LoadRefusal.Disk) }
-{
-    if !is_logged(head, span) {
-        return Ok(());
-    }
-    let Some(texts) = texts_at(alloc, disk, len, place, head)? else {
-        // only where the disk tells nothing
-        return Ok(());
-    };
-    let TxnTexts {
-        user,
-        description,
-        extension: _,
-    } = texts;
-    rows.push(LogRow {
-        tid: head.tid,
-        user,
-        description,
-    })?;
-    Ok(())
-}
-
-impl OpenFile {
-    /// The log of the transactions above the floor and up to one, by their heads and texts: no value is read for it.
-    pub(crate) fn log<D: Disk>(
-        &self,
-        alloc: Global,
-        disk: &mut D,
-        at: Tid,
-    ) -> Result<LogRows, LoadRefusal>
-        requires { IsKnown (D.told disk.old) self.now }
-        ensures rows { IfOk result (λ rows. IfSome (D.told disk.old) (λ told. rows ≡ map log_row (unpacked (upto (history_at told self.now.end) at)))) }
-        ensures only_reads { OnlyReads D.Disk disk.old disk.new (IsErrOf result LoadRefusal.Disk) }
-    {
-        let span = Span {
-            floor: self.floor,
-            at,
-        };
-        let mut rows = LogRows::new(alloc);
-        let end = self.end;
-        let mut place = MAGIC_LEN as u64;
-        'each: while place < end {
-            let Some(head) = read_txn(disk, self.len, place)? else {
-                // only where the disk tells nothing
-                return Ok(rows);
-            };
-            add_row(alloc, disk, self.len, place, &head, &span, &mut rows)?;
-            place = behind(place, &head);
-        }
-        Ok(rows)
     }
 }

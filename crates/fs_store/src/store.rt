@@ -11,8 +11,10 @@ ghost use Rattle.fs_store.specs.Drafts.{LooksForNothing};
 ghost use Rattle.fs_store.specs.Finding.{CostsLoad};
 ghost use Rattle.fs_store.specs.Moments.{IsWhole, KeepsGiven, KeepsOpening, OpensAsBefore, OpensAsKnown, OpensToEither};
 ghost use Rattle.fs_store.specs.Opened.{CostsOpening, IsRefusedFor, LeavesDisk, Opens};
+ghost use Rattle.fs_store.specs.Parts.{CostsLog};
 ghost use Rattle.fs_store.specs.Pointing.{PointsToData};
 ghost use Rattle.fs_store.specs.Seeing.{IsSeen};
+ghost use Rattle.fs_store.specs.Seeking.{CostsParts};
 ghost use Rattle.fs_store.specs.Stores.{IsDraft, IsTold, IsVoteOf, Loses, Out, Settles, Stands, Stays, finished, idle, most_length, on_disk, staled, unsettled, voting};
 ghost use Rattle.fs_store.specs.Verdicts.{tid_at, verdict, voted_out};
 ghost use Rattle.fs_store.specs.declared.opening.OpenRefusal.{OpenRefusal};
@@ -209,8 +211,10 @@ impl<D: Disk + Drop> Store<D> {
         self.file.load(self.alloc, &mut self.disk, oid, at)
     }
 
-    /// What the transaction did, where there is one with this id above the floor and up to the transaction `at`. A stale
-    /// store is opened again first.
+    /// What the transaction did, where there is one with this id above the floor and up to the transaction `at`. The file is
+    /// gone back from its end: it costs two device calls for each transaction that isn't older, one for its records, and for
+    /// each of its parts what it costs to load the value before; back pointers cost what following them costs. A stale store
+    /// is opened again first, which costs what an opening costs.
     pub fn transaction(&mut self, tid: Tid, at: Tid) -> Result<Option<Parts>, LoadRefusal>
         ensures parts { IfOk result (λ parts. IsTold self.new
             → parts ≡ option_map (parts_of (upto self.new.history at)) (unpacked_at (upto self.new.history at) tid)) }
@@ -223,6 +227,11 @@ impl<D: Disk + Drop> Store<D> {
         ensures tells { IsTold self.old → IsTold self.new }
         ensures seen { (seen : Seen) → IsSeen self.old seen → IsSeen self.new seen }
         ensures any_moment { KeepsOpening self.old self.new }
+        ensures reads { self.old.stale ≡ false → IfOk result (λ parts. IfSome self.old.disk.told
+            (λ told. CostsParts told self.old.end tid parts self.old.disk.counter.calls self.new.disk.counter.calls)) }
+        ensures reads_again { IfOk result (λ parts. IfSome self.old.disk.told
+            (λ told. (calls : ℕ) × CostsOpening (content told) self.old.disk.counter.calls calls
+            × IfSome self.new.disk.told (λ now. CostsParts now self.new.end tid parts calls self.new.disk.counter.calls))) }
         ensures counts { Counts self.old.disk.counter self.new.disk.counter (IsErrOf result LoadRefusal.Disk) }
     {
         self.refresh()?;
@@ -230,7 +239,9 @@ impl<D: Disk + Drop> Store<D> {
             .transaction(self.alloc, &mut self.disk, tid.0, at.0)
     }
 
-    /// Who did what, above the floor and up to the transaction `at`. A stale store is opened again first.
+    /// Who did what, above the floor and up to the transaction `at`: all rows, by the heads and texts of the whole file, which
+    /// are read ahead by 64 KiB at a time. It costs at most two device calls for each transaction. A stale store is opened
+    /// again first, which costs what an opening costs.
     pub fn log(&mut self, at: Tid) -> Result<LogRows, LoadRefusal>
         ensures rows { IfOk result (λ rows. IsTold self.new → rows ≡ map log_row (unpacked (upto self.new.history at))) }
         ensures fresh { OnOk result (self.new.stale ≡ false) }
@@ -242,6 +253,11 @@ impl<D: Disk + Drop> Store<D> {
         ensures tells { IsTold self.old → IsTold self.new }
         ensures seen { (seen : Seen) → IsSeen self.old seen → IsSeen self.new seen }
         ensures any_moment { KeepsOpening self.old self.new }
+        ensures reads { self.old.stale ≡ false → OnOk result (IfSome self.old.disk.told
+            (λ told. CostsLog told self.old.end self.old.disk.counter.calls self.new.disk.counter.calls)) }
+        ensures reads_again { OnOk result (IfSome self.old.disk.told
+            (λ told. (calls : ℕ) × CostsOpening (content told) self.old.disk.counter.calls calls
+            × IfSome self.new.disk.told (λ now. CostsLog now self.new.end calls self.new.disk.counter.calls))) }
         ensures counts { Counts self.old.disk.counter self.new.disk.counter (IsErrOf result LoadRefusal.Disk) }
     {
         self.refresh()?;

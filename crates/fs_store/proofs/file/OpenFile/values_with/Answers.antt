@@ -1,42 +1,36 @@
-use Rattle.std.proofs.Common.{None, Some, sym, ◌∙◌, arith}
-use Rattle.fs_scan.specs.OnlyReads.{reads_as, reads_none, reads_then}
-use Rattle.fs_store.proofs.Tellings.{moved, on_both, on_three, on_told}
-use Rattle.fs_store.proofs.Walking.{GivesValues, Sought, Tells, no_head, sought_all, sought_here, sought_more, sought_none}
+use Rattle.std.proofs.Common.{◌≡◌, ◌+◌, None, Some, sym}
+use Rattle.std.specs.Option.{option_map}
+use Rattle.zbase.specs.Values.{transaction}
+use Rattle.fs_scan.specs.Wholes.{records_in}
+use Rattle.fs_store.specs.Fronts.{history_at}
+use Rattle.fs_store.specs.Parts.{records_of}
+use Rattle.fs_store.specs.Seeking.{CostsValues, CostsWalk, SoughtIn}
+use Rattle.fs_store.proofs.Sought.{CostsBehind, GivesValues, values_cost, values_found, values_none}
+use Rattle.fs_store.proofs.Tellings.{moved, on_both, on_four, on_told}
 use Rattle.fs_store.proofs.file.OpenFile.values_with.Goals as goal
-
-pub each-init : goal.each-init
-each-init g c = record {
-  sought = on_told (g.D.Disk.told c.args.disk.now) _ (λ told. Sought told c.args.self.now 4 c.args.tid) (λ told k. sought_none told c.args.self.now c.args.tid k.0) c.requires;
-  only = reads_none g.D.Disk c.args.disk.now;
-}
 
 pub returns-in_default-clause-found : goal.returns-in_default-clause-found
 returns-in_default-clause-found g c =
-    let o = g.D.Disk.told c.args.disk.now in
-    let i = c.each.invariant in
-    on_both o (λ told. Sought told c.args.self.now c.each.place c.args.tid) (λ told. Tells told c.each.place None) _
-    (λ told s t. no_head told c.args.self.now c.each.place s.ts s.walked c.each-test.true t) i.sought (moved _ o _ (sym i.only.same) (rw c.in_default.is at c.in_ok-head.ensures.head))
-
-pub returns-then-is_with-clause-found : goal.returns-then-is_with-clause-found
-returns-then-is_with-clause-found g c =
-    let o = g.D.Disk.told c.args.disk.now in
-    let i = c.each.invariant in
-    let e = c.in_ok-head.ensures in
-    on_three o (λ told. Sought told c.args.self.now c.each.place c.args.tid) (λ told. Tells told c.each.place (Some c.in-Some.head)) (λ told. GivesValues told c.each.place c.in-Some.head c.in_ok-values.values) _
-    (λ told s t v. sought_here told c.args.self.now c.each.place c.args.tid c.in-Some.head c.in_ok-values.values s c.each-test.true t (sym c.is_with.ensures ∙ c.if-is_with.true) v) i.sought (moved _ o _ (sym i.only.same) (rw c.in-Some.is at e.head))
-    (moved _ o _ (sym (e.only_reads.same ∙ i.only.same)) c.in_ok-values.ensures.values)
-
-pub each-preserved : goal.each-preserved
-each-preserved g c =
-    let o = g.D.Disk.told c.args.disk.now in
-    let i = c.each.invariant in
-    let e = c.in_ok-head.ensures in
-    record {
-      sought = on_three o _ (λ told. Sought told c.args.self.now c.each.place c.args.tid) (λ told. Tells told c.each.place (Some c.in-Some.head)) (λ told. Sought told c.args.self.now c.behind-place.result c.args.tid)
-          (λ told k s t. sought_more told c.args.self.now c.each.place c.args.tid c.behind-place.result c.in-Some.head (omega (arith, k.1, k.0.within)) s c.each-test.true t (sym c.is_with.ensures ∙ c.if-is_with.false) c.behind-place.ensures) c.requires i.sought (moved _ o _ (sym i.only.same) (rw c.in-Some.is at e.head));
-      only = reads_then i.only (λ none. none) (reads_as e.only_reads (λ x. cc) (λ none. absurd none));
-    }
+    on_told (g.D.Disk.told c.args.disk.now) (λ told. SoughtIn told c.args.self.now.end c.args.tid None) (λ told. None ≡ option_map records_of (transaction (history_at told c.args.self.now.end) c.args.tid))
+    (λ told s. values_none told c.args.self.now.end c.args.tid s) (rw c.in_default.is at c.in_ok-found.ensures.found)
 
 pub returns-clause-found : goal.returns-clause-found
 returns-clause-found g c =
-    on_told (g.D.Disk.told c.args.disk.now) (λ told. Sought told c.args.self.now c.each.place c.args.tid) _ (λ told s. sought_all told c.args.self.now c.each.place c.args.tid s c.each-test.false) c.each.invariant.sought
+    let o = g.D.Disk.told c.args.disk.now in
+    let end = c.args.self.now.end in
+    let f = c.in-Some.found in
+    let e = c.in_ok-found.ensures in
+    on_both o (λ told. SoughtIn told end c.args.tid (Some f)) (λ told. GivesValues told f.place f.head c.in_ok-values.values) (λ told. option_map records_in c.in_ok-values.values ≡ option_map records_of (transaction (history_at told end) c.args.tid))
+    (λ told s v. values_found told end c.args.tid f c.in_ok-values.values s v) (rw c.in-Some.is at e.found) (moved _ o _ (sym e.only_reads.same) c.in_ok-values.ensures.values)
+
+pub returns-clause-reads : goal.returns-clause-reads
+returns-clause-reads g c =
+    let o = g.D.Disk.told c.args.disk.now in
+    let end = c.args.self.now.end in
+    let f = c.in-Some.found in
+    let e = c.in_ok-found.ensures in
+    let calls = (g.D.Disk.counter c.args.disk.now).calls in
+    let mid = (g.D.Disk.counter c.seek.new.disk).calls in
+    let more = (g.D.Disk.counter c.values_at.new.disk).calls in
+    on_four o (λ told. SoughtIn told end c.args.tid (Some f)) (λ told. GivesValues told f.place f.head c.in_ok-values.values) (λ told. CostsWalk told end c.args.tid calls mid) (λ told. CostsBehind told f.place f.head (mid + 1) more) (λ told. CostsValues told end c.args.tid c.in_ok-values.values calls more)
+    (λ told s v w b. values_cost told end c.args.tid calls mid more f c.in_ok-values.values s v w b) (rw c.in-Some.is at e.found) (moved _ o _ (sym e.only_reads.same) c.in_ok-values.ensures.values) e.reads (moved _ o _ (sym e.only_reads.same) c.in_ok-values.ensures.reads)
