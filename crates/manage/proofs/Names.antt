@@ -1,5 +1,5 @@
 -- A set of texts, as a loop fills it.
-use Rattle.std.proofs.Common.{◌≡◌, ◌∙◌, ℕ, suc, ◌+◌, ◌<◌, ◌≤◌, length, drop, get_or, add-one, drop-cons, ◌||◌, not, cond, Bool, true, false, List, [], ◌∷◌, map, Some, refl, sym, ap, nat_cmp, Ordering, Less, Equal, Greater}
+use Rattle.std.proofs.Common.{◌≡◌, ◌∙◌, ℕ, suc, ◌+◌, ◌<◌, ◌≤◌, length, drop, get_or, add-one, drop-cons, ◌||◌, ◌&&◌, not, cond, Bool, true, false, List, [], ◌∷◌, map, Some, refl, sym, ap, nat_cmp, Ordering, Less, Equal, Greater}
 use Rattle.std.specs.List.{filter, find, list_any}
 use Rattle.std.specs.Ordering.{is_eq}
 use Rattle.std.specs.Str.{bytes_eq}
@@ -11,10 +11,11 @@ use Rattle.manage.specs.Refusing.{first_unknown}
 use Rattle.std.specs.Ordering.{match_ordering}
 use Rattle.std.specs.Cmp.Lexicographic.{slice_cmp}
 use Rattle.std.specs.BTreeSet.{BTreeSet, insert_key}
+use Rattle.std.specs.Set.{remove_key}
 use denote.Ref.{Bor}
 use Rattle.std.proofs.lemmas.List.{drop_all}
 use Rattle.zobject.specs.Sorting.{sorted, sorted_with}
-use Rattle.manage.specs.Naming.{Knows, has, keys_now}
+use Rattle.manage.specs.Naming.{IsUnnamed, Knows, has, keys_now}
 
 abbrev order : Bor (List ℕ) → Bor (List ℕ) → Ordering
 order x y = slice_cmp nat_cmp x.now y.now
@@ -56,6 +57,18 @@ behind_or : (a b c : Bool) → ((a || b) || c) ≡ (b || (a || c))
 behind_or true true c = refl
 behind_or true false c = refl
 behind_or false b c = refl
+
+no_more : (a : Bool) → (a && false) ≡ false
+no_more true = refl
+no_more false = refl
+
+and_true : (a : Bool) → (a && true) ≡ a
+and_true true = refl
+and_true false = refl
+
+or_true : (a : Bool) → (a || true) ≡ true
+or_true true = refl
+or_true false = refl
 
 same : (k x : List ℕ) → slice_cmp nat_cmp k x ≡ Equal → k ≡ x
 same k x e = (bytes_eq-Decides k x).0 (sym (is_eq-slice_cmp k x) ∙ ap is_eq e)
@@ -104,10 +117,57 @@ pub all_sorted : (xs : List (List ℕ)) (i : ℕ) (set : BTreeSet (Bor (List ℕ
 unfolding sorted_with
 all_sorted xs i set end h = ap (λ (ys : List (List ℕ)). sorted_with (keys_now set) ys) (sym (drop_all i xs end)) ∙ h
 
--- what isn't in the set isn't among the texts
-pub unknown_same : (set : BTreeSet (Bor (List ℕ))) (list ids : List (List ℕ)) → Knows set list → find (λ id. not (has set id)) ids ≡ first_unknown list ids
-unknown_same set list [] k = refl
-unknown_same set list (id ∷ ids) k = rw (k id) (ap (λ rest. cond (not (is_among list id)) (Some id) rest) (unknown_same set list ids k))
+-- ---- a text that is taken out of it
+
+kept : (q t : List ℕ) (ks : List (Bor (List ℕ))) → bytes_eq q t ≡ false → list_any (names q) (remove_key (names t) ks) ≡ list_any (names q) ks
+unfolding names
+kept q t [] n = refl
+kept q t (x ∷ xs) n = at (names t x) refl (kept q t xs n)
+  where
+    at : (b : Bool) → names t x ≡ b → list_any (names q) (remove_key (names t) xs) ≡ list_any (names q) xs
+        → list_any (names q) (cond b xs (x ∷ remove_key (names t) xs)) ≡ (names q x || list_any (names q) xs)
+    at true e h = (
+      let is = (bytes_eq-Decides t x.now).0 (sym (is_eq-slice_cmp t x.now) ∙ e) in
+      ap (λ b. b || list_any (names q) xs) (sym (is_eq-slice_cmp q x.now ∙ ap (bytes_eq q) (sym is) ∙ n))
+    )
+    at false e h = ap (λ b. names q x || b) h
+
+-- what it still has, of which the texts to come take theirs
+pub taken_out : (old new : BTreeSet (Bor (List ℕ))) (t : List ℕ) (ts : List (List ℕ)) (q : List ℕ) → new.keys ≡ remove_key (is_at (λ (k : Bor (List ℕ)). slice_cmp nat_cmp t k.now)) old.keys → has new t ≡ false
+    → (has new q && not (is_among ts q)) ≡ (has old q && not (bytes_eq q t || is_among ts q))
+unfolding names
+taken_out old new t ts q e gone = at (bytes_eq q t) refl
+  where
+    at : (b : Bool) → bytes_eq q t ≡ b → (has new q && not (is_among ts q)) ≡ (has old q && not (b || is_among ts q))
+    at true is = ap (λ b. b && not (is_among ts q)) (ap (has new) ((bytes_eq-Decides q t).0 is) ∙ gone) ∙ sym (no_more (has old q))
+    at false n = ap (λ b. b && not (is_among ts q)) (ap (list_any (names q)) e ∙ kept q t old.keys n)
+
+-- so after each name of an item
+pub one_less : {A : Type 0} (name : A → List ℕ) (xs : List A) (i : ℕ) (item : A) (first old new : BTreeSet (Bor (List ℕ))) (t : List ℕ) → i < length xs → item ≡ get_or xs i item → t ≡ name item
+    → new.keys ≡ remove_key (is_at (λ (k : Bor (List ℕ)). slice_cmp nat_cmp t k.now)) old.keys → has new t ≡ false → (q : List ℕ)
+    → (has old q && not (is_among (map name (drop i xs)) q)) ≡ (has first q && not (is_among (map name xs) q))
+    → (has new q && not (is_among (map name (drop (i + 1) xs)) q)) ≡ (has first q && not (is_among (map name xs) q))
+one_less {A = A} name xs i item first old new t lt is named e gone q h =
+    taken_out old new t (map name (drop (i + 1) xs)) q e gone
+    ∙ ap (λ (u : List ℕ). has old q && not (bytes_eq q u || is_among (map name (drop (i + 1) xs)) q)) named
+    ∙ ap (λ (ys : List A). has old q && not (is_among (map name ys) q)) (sym (front_of xs i item lt is)) ∙ h
+
+-- a set without texts has none, whatever is to come
+pub none_left : (set first : BTreeSet (Bor (List ℕ))) (rest all : List (List ℕ)) → set.keys ≡ [] → ((q : List ℕ) → (has set q && not (is_among rest q)) ≡ (has first q && not (is_among all q))) → IsUnnamed first set all
+unfolding names
+none_left set first rest all none h q = ap (list_any (names q)) none ∙ sym (ap (λ (ks : List (Bor (List ℕ))). list_any (names q) ks && not (is_among rest q)) none) ∙ h q
+
+-- at the end nothing is to come
+pub none_to_come : (set first : BTreeSet (Bor (List ℕ))) (all : List (List ℕ)) → ((q : List ℕ) → (has set q && not (is_among [] q)) ≡ (has first q && not (is_among all q))) → IsUnnamed first set all
+none_to_come set first all h q = sym (and_true (has set q)) ∙ h q
+
+found_alike : (p q : List ℕ → Bool) (xs : List (List ℕ)) → ((x : List ℕ) → is_among xs x ≡ true → p x ≡ q x) → find p xs ≡ find q xs
+found_alike p q [] same = refl
+found_alike p q (x ∷ xs) same = rw (same x (ap (λ b. b || is_among xs x) ((bytes_eq-Decides x x).1 refl))) (ap (λ rest. cond (q x) (Some x) rest) (found_alike p q xs (λ y is. same y (ap (λ b. bytes_eq y x || b) is ∙ or_true (bytes_eq y x)))))
+
+-- of the texts that a set was made of, the first that stays in it is the first that isn't among the names
+pub unknown_same : (old new : BTreeSet (Bor (List ℕ))) (list ids : List (List ℕ)) → Knows old ids → IsUnnamed old new list → find (has new) ids ≡ first_unknown list ids
+unknown_same old new list ids knows left = found_alike (has new) (λ id. not (is_among list id)) ids (λ id is. left id ∙ ap (λ b. b && not (is_among list id)) (knows id ∙ is))
 
 -- items whose names aren't in the set are those whose names aren't among the texts
 pub left_same : {X : Type 0} (name : X → List ℕ) (set : BTreeSet (Bor (List ℕ))) (ids : List (List ℕ)) (xs : List X) → Knows set ids → filter (λ x. not (has set (name x))) xs ≡ filter (λ x. not (is_among ids (name x))) xs

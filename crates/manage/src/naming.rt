@@ -2,7 +2,8 @@ ghost use Rattle.std.specs.Prelude.{◌≡◌, ◌++◌, ◌∷◌, [], ℕ, Lis
 ghost use Rattle.std.specs.List.{filter, find};
 ghost use Rattle.zobject.specs.Sorting.{sorted as sorted_texts};
 ghost use Rattle.manage.specs.Becoming.{is_among};
-ghost use Rattle.manage.specs.Naming.{Knows, has, keys_now};
+ghost use Rattle.manage.specs.Refusing.{first_unknown};
+ghost use Rattle.manage.specs.Naming.{IsUnnamed, Knows, has, keys_now};
 
 use crate::copying::Copied;
 use std::alloc::Global;
@@ -86,27 +87,39 @@ pub(crate) fn sorted(alloc: Global, texts: &Texts) -> Result<Texts, Memory>
     Ok(sorted)
 }
 
-/// The first of the texts that isn't in the set. Takes no memory.
-pub(crate) fn first_unknown<'a>(set: &BTreeSet<&str>, texts: &'a [Text]) -> Option<&'a Text>
-    ensures { option_map (λ text. text.now) result ≡ find (λ text. not (has set.now text)) texts.now }
+/// The first of the texts that is in the set. Takes no memory.
+fn first_in<'a>(set: &BTreeSet<&str>, texts: &'a [Text]) -> Option<&'a Text>
+    ensures { option_map (λ text. text.now) result ≡ find (has set.now) texts.now }
 {
-    texts.iter().find(|text| !set.contains(text.as_str()))
+    texts.iter().find(|text| set.contains(text.as_str()))
 }
 
 // ---- items that have names
 
-/// A set of the names.
-pub(crate) fn names_of<'a, T: Named>(
-    alloc: Global,
-    items: &'a [T],
-) -> Result<BTreeSet<&'a str>, Memory>
-    ensures { IfOk result (λ set. Knows set (map T.name_of items.now)) }
+/// Takes out of a set the texts that are names of items. Goes through the items once, and no further than to the last one
+/// that a text names. Takes no memory.
+fn take_named<T: Named>(texts: &mut BTreeSet<&str>, items: &[T])
+    ensures { IsUnnamed texts.old texts.new (map T.name_of items.now) }
 {
-    let mut set = BTreeSet::new(alloc);
     for item in items {
-        set.insert(item.name().as_str())?;
+        if texts.is_empty() {
+            break;
+        }
+        texts.remove(item.name().as_str());
     }
-    Ok(set)
+}
+
+/// The first of the texts that no item is named by.
+pub(crate) fn first_unknown<'a, T: Named>(
+    alloc: Global,
+    items: &[T],
+    texts: &'a [Text],
+) -> Result<Option<&'a Text>, Memory>
+    ensures { IfOk result (λ first. option_map (λ text. text.now) first ≡ first_unknown (map T.name_of items.now) texts.now) }
+{
+    let mut unknown = set_of(alloc, texts)?;
+    take_named(&mut unknown, items);
+    Ok(first_in(&unknown, texts))
 }
 
 /// Whether one of the items has that name. Takes no memory.

@@ -7,7 +7,7 @@ ghost use Rattle.manage.specs.Becoming.{children_in, is_among, users_in};
 ghost use Rattle.manage.specs.Fields.{Gives, refuse_if};
 ghost use Rattle.manage.specs.Refusing as refusing;
 
-use crate::naming::{Named, first_unknown, is_taken, names_of};
+use crate::naming::{Named, first_unknown, is_taken};
 use crate::refusal::ManageRefusal;
 use acquisition::MOST_ON_PATH;
 use dtml_lex::DtmlRefusal;
@@ -55,8 +55,7 @@ pub(crate) fn are_known<T: Named>(
 ) -> Result<(), ManageRefusal>
     ensures { Gives (λ x. x) result (refusing.none_unknown (refusing.first_unknown (map T.name_of items.now) ids.now)) }
 {
-    let names = names_of(alloc, items)?;
-    match first_unknown(&names, ids.as_slice()) {
+    match first_unknown(alloc, items, ids.as_slice())? {
         Some(id) => Err(ManageRefusal::NoSuchId(id.copy()?)),
         None => Ok(()),
     }
