@@ -1,0 +1,4 @@
+pub mod Undo
+pub mod UndoLaws
+pub mod Undone
+pub mod Worked
