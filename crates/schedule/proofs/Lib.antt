@@ -18,3 +18,4 @@ pub mod ReadOrBad
 pub mod WorkedQueues
 pub mod Unhindered
 mod Counting
+mod Replaying

@@ -25,3 +25,4 @@ pub mod Asks
 pub mod AskLaws
 pub mod Unhindered
 pub mod Counted
+pub mod Untroubled

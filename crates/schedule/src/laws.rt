@@ -18,6 +18,7 @@ ghost use Rattle.schedule.specs.Armed.{IsArmed};
 ghost use Rattle.schedule.specs.Explained.{report, Explained};
 ghost use Rattle.schedule.specs.Entries.{entries};
 ghost use Rattle.schedule.specs.Counted.{AreCounted, ExplainedByCount, printed};
+ghost use Rattle.schedule.specs.Untroubled.{Untroubled};
 ghost use Rattle.zbase.specs.Limits.{greatest_number};
 
 use evaluator::Evaluator;
@@ -42,6 +43,14 @@ pub fn served_runs_are_serial<E: Evaluator>()
         (e : ExplainedByCount terms old new h0 (items_of trace) (report h0 trace end)) × (e.trace ≡ trace) × (e.end ≡ end) }
     ensures replays { (terms : Terms E.Request) (h0 : History) (s : List Item2) (r : List Line) (n : ℕ) → n < greatest_number →
         entries s ≡ [] → ExplainedByCount terms n n h0 s r → Explained terms h0 s r }
+{}
+
+/// A tape replays to the very report: what a server's run over a disk that was handed in printed, and what a replay of the same
+/// items over the same history prints, are the same, where neither tells of want of memory, a fault or a stop.
+pub fn served_runs_replay<E: Evaluator>()
+    ensures same { (terms : Terms E.Request) (h0 : History) (s : List Item2) (r q : List Line) (old new : ℕ)
+        (served : ExplainedByCount terms old new h0 s r) (replayed : Explained terms h0 s q) →
+        Untroubled served.trace → Untroubled replayed.trace → q ≡ r }
 {}
 
 /// **A request that meets nothing comes to its reply by its worker's own steps alone**: in f + 2 of them where it reads,

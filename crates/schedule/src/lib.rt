@@ -19,6 +19,7 @@ pub use item::{Item2, Schedule, WORKERS};
 pub use item_writer::write_item;
 pub use laws::{
     one_bad_line, one_schedule, requests_keep_pace, runs_are_serial, served_runs_are_serial,
+    served_runs_replay,
 };
 pub use line::Line;
 pub use reader::{ScheduleRefusal, read_schedule};

@@ -6,7 +6,6 @@ mod Joining
 mod Reporting
 mod Stepping
 mod Worked
-mod Replaying
 mod Rounding
 mod Handing
 mod Closings

@@ -1,6 +1,6 @@
 -- Reports of the same items over the same history are the same, where neither tells of want of memory, a fault or a stop.
 use Rattle.std.proofs.Common.{◌≡◌, ℕ, Bool, true, false, List, [], ◌∷◌, ◌++◌, Option, Some, None, refl, sym, ap, ap₂, ◌∙◌, subst, inl, inr, length}
-use Rattle.std.specs.List.{AllByRecursion, list_any}
+use Rattle.std.specs.List.{list_any}
 use Rattle.zbase.specs.History.{History}
 use Rattle.zbase.specs.Values.{last}
 use Rattle.schedule.specs.declared.item.Item2.{Item2}
@@ -9,18 +9,7 @@ use Rattle.schedule.specs.Courses.{Course, Happens, Place, items_of, lines_of}
 use Rattle.schedule.specs.Explained.{Explains, history_lines}
 use Rattle.schedule.specs.Moments.{Moment, Terms, Vote, doing, lost_lines, start, turned, Waiting as Waiting_}
 use Rattle.schedule.specs.Stepping.{Disk_fails, Is_stopped, Is_unknown, Steps, Told, Trouble, Wants_memory, fails, has_request, held_by, told, troubled}
-
--- the line tells of want of memory, a fault or a stop
-abbrev pub is_trouble : Line → Bool
-is_trouble (Line.Memory w) = true
-is_trouble (Line.DiskFault w) = true
-is_trouble (Line.Unknown w t) = true
-is_trouble Line.Stop = true
-is_trouble _ = false
-
--- no line of any place does
-abbrev pub Untroubled : {R : Type 0} → List (Place R) → Type 0
-Untroubled places = AllByRecursion (λ p. list_any is_trouble p.lines ≡ false) places
+use Rattle.schedule.specs.Untroubled.{Untroubled, is_trouble}
 
 taken : {R : Type 0} (x t : Told R) → Some x ≡ Some t → list_any is_trouble x.0 ≡ true → list_any is_trouble t.0 ≡ true
 taken x t e shows = (let same : x ≡ t = cc in subst (λ (k : Told _). list_any is_trouble k.0 ≡ true) same shows)
@@ -85,7 +74,6 @@ course_same {R} terms old a b (p ∷ ps) (q ∷ qs) c d items calm quiet =
     tails : p.item ∷ items_of ps ≡ q.item ∷ items_of qs → items_of ps ≡ items_of qs
     tails e = cc
 
--- So a tape that is replayed gives the report that was served, want of memory and faults aside.
 pub same_report : {R : Type 0} (terms : Terms R) (L K : List (Place R) → Type 0) (h0 : History) (s : List Item2) (r q : List Line) → (e : Explains terms L h0 s r) → (f : Explains terms K h0 s q) → Untroubled e.trace → Untroubled f.trace → r ≡ q
 same_report {R} terms L K h0 s r q e f calm quiet =
     let same = course_same terms (start terms h0) e.end f.end e.trace f.trace e.course f.course (e.items ∙ sym f.items) calm quiet in
