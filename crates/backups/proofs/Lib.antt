@@ -1,0 +1,4 @@
+mod Closing
+mod Open
+mod Joining
+mod Causes

@@ -1,0 +1,6 @@
+pub mod Names
+pub mod Standing
+pub mod Opened
+pub mod Calls
+pub mod Restored
+pub mod Refusals

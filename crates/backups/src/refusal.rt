@@ -1,0 +1,44 @@
+ghost use Rattle.std.specs.Prelude.{◌≡◌};
+ghost use Rattle.backups.specs.Refusals.{of_unread};
+ghost use Rattle.backups.specs.declared.refusal.RestoreRefusal.TheVariants as restore;
+
+use crate::indexes::Unread;
+use zbase::{Memory, Text};
+
+/// Why a file isn't made again.
+#[derive(Debug, Drop)]
+pub enum RestoreRefusal {
+    /// The shelf has no index of that repository.
+    Missing,
+    /// The line of the index with this number fits no rule.
+    BadIndex(u64),
+    /// The piece of this name isn't there, or has another length or digest than its row says.
+    BadPiece(Text),
+    /// The shelf has the file already that is to be made.
+    Exists,
+    /// The shelf or a disk failed.
+    Disk,
+    /// Want of memory.
+    Memory,
+}
+
+impl From<Memory> for RestoreRefusal {
+    ghost from_gives = { λ _ refusal. refusal ≡ restore.Memory };
+
+    fn from(_: Memory) -> RestoreRefusal {
+        RestoreRefusal::Memory
+    }
+}
+
+impl From<Unread> for RestoreRefusal {
+    ghost from_gives = { λ unread refusal. refusal ≡ of_unread unread };
+
+    fn from(refusal: Unread) -> RestoreRefusal {
+        match refusal {
+            Unread::Missing => RestoreRefusal::Missing,
+            Unread::Bad(line) => RestoreRefusal::BadIndex(line),
+            Unread::Failed => RestoreRefusal::Disk,
+            Unread::Memory => RestoreRefusal::Memory,
+        }
+    }
+}
