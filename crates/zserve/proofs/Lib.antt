@@ -12,3 +12,4 @@ mod Closings
 mod Shutting
 mod Behind
 mod Whole
+mod Refusing

@@ -7,8 +7,9 @@ use Rattle.schedule.specs.declared.line.Line.{Line}
 use Rattle.schedule.specs.Counted.{AreCounted, ExplainedByCount}
 use Rattle.schedule.specs.Counted.{printed as printed_at}
 use Rattle.schedule.specs.Courses.{Course, Place, items_of}
-use Rattle.schedule.specs.Explained.{report}
+use Rattle.schedule.specs.Explained.{Explained, report}
 use Rattle.schedule.specs.Moments.{Doing, Free, Moment, Terms, Vote, clocked, start}
+use Rattle.schedule.specs.Untroubled.{Untroubled}
 use Rattle.fs_store.specs.Stores.{IsTold, Out, StoreView}
 use Rattle.txn_core.specs.Cores.{CoreView, IsAtRest}
 use Rattle.txn_core.specs.Slots.{Possible, doing_of, moment_of, vote_of}
@@ -44,9 +45,13 @@ abbrev pub RunLaw : Type 0 → Type 0
 RunLaw R = (terms : Terms R) (h0 : History) (old new : ℕ) (trace : List (Place R)) (end : Moment R) → IsLawful terms.eval → IsHistory h0 → Course terms (start terms h0) trace end → AreCounted old (printed_at trace) new
     → (e : ExplainedByCount terms old new h0 (items_of trace) (report h0 trace end)) × (e.trace ≡ trace) × (e.end ≡ end)
 
-pub reports : {E R S : Type 0} (takes : List ℕ → Option R) (eval : Eval R) (old new : CoreView E R S) (now : ℕ) (all : List Happening) → RunLaw R → IsLawful eval → IsTold old.store → IsHistory old.store.history → IsAtRest eval old → old.store.undecided ≡ None
+-- what the law of replays says
+abbrev pub ReplayLaw : Type 0 → Type 0
+ReplayLaw R = (terms : Terms R) (h0 : History) (s : List Item2) (r q : List Line) (old new : ℕ) (served : ExplainedByCount terms old new h0 s r) (replayed : Explained terms h0 s q) → Untroubled served.trace → Untroubled replayed.trace → q ≡ r
+
+pub reports : {E R S : Type 0} (takes : List ℕ → Option R) (eval : Eval R) (old new : CoreView E R S) (now : ℕ) (all : List Happening) → RunLaw R → ReplayLaw R → IsLawful eval → IsTold old.store → IsHistory old.store.history → IsAtRest eval old → old.store.undecided ≡ None
     → Goes takes eval old 0 all new now → (may : StoreView) → Possible new.store may → Reports (terms_of takes eval old.store.limit old.store.end) old.store.disk.counter.count new.store.disk.counter.count old.store.history all may
-reports {E} {R} {S} takes eval old new now all law lawful told is rest decided goes may possible =
+reports {E} {R} {S} takes eval old new now all law again lawful told is rest decided goes may possible =
     let terms : Terms R = terms_of takes eval old.store.limit old.store.end in
     let m : Moment R = moment_of eval may new.slots in
     let ran : Ran terms (start terms old.store.history) all (clocked m now) = goes.ran told old.store.end (start terms old.store.history) [] (ran_none eval terms old rest decided refl) m (may, possible, refl) in
@@ -56,9 +61,12 @@ reports {E} {R} {S} takes eval old new now all law lawful told is rest decided g
     moved terms old.store.disk.counter.count new.store.disk.counter.count old.store.history (items_of ran.trace) (items all) (report old.store.history ran.trace (clocked m now)) all may same e.0 (ap (λ ps. map happening ps) e.1 ∙ ran.is) (ap (λ (k : Moment R). k.standing) e.2) refl
   where
     moved : (terms : Terms R) (a b : ℕ) (h0 : History) (xs ys : List Item2) (r : List Line) (all : List Happening) (may : StoreView) → xs ≡ ys → (e : ExplainedByCount terms a b h0 xs r) → map happening e.trace ≡ all → e.end.standing ≡ may.history → ys ≡ items all → Reports terms a b h0 all may
-    moved terms a b h0 xs ys r all may same e is_all ends last = record {
-      report = r;
-      explained = record { trace = e.trace; end = e.end; items = e.items ∙ same ∙ last; lines = e.lines; course = e.course; first = e.first; right = e.right; faults = e.faults };
-      is = is_all;
-      ends = ends;
-    }
+    moved terms a b h0 xs ys r all may same e is_all ends last =
+        let served : ExplainedByCount terms a b h0 (items all) r = record { trace = e.trace; end = e.end; items = e.items ∙ same ∙ last; lines = e.lines; course = e.course; first = e.first; right = e.right; faults = e.faults } in
+        record {
+          report = r;
+          explained = served;
+          is = is_all;
+          ends = ends;
+          replays = λ other replayed calm quiet. again terms h0 (items all) r other a b served replayed calm quiet;
+        }

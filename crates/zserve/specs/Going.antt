@@ -24,3 +24,7 @@ pub record Goes {E R S : Type 0} (takes : List ℕ → Option R) (eval : Eval R)
   pub counted : AreCounted old.store.disk.counter.count (printed all) new.store.disk.counter.count
   pub calm : IsFaultless old.store.disk.counter → IsFaultless new.store.disk.counter
   pub safe : IsTold old.store → IsSafe old.store.disk.told old.store.history all new.store.disk.told new.store.history
+
+-- it went by something
+abbrev pub Went : {E R S : Type 0} → (List ℕ → Option R) → Eval R → CoreView E R S → ℕ → CoreView E R S → Type 0
+Went takes eval old since new = (all : List Happening) × (now : ℕ) × Goes takes eval old since all new now

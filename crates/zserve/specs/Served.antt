@@ -13,7 +13,7 @@ use Rattle.zserve.specs.Happened.{Happening, items}
 use Rattle.zserve.specs.Serving.{RoundsSoFar}
 use Rattle.zserve.specs.Stamped.{AreStamps}
 use Rattle.zserve.specs.Sweeping.{Waits}
-use Rattle.zserve.specs.Tapes.{AreRounds, IsWhole, Round, happened, messages, sizes, total}
+use Rattle.zserve.specs.Tapes.{AreRounds, IsWhole, RefusedRounds, Round, happened, messages, sizes, total}
 use Rattle.zserve.specs.Taping.{Continues}
 
 -- how many messages the connections of some rounds sent
@@ -50,3 +50,26 @@ pub record RunTold (port connections most : ℕ) (all : List Happening) (ticks :
   pub stamps : AreStamps ticks counter (map (λ r. r.stamp) rounds) ticks' counter'
   pub many : accepted ≡ total (sizes rounds)
   pub replied : replies ≡ replies_of rounds
+
+-- ---- refused
+
+-- What the hub tells of a run that was refused: it listened on the port, unless it refused that; then whole rounds, which are what
+-- happened, and the connections of the round in which the run was refused.
+pub record RefusedTold (port connections most : ℕ) (all : List Happening) (ticks : Option (List Tick)) (counter : Counter) (old new : Peers) : Type 0 where
+  pub port_is : (new ≡ old) ⊎ (new.port ≡ Some port)
+  pub rounds : List Round
+  pub is : all ≡ happened message_front rounds
+  pub are : RefusedRounds message_front connections most old new rounds
+  pub stamps : (ticks' : Option (List Tick)) × (counter' : Counter) × AreStamps ticks counter (map (λ r. r.stamp) rounds) ticks' counter'
+
+-- A run that was refused: the core went by all that happened in whole rounds, and from there by what happened in the round in which
+-- the run was refused.
+pub record RefusedRun {E R S : Type 0} (takes : List ℕ → Option R) (eval : Eval R) (port connections most : ℕ) (old new : CoreView E R S) (ticks : Option (List Tick)) (counter : Counter) (hub hub' : Option Peers) : Type 0 where
+  pub all : List Happening
+  pub served : CoreView E R S
+  pub now : ℕ
+  pub goes : Goes takes eval old 0 all served now
+  pub more : List Happening
+  pub later : ℕ
+  pub went : Goes takes eval served now more new later
+  pub told : Tells hub hub' (RefusedTold port connections most all ticks counter)

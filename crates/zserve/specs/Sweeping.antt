@@ -7,7 +7,7 @@ use Rattle.txn_core.specs.declared.step_line.StepLine.{StepLine}
 use Rattle.zserve.specs.Going.{Goes}
 use Rattle.zserve.specs.Happened.{Happening, items}
 use Rattle.txn_core.specs.Replying.{final}
-use Rattle.zserve.specs.Turns.{AreTurns, GotReply, lines_in, reply_among, waiting}
+use Rattle.zserve.specs.Turns.{GotReply, lines_in, reply_among, waiting}
 use Rattle.http_clients.specs.Numbers.{Among, Distinct}
 use Rattle.zserve.specs.Waiting.{AreWorkers, Wait, total}
 
@@ -41,11 +41,3 @@ pub record Turned {E R S : Type 0} (takes : List ℕ → Option R) (eval : Eval 
   pub long : length replies' ≡ length replies
   pub replied : (done : List Happening) → Replied replies done → Unanswered ws done → Replied replies' (done ++ turn) × Unanswered left (done ++ turn)
   pub falls : (ws ≡ [] → ⊥) → total new.slots < total old.slots
-
--- all turns, until no worker waits
-pub record AllTurned {E R S : Type 0} (takes : List ℕ → Option R) (eval : Eval R) (old new : CoreView E R S) (now : ℕ) (ws : List ℕ) (turns : List (List Happening)) (replies replies' : List (Option (List ℕ))) (all : List Happening) : Type 0 where
-  pub goes : Goes takes eval old now all new now
-  pub turns_are : AreTurns ws turns
-  pub idle : Waits new []
-  pub long : length replies' ≡ length replies
-  pub replied : (done : List Happening) → Replied replies done → Unanswered ws done → Replied replies' (done ++ all)

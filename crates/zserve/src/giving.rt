@@ -1,10 +1,11 @@
-ghost use Rattle.std.specs.Prelude.{◌≡◌, ◌++◌, ◌<◌, ◌≤◌, ℕ, List, [], Some, IfOk, OnOk, length};
+ghost use Rattle.std.specs.Prelude.{◌≡◌, ◌++◌, ◌<◌, ◌≤◌, ℕ, List, [], Some, IfOk, OnErr, OnOk, length};
 ghost use Rattle.http_in.specs.Messages.{one_message};
 ghost use Rattle.http_clients.specs.Arriving.{AreMessages, bytes_of};
 ghost use Rattle.schedule.specs.Items.{HasLine, item_text};
 ghost use Rattle.schedule.specs.declared.item.Item2.{Item2};
 ghost use Rattle.txn_core.specs.Cores.{IsIdle};
 ghost use Rattle.zserve.specs.Giving.{GivenTo};
+ghost use Rattle.zserve.specs.Going.{Went};
 ghost use Rattle.zserve.specs.Happened.{items};
 ghost use Rattle.zserve.specs.Rounds.{AllGiven};
 ghost use Rattle.zserve.specs.Sweeping.{Waits};
@@ -34,6 +35,7 @@ fn give<D: Disk + Drop, E: Evaluator>(
     ensures given { OnOk result (GivenTo E.takes E.meaning core.old core.new worker bytes) }
     ensures text { OnOk result (text.new ≡ text.old ++ item_text (Item2.Request worker bytes)) }
     ensures line { HasLine (Item2.Request worker bytes) }
+    ensures err { OnErr result (core.new ≡ core.old) }
 {
     // The length fits in the request's line.
     let _length = bytes.len();
@@ -60,6 +62,7 @@ pub(crate) fn give_all<D: Disk + Drop, E: Evaluator<Request = Message>>(
     ensures given { IfOk result (λ _. (now : ℕ) → AllGiven E.takes E.meaning core.old core.new now (bytes_of asked.items)) }
     ensures workers { IfOk result (λ workers. workers.items ≡ workers_from 0 (bytes_of asked.items)) }
     ensures text { IfOk result (λ _. Spelt text.old (items (given_from 0 (bytes_of asked.items))) text.new) }
+    ensures went { OnErr result ((since : ℕ) → Went E.takes E.meaning core.old since core.new) }
 {
     core.store().is_sound();
     let mut waiting = Vec::new(alloc);

@@ -1,4 +1,4 @@
-ghost use Rattle.std.specs.Prelude.{◌≡◌, ◌⊎◌, ◌≤◌, ◌<◌, ◌+◌, ℕ, List, [], false, IfOk, IfSome, IsErrOf, OnOk, min};
+ghost use Rattle.std.specs.Prelude.{◌≡◌, ◌⊎◌, ◌≤◌, ◌<◌, ◌+◌, ◌++◌, ℕ, List, [], false, IfOk, IfSome, IsErrOf, OnErr, OnOk, Some, min, is_some};
 ghost use Rattle.std.specs.Option.{ForSome};
 ghost use Rattle.zdisk.specs.Crashes.{IsSynced};
 ghost use Rattle.zdisk.specs.Disk.{content};
@@ -15,7 +15,7 @@ ghost use Rattle.zserve.specs.Reports.{Reports};
 ghost use Rattle.zserve.specs.Safety.{IsSafe};
 ghost use Rattle.zbase.specs.Faults.{Counts};
 ghost use Rattle.http_in.specs.Messages.{one_message};
-ghost use Rattle.zserve.specs.Served.{RoundsGone, RunTold};
+ghost use Rattle.zserve.specs.Served.{RefusedRun, RoundsGone, RunTold};
 ghost use Rattle.zserve.specs.Sweeping.{Waits};
 ghost use Rattle.zserve.specs.Taping.{Grows, IsLong};
 
@@ -25,7 +25,7 @@ use crate::taping::{put, sync};
 use crate::{ServePlan, ServeRefusal, Served};
 use evaluator::Evaluator;
 use http_in::Message;
-use schedule::{WORKERS, served_runs_are_serial};
+use schedule::{WORKERS, served_runs_are_serial, served_runs_replay};
 use std::alloc::Global;
 use txn_core::Core;
 use zdisk::Disk;
@@ -62,12 +62,16 @@ fn serve_rounds<D: Disk + Drop, E: Evaluator<Request = Message>, H: Hub, C: Cloc
     requires plan { (1 ≤ plan.clients) × (plan.clients ≤ WORKERS) }
     requires takes { (bytes : List ℕ) → E.takes bytes ≡ one_message bytes }
     requires long { IsLong (R.told tape.old) at }
+    requires listens { IfSome (H.peers hub.old) (λ p. p.port ≡ Some plan.port) }
     ensures served { IfOk result (λ (served, _). (left : ℕ) × RoundsGone E.takes E.meaning plan.connections plan.clients core.old core.new
         (C.ticks clock.old) (C.counter clock.old) (C.ticks clock.new) (C.counter clock.new)
         (R.told tape.old) (R.told tape.new) (H.peers hub.old) (H.peers hub.new) left served.replies × (served.connections + left ≡ plan.connections)
         × ((left ≡ 0) ⊎ IfSome (H.peers hub.new) (λ q. q.coming ≡ []))) }
+    ensures refused { OnErr result (RefusedRun E.takes E.meaning plan.port plan.connections plan.clients core.old core.new (C.ticks clock.old)
+        (C.counter clock.old) (H.peers hub.old) (H.peers hub.new)) }
     ensures long { IfOk result (λ (_, end). IsLong (R.told tape.new) end) }
     ensures listening { Counts (H.listening hub.old) (H.listening hub.new) (IsErrOf result ServeRefusal.Hub) }
+    ensures tells { is_some (R.told tape.new) ≡ is_some (R.told tape.old) }
     ensures disk { Counts (R.counter tape.old) (R.counter tape.new) (IsErrOf result ServeRefusal.Tape) }
 {
     let mut left = plan.connections;
@@ -102,6 +106,7 @@ fn put_on_tape<R: Disk>(tape: &mut R, at: u64, text: &[u8]) -> Result<u64, Serve
     ensures grows { OnOk result (Grows (R.told tape.old) text.now (R.told tape.new)) }
     ensures long { IfOk result (λ end. IsLong (R.told tape.new) end) }
     ensures cause { IsErrOf result ServeRefusal.Hub → ⊥ }
+    ensures tells { is_some (R.told tape.new) ≡ is_some (R.told tape.old) }
     ensures disk { Counts (R.counter tape.old) (R.counter tape.new) (IsErrOf result ServeRefusal.Tape) }
 {
     match put(tape, at, text) {
@@ -115,6 +120,7 @@ fn end_tape<R: Disk>(tape: &mut R, at: u64) -> Result<(), ServeRefusal>
     requires long { IsLong (R.told tape.old) at }
     ensures ended { OnOk result (Grows (R.told tape.old) (item_text Item2.End) (R.told tape.new) × ForSome (R.told tape.new) IsSynced) }
     ensures cause { IsErrOf result ServeRefusal.Hub → ⊥ }
+    ensures tells { is_some (R.told tape.new) ≡ is_some (R.told tape.old) }
     ensures disk { Counts (R.counter tape.old) (R.counter tape.new) (IsErrOf result ServeRefusal.Tape) }
 {
     put_on_tape(tape, at, LAST_LINE)?;
@@ -152,13 +158,22 @@ pub fn serve<D: Disk + Drop, E: Evaluator<Request = Message>, H: Hub, C: Clock, 
         × (IsTold core.old.store → (may : StoreView) → Possible core.new.store may
         → Reports (terms_of E.takes E.meaning core.old.store.limit core.old.store.end) core.old.store.disk.counter.count
         core.new.store.disk.counter.count core.old.store.history all may)) }
-    // A stop at any moment of it leaves an image that opens to the history that stands then, or to that and one transaction more.
-    ensures safe { OnOk result (IsTold core.old.store → (all : List Happening)
-        × IsSafe core.old.store.disk.told core.old.store.history all core.new.store.disk.told core.new.store.history) }
+    // Where it is refused, the rounds before are served, and the report has all that happened.
+    ensures refused { OnErr result ((gone : RefusedRun E.takes E.meaning plan.port plan.connections plan.clients core.old core.new
+        (C.ticks clock.old) (C.counter clock.old) (H.peers hub.old) (H.peers hub.new))
+        × (IsTold core.old.store → (may : StoreView) → Possible core.new.store may
+        → Reports (terms_of E.takes E.meaning core.old.store.limit core.old.store.end) core.old.store.disk.counter.count
+        core.new.store.disk.counter.count core.old.store.history (gone.all ++ gone.more) may)) }
+    // However it ends, a stop at any moment leaves an image that opens to the history that stands then, or to that and one
+    // transaction more.
+    ensures safe { IsTold core.old.store → (all : List Happening)
+        × IsSafe core.old.store.disk.told core.old.store.history all core.new.store.disk.told core.new.store.history }
     ensures hub { Counts (H.listening hub.old) (H.listening hub.new) (IsErrOf result ServeRefusal.Hub) }
+    ensures tells { is_some (R.told tape.new) ≡ is_some (R.told tape.old) }
     ensures disk { Counts (R.counter tape.old) (R.counter tape.new) (IsErrOf result ServeRefusal.Tape) }
 {
     served_runs_are_serial::<E>();
+    served_runs_replay::<E>();
     core.is_sound();
     core.store().is_sound();
     if let Err(refusal) = hub.listen(plan.port) {

@@ -1,7 +1,8 @@
-ghost use Rattle.std.specs.Prelude.{◌≡◌, ◌≤◌, ◌∷◌, ℕ, List, [], None, IfOk, OnOk, length, replicate};
+ghost use Rattle.std.specs.Prelude.{◌≡◌, ◌≤◌, ◌∷◌, ℕ, List, [], None, IfOk, OnErr, OnOk, length, replicate};
 ghost use Rattle.http_in.specs.Messages.{one_message};
 ghost use Rattle.http_clients.specs.Arriving.{AreMessages, bytes_of};
 ghost use Rattle.schedule.specs.declared.item.Item2.{Item2};
+ghost use Rattle.zserve.specs.Going.{Went};
 ghost use Rattle.zserve.specs.Happened.{Happening, items};
 ghost use Rattle.zserve.specs.Rounds.{RoundDone, round_of};
 ghost use Rattle.zserve.specs.Stamped.{Stamps};
@@ -56,6 +57,7 @@ pub(crate) fn run_round<D: Disk + Drop, E: Evaluator<Request = Message>, C: Cloc
         × ((since : ℕ) → RoundDone E.takes E.meaning core.old core.new since stamp (bytes_of asked.items) turns replies.items)
         × Stamps (C.ticks clock.old) (C.counter clock.old) stamp (C.ticks clock.new) (C.counter clock.new)
         × Spelt text.old (items (round_of (bytes_of asked.items) stamp turns)) text.new) }
+    ensures went { OnErr result ((since : ℕ) → Went E.takes E.meaning core.old since core.new) }
 {
     let waiting = give_all(alloc, core, asked, text)?;
     core.store().is_sound();

@@ -1,4 +1,4 @@
-ghost use Rattle.std.specs.Prelude.{◌≡◌, ◌+◌, ℕ, [], length, IfOk, IsErrOf, OnOk};
+ghost use Rattle.std.specs.Prelude.{◌≡◌, ◌+◌, ℕ, [], length, IfOk, IsErrOf, OnOk, is_some};
 ghost use Rattle.std.specs.Option.{ForSome};
 ghost use Rattle.zbase.specs.Faults.{Counts};
 ghost use Rattle.zdisk.specs.Crashes.{IsSynced};
@@ -8,10 +8,12 @@ use zdisk::Disk;
 use zio::OutsideRefusal;
 
 /// Puts a text at the end of the tape, which is so long. The tape's new length.
+#[tactic(auto, using(crate::proofs::Refusing::follows_tells))]
 pub(crate) fn put<R: Disk>(tape: &mut R, at: u64, text: &[u8]) -> Result<u64, OutsideRefusal>
     requires long { IsLong (R.told tape.old) at }
     ensures grows { OnOk result (Grows (R.told tape.old) text.now (R.told tape.new)) }
     ensures long { IfOk result (λ end. IsLong (R.told tape.new) end) }
+    ensures tells { is_some (R.told tape.new) ≡ is_some (R.told tape.old) }
     ensures counts { Counts (R.counter tape.old) (R.counter tape.new) (IsErrOf result OutsideRefusal.Failed) }
 {
     let length = text.len() as u64;
@@ -26,8 +28,10 @@ pub(crate) fn put<R: Disk>(tape: &mut R, at: u64, text: &[u8]) -> Result<u64, Ou
 }
 
 /// Brings the tape to the device.
+#[tactic(auto, using(crate::proofs::Refusing::follows_tells))]
 pub(crate) fn sync<R: Disk>(tape: &mut R) -> Result<(), OutsideRefusal>
     ensures synced { OnOk result (Grows (R.told tape.old) [] (R.told tape.new) × ForSome (R.told tape.new) IsSynced) }
+    ensures tells { is_some (R.told tape.new) ≡ is_some (R.told tape.old) }
     ensures counts { Counts (R.counter tape.old) (R.counter tape.new) (IsErrOf result OutsideRefusal.Failed) }
 {
     tape.reserve(1, 0)?;

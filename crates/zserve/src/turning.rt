@@ -1,9 +1,10 @@
-ghost use Rattle.std.specs.Prelude.{◌≡◌, ◌⊎◌, ◌++◌, ◌∷◌, ◌<◌, ◌≤◌, ℕ, List, [], None, Some, IfOk, OnOk, flat_map, length, map};
+ghost use Rattle.std.specs.Prelude.{◌≡◌, ◌⊎◌, ◌++◌, ◌∷◌, ◌<◌, ◌≤◌, ℕ, List, [], None, Some, IfOk, OnErr, OnOk, flat_map, length, map};
 ghost use Rattle.http_out.specs.Replies.{answer};
 ghost use Rattle.schedule.specs.Items.{item_text};
 ghost use Rattle.schedule.specs.declared.item.Item2.{Item2};
 ghost use Rattle.txn_core.specs.StepLines.{IsAnswered};
 ghost use Rattle.txn_core.specs.declared.step_line.StepLine.{StepLine};
+ghost use Rattle.zserve.specs.Going.{Went};
 ghost use Rattle.zserve.specs.Happened.{Happening, items};
 ghost use Rattle.txn_core.specs.Replying.{final};
 ghost use Rattle.zserve.specs.Rounds.{TurnedSoFar};
@@ -28,6 +29,7 @@ fn step<D: Disk + Drop, E: Evaluator>(
 ) -> Result<Option<Bytes>, Memory>
     requires worker { worker < WORKERS }
     ensures stepped { IfOk result (λ reply. (line : StepLine) × Stepped E.takes E.meaning core.old core.new worker now line × (reply ≡ final line)) }
+    ensures went { OnErr result (Went E.takes E.meaning core.old now core.new) }
     ensures text { OnOk result (text.new ≡ text.old ++ item_text (Item2.Step worker)) }
 {
     core.is_sound();
@@ -51,6 +53,7 @@ fn step_and_file<D: Disk + Drop, E: Evaluator>(
     requires within { worker < length replies.old.items }
     ensures stepped { OnOk result ((line : StepLine) × Stepped E.takes E.meaning core.old core.new worker now line
         × Filed line worker replies.old.items replies.new.items still.old.items still.new.items) }
+    ensures went { OnErr result (Went E.takes E.meaning core.old now core.new) }
     ensures text { OnOk result (text.new ≡ text.old ++ item_text (Item2.Step worker)) }
 {
     match step(alloc, core, worker, now, text)? {
@@ -74,6 +77,7 @@ fn turn<D: Disk + Drop, E: Evaluator>(
     ensures turned { IfOk result (λ still. (turn : List Happening)
         × Turned E.takes E.meaning core.old core.new now waiting.now still.items turn replies.old.items replies.new.items
         × (text.new ≡ text.old ++ flat_map item_text (items turn))) }
+    ensures went { OnErr result (Went E.takes E.meaning core.old now core.new) }
 {
     core.is_sound();
     let mut still = Vec::new(alloc);
@@ -97,6 +101,7 @@ pub(crate) fn take_turns<D: Disk + Drop, E: Evaluator>(
     ensures turned { OnOk result ((turns : List (List Happening))
         × TurnedSoFar E.takes E.meaning core.old core.new now waiting.items [] turns replies.old.items replies.new.items
         × (text.new ≡ text.old ++ flat_map item_text (items (all_in turns)))) }
+    ensures went { OnErr result (Went E.takes E.meaning core.old now core.new) }
 {
     let mut waiting = waiting;
     'taking: while !waiting.is_empty() {

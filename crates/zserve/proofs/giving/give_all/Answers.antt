@@ -1,10 +1,14 @@
-use Rattle.std.proofs.Common.{◌≡◌, ◌<◌, ◌++◌, List, [], ◌∷◌, append-nil, length-append, arith, refl, sym, ap, subst, ◌∙◌}
+use Rattle.std.proofs.Common.{◌≡◌, ℕ, ◌<◌, ◌++◌, List, [], ◌∷◌, append-nil, length-append, arith, refl, sym, ap, subst, ◌∙◌}
 use Rattle.std.specs.Vec.Iter.{into_iter_items}
 use Rattle.http_clients.specs.Arriving.{AreMessages, bytes_of}
 use Rattle.http_clients.specs.declared.asked.Asked.{Asked}
+use Rattle.http_in.specs.declared.message.Message.{Message}
 use Rattle.zserve.specs.Rounds.{AllGiven}
 use Rattle.zserve.proofs.Handing.{KnownImages, images_as, joined_on, next_below, next_given, next_idle, next_spelt, next_workers, nothing_left, spelt_none}
 use Rattle.zserve.proofs.Joining.{given_none}
+use Rattle.zserve.proofs.Refusing.{on_err}
+use Rattle.zserve.specs.Going.{Went}
+use Rattle.zserve.specs.Tapes.{given_from}
 use Rattle.zserve.proofs.giving.give_all.Goals as goal
 
 pub loop-one-init : goal.loop-one-init
@@ -52,3 +56,20 @@ returns-clause-given g c =
     let none : into_iter_items c.loop-one.one-iterator ≡ [] = nothing_left (into_iter_items c.loop-one.one-iterator) c.loop-one.one-iterator.rest.len c.loop-one.one-iterator.rest.ok.0 c.in-None.ensures.steps.0 in
     let whole : i.front ≡ c.args.asked.items = sym (append-nil i.front) ∙ ap (λ (xs : List Asked). i.front ++ xs) (sym none) ∙ i.joined in
     λ now. subst (λ (xs : List Asked). AllGiven g.E.Evaluator.takes g.E.Evaluator.meaning c.args.core.now c.loop-one.core now (bytes_of xs)) whole (i.given now)
+
+pub returns-in_err-give-clause-went : goal.returns-in_err-give-clause-went
+returns-in_err-give-clause-went g c =
+    let i = c.loop-one.invariant in
+    let went : (since : ℕ) → Went {E = g.row.E.Denot} {R = Message} {S = g.row.E-State.Denot} g.E.Evaluator.takes g.E.Evaluator.meaning c.args.core.now since c.give.new.core = λ since. subst (λ core. Went {E = g.row.E.Denot} {R = Message} {S = g.row.E-State.Denot} g.E.Evaluator.takes g.E.Evaluator.meaning c.args.core.now since core) (sym c.in_err-give.ensures.err) (given_from 0 (bytes_of i.front), since, (i.given since).goes) in
+    on_err c.from_residual.result ((since : ℕ) → Went {E = g.row.E.Denot} {R = Message} {S = g.row.E-State.Denot} g.E.Evaluator.takes g.E.Evaluator.meaning c.args.core.now since c.give.new.core) went
+
+pub returns-in_err-push-clause-went : goal.returns-in_err-push-clause-went
+returns-in_err-push-clause-went g c =
+    let i = c.loop-one.invariant in
+    let w = c.loop-one.worker in
+    let one = c.in-Some.one in
+    let below : w < 16 = next_below i.front _ _ c.args.asked.items one w i.joined c.in-Some.ensures.steps.0 c.requires.few i.at in
+    let images : KnownImages c.loop-one.core.store = images_as c.args.core.now.store c.loop-one.core.store i.store (subst KnownImages c.store.ensures c.is_sound.ensures.images) in
+    let went : (since : ℕ) → Went {E = g.row.E.Denot} {R = Message} {S = g.row.E-State.Denot} g.E.Evaluator.takes g.E.Evaluator.meaning c.args.core.now since c.give.new.core = λ since.
+    (given_from 0 (bytes_of (i.front ++ one ∷ [])), since, (next_given g.E.Evaluator.takes g.E.Evaluator.meaning c.args.core.now c.loop-one.core c.give.new.core since w i.front one (i.given since) i.at below images c.in_ok-give.ensures.given).goes) in
+    on_err c.from_residual-in_err-push.result ((since : ℕ) → Went {E = g.row.E.Denot} {R = Message} {S = g.row.E-State.Denot} g.E.Evaluator.takes g.E.Evaluator.meaning c.args.core.now since c.give.new.core) went

@@ -1,6 +1,9 @@
+use Rattle.std.proofs.Common.{[], ◌++◌}
 use Rattle.http_in.specs.declared.message.Message.{Message}
 use Rattle.zserve.specs.Happened.{items}
 use Rattle.zserve.proofs.Behind.{rest_waits}
+use Rattle.zserve.proofs.Goings.{goes_none}
+use Rattle.zserve.proofs.Refusing.{listens_on, on_err, refused_first, refused_from, refused_last, refused_listening, refuses, went_all}
 use Rattle.zserve.proofs.Reporting.{reports}
 use Rattle.zserve.proofs.Whole.{run_told, tape_spells}
 use Rattle.zserve.proofs.lasting.serve.Goals as goal
@@ -17,9 +20,47 @@ returns-clause-tape g c =
       gone.goes,
       tape_spells _ _ _ _ (items gone.all) c.requires.empty c.in_ok-at.ensures.grows gone.taped c.in_ok-end_tape.ensures.ended.0 c.in_ok-end_tape.ensures.ended.1,
       run_told _ _ _ c.args.plan.port c.args.plan.connections c.args.plan.clients gone.all _ _ _ _ served.0 c.in_ok-served.served.connections c.in_ok-served.served.replies c.in_default.ensures.ok gone.told served.2 served.3,
-      λ told may possible. reports {E = g.row.E.Denot} {R = Message} {S = g.row.E-State.Denot} g.E.Evaluator.takes g.E.Evaluator.meaning c.args.core.now c.serve_rounds.new.core gone.now gone.all c.served_runs_are_serial.ensures.serial g.met.E.Evaluator.lawful told
+      λ told may possible. reports {E = g.row.E.Denot} {R = Message} {S = g.row.E-State.Denot} g.E.Evaluator.takes g.E.Evaluator.meaning c.args.core.now c.serve_rounds.new.core gone.now gone.all c.served_runs_are_serial.ensures.serial c.served_runs_replay.ensures.same g.met.E.Evaluator.lawful told
           ((rw c.store.ensures at c.is_sound-2.ensures.history) told) c.requires.rest ((rw c.store.ensures at c.is_sound-2.ensures.undecided) c.requires.fresh) gone.goes may possible,
     )
+
+pub serve_rounds-requires-clause-listens : goal.serve_rounds-requires-clause-listens
+serve_rounds-requires-clause-listens g c = listens_on c.args.plan.port (g.H.Hub.peers c.args.hub.now) (g.H.Hub.peers c.listen.new.self) c.in_default.ensures.ok
+
+pub returns-in-Err-clause-refused : goal.returns-in-Err-clause-refused
+returns-in-Err-clause-refused g c =
+    refuses {E = g.row.E.Denot} {R = Message} {S = g.row.E-State.Denot} g.E.Evaluator.takes g.E.Evaluator.meaning c.args.plan.port c.args.plan.connections c.args.plan.clients c.args.core.now c.args.core.now (g.C.Clock.ticks c.args.clock.now) (g.C.Clock.counter c.args.clock.now) (g.H.Hub.peers c.args.hub.now) (g.H.Hub.peers c.listen.new.self) c.served_runs_are_serial.ensures.serial c.served_runs_replay.ensures.same g.met.E.Evaluator.lawful (λ told. (rw c.store.ensures at c.is_sound-2.ensures.history) told) c.requires.rest ((rw c.store.ensures at c.is_sound-2.ensures.undecided) c.requires.fresh)
+    (refused_first {E = g.row.E.Denot} {R = Message} {S = g.row.E-State.Denot} g.E.Evaluator.takes g.E.Evaluator.meaning c.args.plan.port c.args.plan.connections c.args.plan.clients c.args.core.now (g.C.Clock.ticks c.args.clock.now) (g.C.Clock.counter c.args.clock.now) (g.H.Hub.peers c.args.hub.now) (g.H.Hub.peers c.listen.new.self) c.in-Err.ensures.err)
+
+pub returns-in_err-at-clause-refused : goal.returns-in_err-at-clause-refused
+returns-in_err-at-clause-refused g c =
+    on_err c.from_residual.result _ (refuses {E = g.row.E.Denot} {R = Message} {S = g.row.E-State.Denot} g.E.Evaluator.takes g.E.Evaluator.meaning c.args.plan.port c.args.plan.connections c.args.plan.clients c.args.core.now c.args.core.now (g.C.Clock.ticks c.args.clock.now) (g.C.Clock.counter c.args.clock.now) (g.H.Hub.peers c.args.hub.now) (g.H.Hub.peers c.listen.new.self) c.served_runs_are_serial.ensures.serial c.served_runs_replay.ensures.same g.met.E.Evaluator.lawful (λ told. (rw c.store.ensures at c.is_sound-2.ensures.history) told) c.requires.rest ((rw c.store.ensures at c.is_sound-2.ensures.undecided) c.requires.fresh)
+    (refused_listening {E = g.row.E.Denot} {R = Message} {S = g.row.E-State.Denot} g.E.Evaluator.takes g.E.Evaluator.meaning c.args.plan.port c.args.plan.connections c.args.plan.clients c.args.core.now (g.C.Clock.ticks c.args.clock.now) (g.C.Clock.counter c.args.clock.now) (g.H.Hub.peers c.args.hub.now) (g.H.Hub.peers c.listen.new.self) c.in_default.ensures.ok))
+
+pub returns-in_err-served-clause-refused : goal.returns-in_err-served-clause-refused
+returns-in_err-served-clause-refused g c =
+    on_err c.from_residual-in_err-served.result _ (refuses {E = g.row.E.Denot} {R = Message} {S = g.row.E-State.Denot} g.E.Evaluator.takes g.E.Evaluator.meaning c.args.plan.port c.args.plan.connections c.args.plan.clients c.args.core.now c.serve_rounds.new.core (g.C.Clock.ticks c.args.clock.now) (g.C.Clock.counter c.args.clock.now) (g.H.Hub.peers c.args.hub.now) (g.H.Hub.peers c.serve_rounds.new.hub) c.served_runs_are_serial.ensures.serial c.served_runs_replay.ensures.same g.met.E.Evaluator.lawful (λ told. (rw c.store.ensures at c.is_sound-2.ensures.history) told) c.requires.rest ((rw c.store.ensures at c.is_sound-2.ensures.undecided) c.requires.fresh)
+    (refused_from {E = g.row.E.Denot} {R = Message} {S = g.row.E-State.Denot} g.E.Evaluator.takes g.E.Evaluator.meaning c.args.plan.port c.args.plan.connections c.args.plan.clients c.args.core.now c.serve_rounds.new.core (g.C.Clock.ticks c.args.clock.now) (g.C.Clock.counter c.args.clock.now) (g.H.Hub.peers c.args.hub.now) (g.H.Hub.peers c.listen.new.self) (g.H.Hub.peers c.serve_rounds.new.hub) c.in_default.ensures.ok c.in_err-served.ensures.refused))
+
+pub returns-in_err-end_tape-clause-refused : goal.returns-in_err-end_tape-clause-refused
+returns-in_err-end_tape-clause-refused g c =
+    on_err c.from_residual-in_err-end_tape.result _ (refuses {E = g.row.E.Denot} {R = Message} {S = g.row.E-State.Denot} g.E.Evaluator.takes g.E.Evaluator.meaning c.args.plan.port c.args.plan.connections c.args.plan.clients c.args.core.now c.serve_rounds.new.core (g.C.Clock.ticks c.args.clock.now) (g.C.Clock.counter c.args.clock.now) (g.H.Hub.peers c.args.hub.now) (g.H.Hub.peers c.serve_rounds.new.hub) c.served_runs_are_serial.ensures.serial c.served_runs_replay.ensures.same g.met.E.Evaluator.lawful (λ told. (rw c.store.ensures at c.is_sound-2.ensures.history) told) c.requires.rest ((rw c.store.ensures at c.is_sound-2.ensures.undecided) c.requires.fresh)
+    (refused_from {E = g.row.E.Denot} {R = Message} {S = g.row.E-State.Denot} g.E.Evaluator.takes g.E.Evaluator.meaning c.args.plan.port c.args.plan.connections c.args.plan.clients c.args.core.now c.serve_rounds.new.core (g.C.Clock.ticks c.args.clock.now) (g.C.Clock.counter c.args.clock.now) (g.H.Hub.peers c.args.hub.now) (g.H.Hub.peers c.listen.new.self) (g.H.Hub.peers c.serve_rounds.new.hub) c.in_default.ensures.ok (refused_last {E = g.row.E.Denot} {R = Message} {S = g.row.E-State.Denot} g.E.Evaluator.takes g.E.Evaluator.meaning c.args.plan.port c.args.plan.connections c.args.plan.clients c.args.core.now c.serve_rounds.new.core (g.C.Clock.ticks c.args.clock.now) (g.C.Clock.ticks c.serve_rounds.new.clock) (g.C.Clock.counter c.args.clock.now) (g.C.Clock.counter c.serve_rounds.new.clock) (g.R.Disk.told c.put_on_tape.new.tape) (g.R.Disk.told c.serve_rounds.new.tape) (g.H.Hub.peers c.listen.new.self) (g.H.Hub.peers c.serve_rounds.new.hub) c.in_ok-served.ensures.served.0 c.in_ok-served.served.replies
+    (listens_on c.args.plan.port (g.H.Hub.peers c.args.hub.now) (g.H.Hub.peers c.listen.new.self) c.in_default.ensures.ok) c.in_ok-served.ensures.served.1)))
+
+pub returns-in-Err-clause-safe : goal.returns-in-Err-clause-safe
+returns-in-Err-clause-safe g c told = ([], (goes_none {E = g.row.E.Denot} {R = Message} {S = g.row.E-State.Denot} g.E.Evaluator.takes g.E.Evaluator.meaning c.args.core.now 0).safe told)
+
+pub returns-in_err-at-clause-safe : goal.returns-in_err-at-clause-safe
+returns-in_err-at-clause-safe g c told = ([], (goes_none {E = g.row.E.Denot} {R = Message} {S = g.row.E-State.Denot} g.E.Evaluator.takes g.E.Evaluator.meaning c.args.core.now 0).safe told)
+
+pub returns-in_err-served-clause-safe : goal.returns-in_err-served-clause-safe
+returns-in_err-served-clause-safe g c told =
+    let run = c.in_err-served.ensures.refused in
+    (run.all ++ run.more, (went_all {E = g.row.E.Denot} {R = Message} {S = g.row.E-State.Denot} g.E.Evaluator.takes g.E.Evaluator.meaning c.args.plan.port c.args.plan.connections c.args.plan.clients c.args.core.now c.serve_rounds.new.core (g.C.Clock.ticks c.args.clock.now) (g.C.Clock.counter c.args.clock.now) (g.H.Hub.peers c.listen.new.self) (g.H.Hub.peers c.serve_rounds.new.hub) run).safe told)
+
+pub returns-in_err-end_tape-clause-safe : goal.returns-in_err-end_tape-clause-safe
+returns-in_err-end_tape-clause-safe g c told = (c.in_ok-served.ensures.served.1.all, c.in_ok-served.ensures.served.1.goes.safe told)
 
 pub returns-clause-safe : goal.returns-clause-safe
 returns-clause-safe g c told = (c.in_ok-served.ensures.served.1.all, c.in_ok-served.ensures.served.1.goes.safe told)

@@ -1,14 +1,16 @@
-use Rattle.std.proofs.Common.{◌≡◌, ◌≤◌, ◌<◌, ℕ, min, arith, subst, sym}
+use Rattle.std.proofs.Common.{◌≡◌, ◌≤◌, ◌<◌, ℕ, min, arith, refl, subst, sym, ◌∙◌}
 use Rattle.http_in.specs.declared.message.Message.{Message}
 use Rattle.zserve.specs.declared.refusal.ServeRefusal.{ServeRefusal}
 use Rattle.zserve.proofs.Behind.{counts_ok, fewer_left, gone_next, gone_none, least_left, some_of}
 use Rattle.zserve.proofs.Shutting.{no_counts}
+use Rattle.zserve.proofs.Refusing.{on_err, refused_behind}
 use Rattle.zserve.proofs.lasting.serve_rounds.Goals as goal
 
 pub serving-init : goal.serving-init
 serving-init g c = record {
   gone = gone_none {E = g.row.E.Denot} {R = Message} {S = g.row.E-State.Denot} g.E.Evaluator.takes g.E.Evaluator.meaning c.args.plan.connections c.args.plan.clients c.args.core.now (g.C.Clock.ticks c.args.clock.now) (g.C.Clock.counter c.args.clock.now) (g.R.Disk.told c.args.tape.now) (g.H.Hub.peers c.args.hub.now) c.requires.idle;
   long = c.requires.long;
+  tells = refl;
   fewer = omega arith;
   listening = no_counts (g.H.Hub.listening c.args.hub.now) ⊥ (λ f. f);
   disk = no_counts (g.R.Disk.counter c.args.tape.now) ⊥ (λ f. f);
@@ -28,7 +30,14 @@ serving-preserved g c =
           (g.R.Disk.told c.args.tape.now) (g.R.Disk.told c.serving.tape) (g.R.Disk.told c.serve_round.new.tape) (g.H.Hub.peers c.args.hub.now) (g.H.Hub.peers c.serving.hub) (g.H.Hub.peers c.serve_round.new.hub) c.serving.left c.serving.replies
           i.gone (e.served some) some fits (λ less. e.fewer (subst (λ (k : ℕ). round.accepted < k) (sym is) less));
       long = e.long;
+      tells = e.tells ∙ i.tells;
       fewer = fewer_left c.serving.replies round.answered c.serving.left round.accepted c.most_of-most.result c.args.plan.connections i.fewer e.most.0 e.most.1 (least_left c.most_of-most.result c.args.plan.clients c.serving.left is);
       listening = counts_ok (g.H.Hub.listening c.args.hub.now) (g.H.Hub.listening c.serving.hub) (g.H.Hub.listening c.serve_round.new.hub) round ServeRefusal.Hub i.listening e.listening;
       disk = counts_ok (g.R.Disk.counter c.args.tape.now) (g.R.Disk.counter c.serving.tape) (g.R.Disk.counter c.serve_round.new.tape) round ServeRefusal.Tape i.disk e.disk;
     }
+
+pub returns-in_err-round-clause-refused : goal.returns-in_err-round-clause-refused
+returns-in_err-round-clause-refused g c =
+    on_err c.from_residual.result _
+    (refused_behind {E = g.row.E.Denot} {R = Message} {S = g.row.E-State.Denot} g.E.Evaluator.takes g.E.Evaluator.meaning c.args.plan.port c.args.plan.connections c.args.plan.clients c.args.core.now c.serving.core c.serve_round.new.core (g.C.Clock.ticks c.args.clock.now) (g.C.Clock.ticks c.serving.clock) (g.C.Clock.counter c.args.clock.now) (g.C.Clock.counter c.serving.clock)
+    (g.R.Disk.told c.args.tape.now) (g.R.Disk.told c.serving.tape) (g.H.Hub.peers c.args.hub.now) (g.H.Hub.peers c.serving.hub) (g.H.Hub.peers c.serve_round.new.hub) c.serving.left c.serving.replies c.requires.listens c.serving.invariant.gone c.in_err-round.ensures.refused c.in_err-round.ensures.went)

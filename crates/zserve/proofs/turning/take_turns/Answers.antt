@@ -3,6 +3,8 @@ use Rattle.zserve.specs.Sweeping.{Turned, Waits}
 use Rattle.zserve.proofs.Joining.{turns_more, turns_none, turns_text}
 use Rattle.zserve.specs.Rounds.{TurnedSoFar}
 use Rattle.zserve.proofs.Stepping.{none_wait, some_wait}
+use Rattle.zserve.proofs.Refusing.{on_err, went_then}
+use Rattle.zserve.specs.Turns.{all_in}
 use Rattle.zserve.proofs.turning.take_turns.Goals as goal
 
 pub turn-requires-clause-sixteen : goal.turn-requires-clause-sixteen
@@ -38,14 +40,16 @@ taking-smaller g c =
     let some : c.taking.waiting.items ≡ [] → ⊥ = some_wait c.taking.waiting.items c.taking.waiting.len c.is_empty.result c.taking-test.true c.is_empty.ensures (sym c.taking.waiting.ok.0) in
     did.1.falls (λ none. some (sym c.as_slice.ensures.value ∙ none))
 
-pub returns : goal.returns
-returns g c =
+pub returns-clause-turned : goal.returns-clause-turned
+returns-clause-turned g c =
     let last = c.taking.invariant.so in
-    let none : c.taking.waiting.items ≡ [] = none_wait c.taking.waiting.items c.taking.waiting.len c.is_empty.result c.taking-test.false c.is_empty.ensures (sym c.taking.waiting.ok.0) in
-    record {
-      turned = (
-        last.0,
-        subst (λ (ws : List ℕ). TurnedSoFar {E = g.row.E.Denot} {R = g.row.E-Request.Denot} {S = g.row.E-State.Denot} g.E.Evaluator.takes g.E.Evaluator.meaning c.args.core.now c.taking.core c.args.now c.args.waiting.items ws last.0 c.args.replies.now.items c.taking.replies.items) none last.1,
-        last.2,
-      );
-    }
+    let none : c.taking.waiting.items ≡ [] = none_wait c.taking.waiting.items c.taking.waiting.len c.is_empty.result c.taking-test.false c.is_empty.ensures (sym c.taking.waiting.ok.0) in (
+      last.0,
+      subst (λ (ws : List ℕ). TurnedSoFar {E = g.row.E.Denot} {R = g.row.E-Request.Denot} {S = g.row.E-State.Denot} g.E.Evaluator.takes g.E.Evaluator.meaning c.args.core.now c.taking.core c.args.now c.args.waiting.items ws last.0 c.args.replies.now.items c.taking.replies.items) none last.1,
+      last.2,
+    )
+
+pub returns-in_err-waiting-clause-went : goal.returns-in_err-waiting-clause-went
+returns-in_err-waiting-clause-went g c =
+    let before = c.taking.invariant.so in
+    on_err c.from_residual.result _ (went_then {E = g.row.E.Denot} {R = g.row.E-Request.Denot} {S = g.row.E-State.Denot} g.E.Evaluator.takes g.E.Evaluator.meaning c.args.core.now c.taking.core c.turn.new.core c.args.now c.args.now (all_in before.0) before.1.goes c.in_err-waiting.ensures.went)

@@ -6,6 +6,7 @@ use Rattle.txn_core.specs.StepLines.{step_lines}
 use Rattle.zserve.specs.Happened.{Happening}
 use Rattle.zserve.proofs.Stepping.{comes_next, next_worker, seen_more, text_more}
 use Rattle.zserve.proofs.Sweeps.{Swept, swept_more, swept_none, swept_whole}
+use Rattle.zserve.proofs.Refusing.{on_err, went_then}
 use Rattle.zserve.proofs.turning.turn.Goals as goal
 
 pub step_and_file-requires-clause-worker : goal.step_and_file-requires-clause-worker
@@ -49,8 +50,8 @@ loop-worker-preserved g c =
       );
     }
 
-pub returns : goal.returns
-returns g c =
+pub returns-clause-turned : goal.returns-clause-turned
+returns-clause-turned g c =
     let ws = c.args.waiting.now in
     let i = c.loop-worker.worker-index in
     let last = c.loop-worker.invariant.swept in
@@ -58,4 +59,9 @@ returns g c =
     = subst (λ (seen : List ℕ). Swept {E = g.row.E.Denot} {R = g.row.E-Request.Denot} {S = g.row.E-State.Denot} g.E.Evaluator.takes g.E.Evaluator.meaning c.args.core.now c.loop-worker.core c.args.now seen (drop i ws) c.loop-worker.still.items last.0 c.args.replies.now.items c.loop-worker.replies.items) (take_all i ws c.loop-worker-test.false) last.1 in
     let all : Swept {E = g.row.E.Denot} {R = g.row.E-Request.Denot} {S = g.row.E-State.Denot} g.E.Evaluator.takes g.E.Evaluator.meaning c.args.core.now c.loop-worker.core c.args.now ws [] c.loop-worker.still.items last.0 c.args.replies.now.items c.loop-worker.replies.items
     = subst (λ (rest : List ℕ). Swept {E = g.row.E.Denot} {R = g.row.E-Request.Denot} {S = g.row.E-State.Denot} g.E.Evaluator.takes g.E.Evaluator.meaning c.args.core.now c.loop-worker.core c.args.now ws rest c.loop-worker.still.items last.0 c.args.replies.now.items c.loop-worker.replies.items) (drop_all i ws c.loop-worker-test.false) seen in
-    record { turned = (last.0, swept_whole {E = g.row.E.Denot} {R = g.row.E-Request.Denot} {S = g.row.E-State.Denot} g.E.Evaluator.takes g.E.Evaluator.meaning c.args.core.now c.loop-worker.core c.args.now ws c.loop-worker.still.items last.0 c.args.replies.now.items c.loop-worker.replies.items c.is_sound.ensures.workers c.requires.waits all, last.2) }
+    (last.0, swept_whole {E = g.row.E.Denot} {R = g.row.E-Request.Denot} {S = g.row.E-State.Denot} g.E.Evaluator.takes g.E.Evaluator.meaning c.args.core.now c.loop-worker.core c.args.now ws c.loop-worker.still.items last.0 c.args.replies.now.items c.loop-worker.replies.items c.is_sound.ensures.workers c.requires.waits all, last.2)
+
+pub returns-in_err-step_and_file-clause-went : goal.returns-in_err-step_and_file-clause-went
+returns-in_err-step_and_file-clause-went g c =
+    let before = c.loop-worker.invariant.swept in
+    on_err c.from_residual.result _ (went_then {E = g.row.E.Denot} {R = g.row.E-Request.Denot} {S = g.row.E-State.Denot} g.E.Evaluator.takes g.E.Evaluator.meaning c.args.core.now c.loop-worker.core c.step_and_file.new.core c.args.now c.args.now before.0 before.1.goes c.in_err-step_and_file.ensures.went)
