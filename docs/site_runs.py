@@ -90,9 +90,11 @@ def find(known, wrapper, name):
 def target(known, segments):
     """What a path leads to: a call and the wrapper of its object, or the wrapper of a page and of its client."""
     wrapper, client = [0], [0]
+    if known.get(0, b"") is None:
+        refuse(404, "not found: /")
     here(known, 0)
     for at, segment in enumerate(segments):
-        if at == len(segments) - 1 and segment in KINDS_ON:
+        if at == len(segments) - 1 and (segment in KINDS_ON or segment in ASKING):
             return segment, wrapper, None
         found = None if segment.startswith("_") else find(known, wrapper, segment)
         if found is None:
@@ -216,6 +218,51 @@ def call(known, name, path, form):
     return [(oid, lambda first, o=o: spell(filled(o, first))) for oid, o in [(path[0], o)] + more]
 
 
+# ---- calls that ask the history
+
+def undo(known, form):
+    """The entries that undo a transaction: each object goes back to the transaction whose value it had before."""
+    found = form.get("tid")
+    if found is None:
+        refuse(400, "missing: tid")
+    if isinstance(found, list) or not re.fullmatch("[0-9a-f]{16}", str(found)):
+        refuse(400, "bad field: tid")
+    ask = ("transaction", int(str(found), 16))
+    if ask not in known:
+        raise Need(ask)
+    if known[ask] is None:
+        refuse(400, f"no such transaction: {found}")
+    for oid, _, _ in known[ask]:
+        if oid not in known:
+            raise Need(oid)
+    for oid, after, _ in known[ask]:
+        if known[oid] != after:
+            refuse(400, f"changed since: {hex16(oid)}")
+    return [(oid, (before,)) for oid, _, before in known[ask]]
+
+
+def listed(known, form):
+    """The newest 20 transactions, the newest first."""
+    if ("log",) not in known:
+        raise Need(("log",))
+    rows = known[("log",)][-20:][::-1]
+    said = [" ".join([hex16(tid), *(text.decode("utf-8", "replace") for text in texts)]) + "\n" for tid, *texts in rows]
+    raise Answered(200, "".join(said).encode(), "plain", [])
+
+
+# they are calls on the root, and need `Undo changes`; the second one shows a page
+ASKING = {"manage_undo_transactions": undo, "undoable_transactions": listed}
+
+
+def needed(known, name, oid, method):
+    """The permission that a call needs, where it is one on this object by this method."""
+    kind = here(known, oid)["kind"]
+    permission = (12 if oid == 0 else None) if name in ASKING else KINDS_ON[name].get(kind)
+    if permission is None or (method == "HEAD" and name != "undoable_transactions"):
+        refuse(404, f"not found: {name}")
+    return permission
+
+
 def form_of(pairs):
     form = {}
     for name, v in pairs:
@@ -240,13 +287,12 @@ def site(request, known):
         name, wrapper, client = target(known, segments)
         if name is None:
             page(known, wrapper, client, credentials)
-        permission = KINDS_ON[name].get(here(known, wrapper[0])["kind"])
-        if method == "HEAD" or permission is None:
-            refuse(404, f"not found: {name}")
+        permission = needed(known, name, wrapper[0], method)
         on = containers(known, wrapper[0])
         who, _ = permit(known, on, credentials, permission)
         description = "".join("/" + segment for segment in segments).encode()
-        return "change", (who[0] if who else "").encode(), description, call(known, name, on, form)
+        entries = ASKING[name](known, form) if name in ASKING else call(known, name, on, form)
+        return "change", (who[0] if who else "").encode(), description, entries
     except Need as need:
         return "need", need.args[0]
     except Answered as answered:

@@ -18,6 +18,9 @@ armed entry and its seed (`stops.py`), the table of a worker's steps, and the de
   meets a conflict reads the head of the object's newest record instead.
 - A store that failed in one of these is opened again by the next call, but for a vote that finds another one out.
 
+A restore, of which an entry has the transaction that the object goes back to, is written as a back pointer to where the data
+stands. What a look at a transaction or the log costs isn't told here, nor what a restore reads: nothing is armed there.
+
 Nothing here runs or reads the product.
 """
 
@@ -75,11 +78,11 @@ class Disk(NumberedDisk):
 
 
 class Known:
-    """What a file says: where it ends, and its transactions, each an id, its texts, and the object, place and data of its
-    records."""
+    """What a file says: where it ends, its floor, and its transactions, each an id, its texts, and the object, place and data
+    of its records."""
 
     def __init__(self):
-        self.end, self.transactions = 4, []
+        self.end, self.floor, self.transactions = 4, 0, []
 
     def last(self):
         return self.transactions[-1][0] if self.transactions else 0
@@ -94,6 +97,32 @@ class Known:
     def greatest(self):
         return max((o for _, _, records in self.transactions for o, _, _ in records), default=-1)
 
+    def unpacked(self, at):
+        """The transactions that can be undone, of those up to an id."""
+        return [t for t in self.transactions if self.floor < t[0] <= at]
+
+    def told(self, ask, at):
+        """What is told of the log, or of a transaction: each of its objects with its value behind the transaction, and the
+        transaction of its value before it."""
+        if ask == ("log",):
+            return [(tid, *texts[:2]) for tid, texts, _ in self.unpacked(at)]
+        for tid, _, records in self.unpacked(at):
+            if ask == ("transaction", tid):
+                last = {oid: (oid, data) for oid, _, data in records}
+                return [(oid, data, next((t for t, _, _ in self.revisions(oid) if t < tid), 0)) for oid, data in last.values()]
+        return None
+
+
+def home(content, place):
+    """Where the data stands that the record at a place means, 0 for none."""
+    if place == 0 or any(content[place + 34 : place + 42]):
+        return place
+    return home(content, int.from_bytes(content[place + 42 : place + 50], "big"))
+
+
+def data_at(content, place):
+    return content[place + 42 :][: int.from_bytes(content[place + 34 : place + 42], "big")] if place else None
+
 
 def transaction_at(content, place):
     head = content[place : place + 23]
@@ -106,9 +135,9 @@ def transaction_at(content, place):
     records = []
     while at < place + length:
         size = int.from_bytes(content[at + 34 : at + 42], "big")
-        assert size > 0 and content[at + 32 : at + 34] == bytes(2)
-        records.append((int.from_bytes(content[at : at + 8], "big"), at, content[at + 42 : at + 42 + size]))
-        at += 42 + size
+        assert content[at + 32 : at + 34] == bytes(2)
+        records.append((int.from_bytes(content[at : at + 8], "big"), at, data_at(content, home(content, at))))
+        at += 42 + (size or 8)
     assert at == place + length and content[at : at + 8] == head[8:16]
     return int.from_bytes(head[:8], "big"), texts, records
 
@@ -130,9 +159,10 @@ def opening(disk):
         if status in b"c\0" or length + 8 > left:
             break
         disk.read()
-        assert status == ord(" ")
+        assert status in b" p"
         found = transaction_at(content, known.end)
         assert found[0] > known.last()
+        known.floor = found[0] if status == ord("p") else known.floor
         known.transactions.append(found)
         known.end += length + 8
     if left:
@@ -170,6 +200,10 @@ class Store:
                 return data, tid, place
         return None, 0, 0
 
+    def home(self, oid, serial):
+        """Where the data stands that an object had in a transaction, 0 for none."""
+        return home(self.disk.content, next((place for tid, place, _ in self.known.revisions(oid) if tid == serial), 0))
+
     def vote(self, holder, change, reads, now):
         user, description, entries = change
         if self.out:
@@ -186,7 +220,11 @@ class Store:
             records, fresh = [], self.known.greatest() + 1
             for oid, data in sorted((fresh if oid is None else oid, data) for oid, data in entries):
                 newest = self.known.newest(oid)
-                records.append(record(oid, tid, newest[1] if newest else 0, end, data(fresh) if callable(data) else data))
+                before = newest[1] if newest else 0
+                if isinstance(data, tuple):
+                    records.append(record(oid, tid, before, end, b"") + number(self.home(oid, *data)))
+                else:
+                    records.append(record(oid, tid, before, end, data(fresh) if callable(data) else data))
             piece = described(tid, b"c", user, description, records)
             if end + len(piece) > self.limit:
                 raise Refused("full", end + len(piece), self.limit)
@@ -320,6 +358,10 @@ class Run:
 
     def turn(self, w, worker):
         came = self.evaluator(worker.request, worker.known)
+        if came[0] == "need" and isinstance(came[1], tuple):
+            self.store.refresh()
+            worker.known[came[1]] = self.store.known.told(came[1], worker.snapshot)
+            return " ".join(["fetch", str(w), came[1][0], *map(hex16, came[1][1:])]).encode() + b"\n"
         if came[0] == "need":
             value, serial, place = self.store.load(came[1], worker.snapshot)
             worker.known[came[1]] = value
@@ -416,11 +458,11 @@ class Run:
         self.store.refresh()
         printed = "".join(f"lost {w}\n" for w in sorted(self.workers))
         known = self.store.known
-        printed += f"history {len(known.transactions)}\n"
+        printed += f"history {len(known.transactions)}\n" + (f"floor {hex16(known.floor)}\n" if known.floor else "")
         for tid, texts, records in known.transactions:
             said = " ".join(text.hex() or "-" for text in texts)
             printed += f"transaction {hex16(tid)} {said} {len(records)}\n"
-            printed += "".join(f"record {hex16(oid)} {data.hex()}\n" for oid, _, data in records)
+            printed += "".join(f"record {hex16(oid)} {'none' if data is None else data.hex()}\n" for oid, _, data in records)
         return printed.encode() + b"end\n"
 
     def go(self, items):

@@ -11,4 +11,5 @@ mod RightRows
 mod Rows
 mod Steps
 mod Templates
+mod Undone
 mod Utf8

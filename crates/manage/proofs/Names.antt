@@ -127,9 +127,9 @@ kept q t (x ∷ xs) n = at (names t x) refl (kept q t xs n)
     at : (b : Bool) → names t x ≡ b → list_any (names q) (remove_key (names t) xs) ≡ list_any (names q) xs
         → list_any (names q) (cond b xs (x ∷ remove_key (names t) xs)) ≡ (names q x || list_any (names q) xs)
     at true e h = (
-      let is = (bytes_eq-Decides t x.now).0 (sym (is_eq-slice_cmp t x.now) ∙ e) in
-      ap (λ b. b || list_any (names q) xs) (sym (is_eq-slice_cmp q x.now ∙ ap (bytes_eq q) (sym is) ∙ n))
-    )
+        let is = (bytes_eq-Decides t x.now).0 (sym (is_eq-slice_cmp t x.now) ∙ e) in
+        ap (λ b. b || list_any (names q) xs) (sym (is_eq-slice_cmp q x.now ∙ ap (bytes_eq q) (sym is) ∙ n))
+        )
     at false e h = ap (λ b. names q x || b) h
 
 -- what it still has, of which the texts to come take theirs

@@ -1,9 +1,11 @@
 -- One question after another, where what is needed is an ask of an evaluation.
 use Rattle.std.proofs.Common.{ℕ, ◌≡◌, ◌∙◌, refl, sym, ap, subst, Option, Some, None, Result, Ok, Err}
-use Rattle.zbase.specs.Query.{Query, ◌>>=◌, run, and_then, Told, Answers, Halt, Need, Cause}
+use Rattle.zbase.specs.Query.{Query, Done, ◌>>=◌, run, and_then, Told, Answers, Halt, Need, Cause}
 use Rattle.zbase.specs.QueryLaws.{run_then}
 use Rattle.evaluator.specs.declared.ask.Ask.{Ask}
 use Rattle.evaluator.specs.Questions.{as_ask}
+use Rattle.manage.specs.declared.changes.Called.TheVariants as called
+use Rattle.manage.specs.declared.changes.Change.{Change}
 use Rattle.manage.specs.declared.refusal.ManageRefusal.{ManageRefusal}
 use Rattle.manage.specs.declared.refusal.ManageRefusal.TheVariants as refusals
 use Rattle.manage.specs.Calling.{told}
@@ -38,7 +40,6 @@ stops r f refusals.Memory h = tt
 stops r f (refusals.Need ask) h = absurd h
 stops r f (refusals.Broken o) h = rw h refl
 stops r f (refusals.NotFound c) h = rw h refl
-stops r f (refusals.NotYet o) h = rw h refl
 stops r f (refusals.Missing field) h = rw h refl
 stops r f (refusals.BadField field) h = rw h refl
 stops r f (refusals.TooLong field) h = rw h refl
@@ -47,13 +48,14 @@ stops r f (refusals.Taken id) h = rw h refl
 stops r f refusals.TooMany h = rw h refl
 stops r f (refusals.BadSource refusal) h = rw h refl
 stops r f refusals.TooDeep h = rw h refl
+stops r f (refusals.NoSuchTransaction t) h = rw h refl
+stops r f (refusals.UndoChanged o) h = rw h refl
 
 pub settled_fails : {R A : Type 0} (k : ℕ → Option R) (r : Checked A) (e : ManageRefusal) → Fails e r → Told (told e) (as_ask (run k (settled r)))
 settled_fails k r refusals.Memory h = tt
 settled_fails k r (refusals.Need ask) h = absurd h
 settled_fails k r (refusals.Broken o) h = rw h refl
 settled_fails k r (refusals.NotFound c) h = rw h refl
-settled_fails k r (refusals.NotYet o) h = rw h refl
 settled_fails k r (refusals.Missing field) h = rw h refl
 settled_fails k r (refusals.BadField field) h = rw h refl
 settled_fails k r (refusals.TooLong field) h = rw h refl
@@ -62,8 +64,14 @@ settled_fails k r (refusals.Taken id) h = rw h refl
 settled_fails k r refusals.TooMany h = rw h refl
 settled_fails k r (refusals.BadSource refusal) h = rw h refl
 settled_fails k r refusals.TooDeep h = rw h refl
+settled_fails k r (refusals.NoSuchTransaction t) h = rw h refl
+settled_fails k r (refusals.UndoChanged o) h = rw h refl
 
 -- what a test gives is what its question answers
 pub decided : {R A : Type 0} (k : ℕ → Option R) (result : Result A ManageRefusal) (r : Checked A) → Gives (λ x. x) result r → Answers told (λ x. x) result (as_ask (run k (settled r)))
 decided k (Ok x) r h = rw h refl
 decided k (Err e) r h = settled_fails k r e h
+
+-- a change is what a call comes to that asks no history
+pub writes_so : {R : Type 0} (k : ℕ → Option R) (q : Query ℕ R ManageRefusal Change) (x : Change) → as_ask (run k q) ≡ Ok x → as_ask (run k (q >>= λ change. Done (called.Writes change))) ≡ Ok (called.Writes x)
+writes_so k q x e = goes k q (λ change. Done (called.Writes change)) x e

@@ -1,6 +1,6 @@
 -- What is asked of an object on which a call is named, before a user is looked for: whether it is a call there, and which
 -- permission it needs.
-use Rattle.std.specs.Prelude.{ℕ, Bool, true, false, Option, Some, None, if◌then◌else◌}
+use Rattle.std.specs.Prelude.{ℕ, Option, Some, None}
 use Rattle.zbase.specs.Query.{Query, Done, Stops, Asks, Halt, Need, Cause, ◌>>=◌}
 use Rattle.zobject.specs.declared.version.Kind.{Kind}
 use Rattle.zobject.specs.declared.version.Kind.TheVariants as kind
@@ -10,7 +10,6 @@ use Rattle.zknown.specs.Seen.{Seen, Here, Absent, Unreadable, Shapes}
 use Rattle.evaluator.specs.declared.ask.Ask.{Ask}
 use Rattle.http_in.specs.declared.message.Verb.{Verb}
 use Rattle.manage.specs.declared.call.Call.{Call}
-use Rattle.manage.specs.declared.call.Call.TheVariants as call
 use Rattle.manage.specs.declared.refusal.ManageRefusal.{ManageRefusal}
 use Rattle.manage.specs.declared.refusal.ManageRefusal.TheVariants as refusals
 use Rattle.manage.specs.Table.{permission_for}
@@ -34,19 +33,13 @@ kind_of (form.Method proxy) = kind.Method
 kind_of (form.Document proxy) = kind.Document
 kind_of (form.UserFolder users) = kind.UserFolder
 
--- what is built so far
-abbrev pub is_built : Call → Bool
-is_built call.UndoTransactions = false
-is_built call.ListTransactions = false
-is_built _ = true
-
-abbrev pub if_lawful : Call → ℕ → Option ℕ → Shapes ManageRefusal ℕ
-if_lawful c o None = Stops (refusals.NotFound c)
-if_lawful c o (Some permission) = if is_built c then Done permission else Stops (refusals.NotYet o)
+abbrev pub if_lawful : Call → Option ℕ → Shapes ManageRefusal ℕ
+if_lawful c None = Stops (refusals.NotFound c)
+if_lawful c (Some permission) = Done permission
 
 -- the permission that a call needs on an object
 unfoldable pub permission_at : Call → Verb → ℕ → Shapes ManageRefusal ℕ
-permission_at c verb o = here o >>= λ object. if_lawful c o (permission_for c verb o (kind_of object.form))
+permission_at c verb o = here o >>= λ object. if_lawful c (permission_for c verb o (kind_of object.form))
 
 -- ---- what code gave
 

@@ -1,4 +1,4 @@
--- What a call writes, as a question over objects.
+-- What a call writes, and what it comes to, as questions over objects.
 use Rattle.std.specs.Prelude.{ℕ, ◌≡◌, nat_eq, List, [], ◌∷◌, length, Option, Some, None, Ok, Err, if◌then◌else◌}
 use Rattle.std.specs.List.{AllByRecursion}
 use Rattle.zbase.specs.Query.{Query, Done, Stops, ◌>>=◌, or_else}
@@ -17,6 +17,9 @@ use Rattle.evaluator.specs.declared.ask.Ask.{Ask}
 use Rattle.evaluator.specs.declared.draft.Name.{Name}
 use Rattle.form_fields.specs.declared.field.Field.{Field}
 use Rattle.manage.specs.declared.call.Call.{Call}
+use Rattle.manage.specs.declared.call.Call.TheVariants as call
+use Rattle.manage.specs.declared.changes.Called.{Called}
+use Rattle.manage.specs.declared.changes.Called.TheVariants as called
 use Rattle.manage.specs.declared.changes.Change.{Change}
 use Rattle.manage.specs.declared.changes.NewChild.{NewChild}
 use Rattle.manage.specs.declared.changes.Page.{Page}
@@ -25,10 +28,11 @@ use Rattle.manage.specs.declared.refusal.FieldName.TheVariants as field
 use Rattle.manage.specs.declared.refusal.ManageRefusal.{ManageRefusal}
 use Rattle.manage.specs.declared.refusal.ManageRefusal.TheVariants as refusals
 use Rattle.manage.specs.Becoming.{Situation, children, children_in, situation, text, with_renamed}
-use Rattle.manage.specs.Calling.{here, is_built}
+use Rattle.manage.specs.Calling.{here}
 use Rattle.manage.specs.Fields.{Checked, Test, fields_kept}
 use Rattle.manage.specs.Fields as tests
 use Rattle.manage.specs.Table.{Adds, Itself, Renames, Row, Writes, row_of, table}
+use Rattle.manage.specs.Undoing.{undone_id}
 use Rattle.manage.specs.Written.{Written, change_of, grown, whole}
 
 -- a value or a refusal, as a question that asks for nothing
@@ -89,9 +93,8 @@ by_row (Some row) c o object form = written row.writes row o object form
 abbrev pub change_by : Option Row → Call → ℕ → Object → List Field → Objects ManageRefusal Change
 change_by found c o object form = by_row found c o object form >>= λ ws. Done (change_of ws)
 
--- a call that isn't built yet is told, and nothing else
 abbrev pub by_call : Call → ℕ → Object → List Field → Objects ManageRefusal (List Written)
-by_call c o object form = if is_built c then by_row (row_of c (kind_of object.part)) c o object form else Stops (refusals.NotYet o)
+by_call c o object form = by_row (row_of c (kind_of object.part)) c o object form
 
 -- where a row writes the object alone, what it becomes
 abbrev pub IsItself : Writes → Type 0
@@ -159,9 +162,23 @@ changed c o object form = by_call c o object form >>= λ ws. Done (change_of ws)
 unfoldable pub writes : Call → ℕ → List Field → Objects ManageRefusal (List Written)
 writes c o form = here o >>= λ object. by_call c o object form
 
--- the change of a call on an object, by the fields of its form
-unfoldable pub change : Call → ℕ → List Field → Objects ManageRefusal Change
-change c o form = here o >>= λ object. changed c o object form
+-- ---- what a call comes to
+
+abbrev pub written_by : Objects ManageRefusal Change → Objects ManageRefusal Called
+written_by q = q >>= λ change. Done (called.Writes change)
+
+abbrev pub undoes : List Field → Checked Called
+undoes form = tests.◌>>=◌ (undone_id form) (λ t. Ok (called.Undoes t))
+
+-- the two calls on the history say what is asked of it, and all others what they write
+abbrev pub called_by : Call → ℕ → Object → List Field → Objects ManageRefusal Called
+called_by call.UndoTransactions o object form = settled (undoes form)
+called_by call.ListTransactions o object form = Done called.Lists
+called_by c o object form = written_by (changed c o object form)
+
+-- what a call on an object comes to, by the fields of its form
+unfoldable pub change : Call → ℕ → List Field → Objects ManageRefusal Called
+change c o form = here o >>= λ object. called_by c o object form
 
 -- each object that is here keeps the rules of objects
 abbrev pub KeepRules : (ℕ → Option (Seen Object)) → Type 0

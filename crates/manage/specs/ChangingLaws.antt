@@ -3,7 +3,7 @@ use Rattle.std.proofs.Common.{◌≡◌, ◌∙◌, ℕ, ◌<◌, ◌≤◌, ◌
 use Rattle.std.specs.Prelude.{AllPairs, ◌≢◌}
 use Rattle.std.specs.List.{AllByRecursion}
 use Rattle.zbase.specs.History.{History}
-use Rattle.zbase.specs.Query.{Done, Stops, ◌>>=◌, run, go_on, and_then, Halt}
+use Rattle.zbase.specs.Query.{Done, ◌>>=◌, run, go_on, and_then, Halt}
 use Rattle.zbase.specs.QueryLaws.{run_then}
 use Rattle.zbase.specs.Values.{next}
 use Rattle.zobject.specs.declared.object.Object.{Object}
@@ -20,15 +20,20 @@ use Rattle.evaluator.specs.declared.draft.Name.{Name}
 use Rattle.evaluator.specs.Settle.{oid_of, record_of}
 use Rattle.form_fields.specs.declared.field.Field.{Field}
 use Rattle.manage.specs.declared.call.Call.{Call}
+use Rattle.manage.specs.declared.call.Call.TheVariants as call
+use Rattle.manage.specs.declared.changes.Called.{Called}
+use Rattle.manage.specs.declared.changes.Called.TheVariants as called
 use Rattle.manage.specs.declared.changes.Change.{Change}
 use Rattle.manage.specs.declared.refusal.FieldName.TheVariants as field
 use Rattle.manage.specs.declared.refusal.ManageRefusal.{ManageRefusal}
-use Rattle.manage.specs.declared.refusal.ManageRefusal.TheVariants as refusals
 use Rattle.manage.specs.Becoming.{Situation, children, children_in, situation, text, with_renamed}
-use Rattle.manage.specs.Calling.{here, is_built, present}
-use Rattle.manage.specs.Changing.{became, by_call, by_row, change, depth_of, judged, renamed_child, settled, wanted, writes, written}
+use Rattle.manage.specs.Calling.{here, present}
+use Rattle.manage.specs.Changing.{became, by_call, by_row, called_by, change, changed, depth_of, judged, renamed_child, settled, undoes, wanted, writes, written, written_by}
+use Rattle.manage.specs.Fields.{Checked}
+use Rattle.manage.specs.Fields as tests
 use Rattle.manage.specs.Laws.{AreLawful, ChangesAreLawful, HolesFit, KnowsValues, SettlesRightly, WritesLawfully, settled_row}
 use Rattle.manage.specs.Table.{Adds, Itself, Renames, Row, Writes, row_of}
+use Rattle.manage.specs.Undoing.{undone_id}
 use Rattle.manage.specs.Written.{IsSettled, Written, change_of, entry_of, grown, whole, with_child}
 use Rattle.manage.specs.WrittenLaws.{grown_fits, grown_settles, record_is_some, whole_settles}
 
@@ -187,11 +192,7 @@ row_are known None c o object form ws there e = absurd (let bad = e in cc)
 row_are known (Some row) c o object form ws there e = written_are known row.writes row o object form ws there e
 
 call_are : (known : ℕ → Option (Seen Object)) (c : Call) (o : ℕ) (object : Object) (form : List Field) (ws : List Written) → known o ≡ Some (Here object) → run known (by_call c o object form) ≡ Ok ws → Holds known ws
-call_are known c o object form ws there e = at (is_built c) e
-  where
-    at : (built : Bool) → run known (if built then by_row (row_of c (kind_of object.part)) c o object form else Stops (refusals.NotYet o)) ≡ Ok ws → Holds known ws
-    at true e' = row_are known (row_of c (kind_of object.part)) c o object form ws there e'
-    at false e' = absurd (let bad = e' in cc)
+call_are known c o object form ws there e = row_are known (row_of c (kind_of object.part)) c o object form ws there e
 
 writes_are : (known : ℕ → Option (Seen Object)) (c : Call) (o : ℕ) (form : List Field) (ws : List Written) → run known (writes c o form) ≡ Ok ws → Holds known ws
 unfolding writes
@@ -203,11 +204,46 @@ pub write_lawfully : WritesLawfully
 unfolding Holds
 write_lawfully known c o form ws e = (writes_are known c o form ws e).1
 
+-- ---- what a call comes to
+
+settled_is : {A : Type 0} (known : ℕ → Option (Seen Object)) (r : Checked A) (x : A) → run known (settled r) ≡ Ok x → r ≡ Ok x
+settled_is known (Ok y) x e = cc
+settled_is known (Err refusal) x e = absurd (let bad = e in cc)
+
+from_written : (known : ℕ → Option (Seen Object)) (q : Objects ManageRefusal Change) (done : Change) → run known (written_by q) ≡ Ok (called.Writes done) → run known q ≡ Ok done
+from_written known q done e =
+    let made = came known q (λ change. Done (called.Writes change)) (called.Writes done) e in
+    let same : made.0 ≡ done = (let both = made.2 in cc) in
+    made.1 ∙ ap Ok same
+
+never_undoes : (r : Checked ℕ) (done : Change) → ◌≡◌ {A = Checked Called} (tests.◌>>=◌ r (λ t. Ok (called.Undoes t))) (Ok (called.Writes done)) → ⊥
+never_undoes (Ok t) done e = cc
+never_undoes (Err refusal) done e = cc
+
+-- a call that comes to a change makes that change
+writes_change : (known : ℕ → Option (Seen Object)) (c : Call) (o : ℕ) (object : Object) (form : List Field) (done : Change) → run known (called_by c o object form) ≡ Ok (called.Writes done) → run known (changed c o object form) ≡ Ok done
+writes_change known call.AddFolder o object form done e = from_written known _ done e
+writes_change known call.AddMethod o object form done e = from_written known _ done e
+writes_change known call.AddDocument o object form done e = from_written known _ done e
+writes_change known call.AddUserFolder o object form done e = from_written known _ done e
+writes_change known call.Edit o object form done e = from_written known _ done e
+writes_change known call.DeleteObjects o object form done e = from_written known _ done e
+writes_change known call.RenameObject o object form done e = from_written known _ done e
+writes_change known call.SetPermission o object form done e = from_written known _ done e
+writes_change known call.SetLocalRoles o object form done e = from_written known _ done e
+writes_change known call.DeleteLocalRoles o object form done e = from_written known _ done e
+writes_change known call.AddProperty o object form done e = from_written known _ done e
+writes_change known call.DeleteProperties o object form done e = from_written known _ done e
+writes_change known call.SetProxyRoles o object form done e = from_written known _ done e
+writes_change known call.AddUser o object form done e = from_written known _ done e
+writes_change known call.UndoTransactions o object form done e = absurd (never_undoes (undone_id form) done (settled_is known (undoes form) (called.Writes done) e))
+writes_change known call.ListTransactions o object form done e = absurd (let bad = e in cc)
+
 pub changes_lawful : ChangesAreLawful
 unfolding change Holds
 changes_lawful facts known knows c o form done e user description few short =
-    let object = came known (here o) _ done e in
-    let written = came known (by_call c o object.0 form) _ done object.2 in
+    let object = came known (here o) _ (called.Writes done) e in
+    let written = came known (by_call c o object.0 form) _ done (writes_change known c o object.0 form done object.2) in
     let holds = call_are known c o object.0 form written.0 (is_here known o object.0 (ap as_ask object.1)) written.1 in
     let same : change_of written.0 ≡ done = ok_is written.2 in
     subst (λ (d : Change). IsChange facts (record { user = user; description = description; entries = d.entries })) same (holds.2 facts knows user description few short)

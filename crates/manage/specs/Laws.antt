@@ -21,6 +21,7 @@ use Rattle.evaluator.specs.Settle.{oid_of, record_of}
 use Rattle.form_fields.specs.declared.field.Field.{Field}
 use Rattle.http_in.specs.declared.message.Verb.{Verb}
 use Rattle.manage.specs.declared.call.Call.{Call}
+use Rattle.manage.specs.declared.changes.Called.TheVariants as called
 use Rattle.manage.specs.declared.changes.Change.{Change}
 use Rattle.manage.specs.declared.refusal.FieldName.TheVariants.{Id, NewId}
 use Rattle.manage.specs.Becoming.{Situation, children, text, with_renamed}
@@ -86,5 +87,5 @@ KnowsValues facts known = (o : ℕ) (object : Object) → known o ≡ Some (Here
 
 -- What a call changes keeps the rules of a change, whoever makes it.
 abbrev pub ChangesAreLawful : Type 0
-ChangesAreLawful = (facts : Ask → Option Fact) (known : ℕ → Option (Seen Object)) → KnowsValues facts known → (c : Call) (o : ℕ) (form : List Field) (done : Change) → run known (change c o form) ≡ Ok done
+ChangesAreLawful = (facts : Ask → Option Fact) (known : ℕ → Option (Seen Object)) → KnowsValues facts known → (c : Call) (o : ℕ) (form : List Field) (done : Change) → run known (change c o form) ≡ Ok (called.Writes done)
     → (user description : List ℕ) → length user ≤ longest_text → length description ≤ longest_text → IsChange facts (record { user = user; description = description; entries = done.entries })

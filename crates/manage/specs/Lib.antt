@@ -5,6 +5,7 @@ pub mod Refusing
 pub mod Table
 pub mod Written
 pub mod Calling
+pub mod Undoing
 pub mod Changing
 pub mod Naming
 pub mod Laws

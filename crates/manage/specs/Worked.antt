@@ -3,6 +3,8 @@ use lib.Utf8.{encode}
 use Rattle.std.proofs.Common.{◌≡◌, ℕ, List, [], ◌∷◌, map, Option, Some, None, Result, Ok, Err, refl, codes, nat_eq, if◌then◌else◌}
 use Rattle.std.specs.Prelude.{negsuc}
 use Rattle.std.specs.Str.{is_utf8, chars}
+use Rattle.std.specs.Str.Lossy.{utf8_lossy, utf8_valid_len}
+use Rattle.zbase.specs.Hex.{hex16_text, hex_digits}
 use Rattle.zbase.specs.Query.{◌>>=◌, run, Halt, Need, Cause}
 use Rattle.zobject.specs.declared.object.Object.{Object}
 use Rattle.zobject.specs.declared.object.Property.{Property}
@@ -16,6 +18,7 @@ use Rattle.zobject.specs.Shapes as form
 use Rattle.zknown.specs.Seen.{Seen, Here, Absent, Unreadable, Objects}
 use Rattle.acquisition.specs.Acquiring.{containers, upwards}
 use Rattle.evaluator.specs.declared.draft.Name.{Name}
+use Rattle.evaluator.specs.declared.fact.LogRow.{LogRow}
 use Rattle.evaluator.specs.declared.permission.TheConstants.{CHANGE_DTML_DOCUMENTS, CHANGE_DTML_METHODS, MANAGE_PROPERTIES, UNDO_CHANGES}
 use Rattle.form_fields.specs.declared.field.Field.{Field}
 use Rattle.form_fields.specs.declared.field.FieldValue.{FieldValue}
@@ -23,14 +26,15 @@ use Rattle.form_fields.specs.declared.field.Scalar.{Scalar}
 use Rattle.form_fields.specs.Numbers.{whole_number}
 use Rattle.http_in.specs.declared.message.Verb.TheVariants.{Get, Head, Post}
 use Rattle.manage.specs.declared.call.Call.TheVariants as call
-use Rattle.manage.specs.declared.refusal.FieldName.TheVariants.{Id, Ids, Value, ValueType}
+use Rattle.manage.specs.declared.refusal.FieldName.TheVariants.{Id, Ids, Tid, Value, ValueType}
 use Rattle.manage.specs.declared.refusal.ManageRefusal.{ManageRefusal}
-use Rattle.manage.specs.declared.refusal.ManageRefusal.TheVariants.{Missing, BadField, NotFound, NotYet, Broken, NoSuchId, Taken}
+use Rattle.manage.specs.declared.refusal.ManageRefusal.TheVariants.{Missing, BadField, NotFound, Broken, NoSuchId, Taken}
 use Rattle.manage.specs.Calls.{call_named}
 use Rattle.manage.specs.Calling.{here, permission_at}
 use Rattle.manage.specs.Changing.{by_row, judged, written}
 use Rattle.manage.specs.Fields.{field_kept, fields_kept, text_of, texts_of}
 use Rattle.manage.specs.Table.{Row, add_folder, add_property, delete_objects, permission_for, rename_object}
+use Rattle.manage.specs.Undoing.{log_text, undone_id}
 use Rattle.manage.specs.Written.{Written}
 
 -- ---- names
@@ -77,10 +81,9 @@ edited_where : map (λ (o : ℕ). run shapes_of (permission_at call.Edit Post o)
 unfolding permission_at shapes_of shaped
 edited_where = refl
 
--- what isn't built yet is so where it will be a call
-not_yet : map (λ (o : ℕ). run shapes_of (permission_at call.UndoTransactions Get o)) (0 ∷ 1 ∷ 2 ∷ []) ≡ Err (Cause (NotYet 0)) ∷ Err (Cause (NotFound call.UndoTransactions)) ∷ Err (Cause (NotFound call.UndoTransactions)) ∷ []
+undone_where : map (λ (o : ℕ). run shapes_of (permission_at call.UndoTransactions Get o)) (0 ∷ 1 ∷ 2 ∷ []) ≡ Ok UNDO_CHANGES ∷ Err (Cause (NotFound call.UndoTransactions)) ∷ Err (Cause (NotFound call.UndoTransactions)) ∷ []
 unfolding permission_at shapes_of shaped
-not_yet = refl
+undone_where = refl
 
 -- ---- a site
 
@@ -169,3 +172,22 @@ lines : told (run site (tried add_property (property (97 ∷ 13 ∷ 10 ∷ 98 �
     ≡ Ok ((Name.Old 0, with_one (record { name = codes "p"; value = Lines ((97 ∷ []) ∷ (98 ∷ []) ∷ [] ∷ []) })) ∷ [])
 unfolding written judged fields_kept field_kept texts_of text_of is_utf8 chars encode site root with_one
 lines = refl
+
+-- ---- the transaction that is undone
+
+undone_ids : map undone_id ((said (codes "tid") (codes "0331620000000001") ∷ []) ∷ (said (codes "tid") (codes "0331620000000001 ") ∷ []) ∷ (said (codes "tid") (codes "033162000000000A") ∷ []) ∷ (listed (codes "tid") (codes "0331620000000001" ∷ []) ∷ []) ∷ [] ∷ [])
+    ≡ Ok 230072808112128001 ∷ Err (BadField Tid) ∷ Err (BadField Tid) ∷ Err (BadField Tid) ∷ Err (Missing Tid) ∷ []
+undone_ids = refl
+
+-- ---- the newest transactions
+
+abbrev logged : List ℕ → List ℕ → ℕ → LogRow
+logged user description tid = record { tid = tid; user = user; description = description }
+
+log_rows : log_text (logged [] (codes "init") 1 ∷ logged (codes "admin") (codes "/index_html/manage_edit") 2 ∷ []) ≡ codes "0000000000000002 admin /index_html/manage_edit\n0000000000000001  init\n"
+unfolding log_text hex16_text hex_digits utf8_lossy utf8_valid_len is_utf8 chars encode
+log_rows = refl
+
+no_rows : log_text [] ≡ []
+unfolding log_text
+no_rows = refl

@@ -44,30 +44,12 @@ pub(crate) fn kind_of(part: &Part2) -> Kind
     }
 }
 
-// What is built so far.
-fn is_built(call: Call) -> bool
-    ensures { result ≡ calling.is_built call }
-{
-    !matches!(call, Call::UndoTransactions | Call::ListTransactions)
-}
-
-fn if_lawful(
-    known: &Known,
-    call: Call,
-    oid: Oid,
-    permission: Option<u8>,
-) -> Result<u8, ManageRefusal>
-    ensures { Answers calling.told (λ n. n) result (as_ask (run (shapes known.now) (calling.if_lawful call oid permission))) }
+fn if_lawful(known: &Known, call: Call, permission: Option<u8>) -> Result<u8, ManageRefusal>
+    ensures { Answers calling.told (λ n. n) result (as_ask (run (shapes known.now) (calling.if_lawful call permission))) }
 {
     match permission {
         None => Err(ManageRefusal::NotFound(call)),
-        Some(permission) => {
-            if is_built(call) {
-                Ok(permission)
-            } else {
-                Err(ManageRefusal::NotYet(oid))
-            }
-        }
+        Some(permission) => Ok(permission),
     }
 }
 
@@ -79,10 +61,10 @@ fn lawful(
     part: &Part2,
 ) -> Result<u8, ManageRefusal>
     ensures { Answers calling.told (λ n. n) result
-        (as_ask (run (shapes known.now) (calling.if_lawful call oid (permission_for call verb oid (calling.kind_of (form_of part.now)))))) }
+        (as_ask (run (shapes known.now) (calling.if_lawful call (permission_for call verb oid (calling.kind_of (form_of part.now)))))) }
 {
     let permission = permission_for(call, verb, oid, kind_of(part));
-    if_lawful(known, call, oid, permission)
+    if_lawful(known, call, permission)
 }
 
 #[tactic(auto, using(crate::proofs::Steps::passes), unfolding(crate::specs::Calling::permission_at, zobject::specs::Shapes::shape_of))]
@@ -95,8 +77,7 @@ fn permission_on(known: &Known, call: Call, verb: Verb, oid: Oid) -> Result<u8, 
 
 /// The permission that a call needs, by its number, on the object that a path leads to.
 ///
-/// `NotFound` comes where it is no call there, or not by that method; `NotYet` where it is one that isn't built yet. Both
-/// are answered before a user is looked for. Takes no memory.
+/// `NotFound` comes where it is no call there, or not by that method, before a user is looked for. Takes no memory.
 pub fn permission_at(
     known: &Known,
     call: Call,

@@ -1,5 +1,5 @@
 use evaluator::Entries;
-use zbase::Text;
+use zbase::{Text, Tid};
 use zobject::Part2;
 
 /// What a call changes.
@@ -7,6 +7,17 @@ use zobject::Part2;
 pub struct Change {
     /// An entry for each object that it writes.
     pub entries: Entries,
+}
+
+/// What a call comes to by the object that it is called on and by its form.
+#[derive(Debug, Drop)]
+pub enum Called {
+    /// It makes this change.
+    Writes(Change),
+    /// It undoes the transaction of this id, if the history has one that can be undone.
+    Undoes(Tid),
+    /// It shows the newest transactions.
+    Lists,
 }
 
 /// What has a source.

@@ -14,7 +14,7 @@ ghost use Rattle.manage.specs.Table.{row_of};
 use crate::adding::change_adding;
 use crate::call::Call;
 use crate::called::{here, kind_of};
-use crate::changes::Change;
+use crate::changes::{Called, Change};
 use crate::deleting::delete_objects;
 use crate::editing::{edit_folder, edit_page};
 use crate::laws::rows_keep_the_rules;
@@ -22,6 +22,7 @@ use crate::properties::{add_property, delete_properties};
 use crate::refusal::ManageRefusal;
 use crate::renaming::change_renaming;
 use crate::roles::{delete_local_roles, set_local_roles, set_permission, set_proxy_roles};
+use crate::undoing::undone_id;
 use crate::users::add_user;
 use crate::written::write_itself;
 use acquisition::Wrapped;
@@ -92,6 +93,7 @@ fn change_itself(
     record_itself(alloc, call, oid, object, fields)
 }
 
+// What a call writes that asks no history.
 fn changed(
     alloc: Global,
     call: Call,
@@ -118,7 +120,7 @@ fn changed(
             | Call::RenameObject,
             Kind::Method | Kind::Document | Kind::UserFolder,
         ) => Err(ManageRefusal::NotFound(call)),
-        (Call::UndoTransactions | Call::ListTransactions, _) => Err(ManageRefusal::NotYet(oid)),
+        (Call::UndoTransactions | Call::ListTransactions, _) => Err(ManageRefusal::NotFound(call)),
         (
             Call::Edit
             | Call::DeleteObjects
@@ -134,6 +136,51 @@ fn changed(
     }
 }
 
+#[tactic(auto, using(crate::proofs::Steps::writes_so, crate::proofs::Steps::passes))]
+fn writes(
+    alloc: Global,
+    call: Call,
+    oid: Oid,
+    known: &Known,
+    object: &Object,
+    fields: &Fields,
+) -> Result<Called, ManageRefusal>
+    requires lawful { IsObject object.now }
+    requires known { KeepRules (objects known.now) }
+    ensures { Answers told (λ called. called) result (as_ask (run (objects known.now) (changing.written_by (changing.changed call oid object.now fields.now)))) }
+{
+    let change = changed(alloc, call, oid, known, object, fields)?;
+    Ok(Called::Writes(change))
+}
+
+#[tactic(auto, using(crate::proofs::Steps::stops))]
+fn undoes(alloc: Global, fields: &Fields) -> Result<Called, ManageRefusal>
+    ensures { Gives (λ called. called) result (changing.undoes fields.now) }
+{
+    let tid = undone_id(alloc, fields)?;
+    Ok(Called::Undoes(tid))
+}
+
+#[tactic(auto, using(crate::proofs::Steps::decided))]
+fn called_by(
+    alloc: Global,
+    call: Call,
+    oid: Oid,
+    known: &Known,
+    object: &Object,
+    fields: &Fields,
+) -> Result<Called, ManageRefusal>
+    requires lawful { IsObject object.now }
+    requires known { KeepRules (objects known.now) }
+    ensures { Answers told (λ called. called) result (as_ask (run (objects known.now) (changing.called_by call oid object.now fields.now))) }
+{
+    match call {
+        Call::UndoTransactions => undoes(alloc, fields),
+        Call::ListTransactions => Ok(Called::Lists),
+        _ => writes(alloc, call, oid, known, object, fields),
+    }
+}
+
 #[tactic(auto, using(crate::proofs::Steps::passes), unfolding(crate::specs::Changing::change))]
 fn change_on(
     alloc: Global,
@@ -141,30 +188,31 @@ fn change_on(
     oid: Oid,
     known: &Known,
     fields: &Fields,
-) -> Result<Change, ManageRefusal>
+) -> Result<Called, ManageRefusal>
     requires lawful { KeepRules (objects known.now) }
-    ensures { Answers told (λ change. change) result (as_ask (run (objects known.now) (changing.change call oid fields.now))) }
+    ensures { Answers told (λ called. called) result (as_ask (run (objects known.now) (changing.change call oid fields.now))) }
 {
     let object = here(known, oid)?;
-    changed(alloc, call, oid, known, object, fields)
+    called_by(alloc, call, oid, known, object, fields)
 }
 
-/// What a call changes, by the fields of its form, on the object that a path leads to.
+/// What a call comes to, by the fields of its form, on the object that a path leads to: what it writes, which transaction
+/// it undoes, or that it lists transactions. The history is asked later (`undo`, `log_page`).
 ///
 /// The fields are tested in the order of the call, then what else it is refused for; the first that applies is answered.
-/// A kind of object that the table of calls doesn't name for it is `NotFound`. Calls that aren't built yet are `NotYet`.
-/// Each object that is here keeps the rules of objects.
+/// A kind of object that the table of calls doesn't name for it is `NotFound`. Each object that is here keeps the rules of
+/// objects.
 ///
-/// Zope Book, "Basic Zope Objects" and "Users and Security".
+/// Zope Book, "Basic Zope Objects" and "Users and Security"; Zope Developer's Guide, "Undo".
 pub fn change(
     alloc: Global,
     call: Call,
     on: &Wrapped,
     known: &Known,
     fields: &Fields,
-) -> Result<Change, ManageRefusal>
+) -> Result<Called, ManageRefusal>
     requires lawful { KeepRules (objects known.now) }
-    ensures { Answers told (λ change. change) result (as_ask (run (objects known.now) (changing.change call (first on.now) fields.now))) }
+    ensures { Answers told (λ called. called) result (as_ask (run (objects known.now) (changing.change call (first on.now) fields.now))) }
 {
     change_on(alloc, call, on.oid(), known, fields)
 }

@@ -21,14 +21,15 @@ fn find_field<'a>(fields: &'a [Field], name: &[u8]) -> Option<&'a FieldValue>
     }
 }
 
-// What the form has under a name.
-fn value_of(field: FieldName, fields: &Fields) -> Option<&FieldValue>
+/// What the form has under a name.
+pub(crate) fn value_of(field: FieldName, fields: &Fields) -> Option<&FieldValue>
     ensures { option_map (λ value. value.now) result ≡ spec.value_of field fields.now }
 {
     find_field(fields.as_slice(), field_name(field).as_bytes())
 }
 
-fn scalar_text(alloc: Global, scalar: &Scalar) -> Result<Text, Memory>
+/// The text of a value; a number counts as its decimal text.
+pub(crate) fn scalar_text(alloc: Global, scalar: &Scalar) -> Result<Text, Memory>
     ensures { IfOk result (λ text. text ≡ spec.scalar_text scalar.now) }
 {
     match scalar {

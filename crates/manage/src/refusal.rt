@@ -1,12 +1,14 @@
 ghost use Rattle.std.specs.Prelude.{◌≡◌};
 ghost use Rattle.manage.specs.Calls as calls;
+ghost use Rattle.manage.specs.Undoing as undoing;
 
 use crate::call::Call;
 use acquisition::AqRefusal;
 use dtml_lex::DtmlRefusal;
 use evaluator::Ask;
+use fs_undo::UndoHalt;
 use std::alloc::AllocFailed;
-use zbase::{Memory, Oid, Text};
+use zbase::{Memory, Oid, Text, Tid};
 
 /// A field of the calls.
 #[derive(Clone, Copy, Debug, PartialEq, Eq)]
@@ -31,6 +33,8 @@ pub enum FieldName {
     Permission,
     /// `roles`: names of roles.
     Roles,
+    /// `tid`: the id of a transaction.
+    Tid,
     /// `title`: a title.
     Title,
     /// `userid`: the name of a user.
@@ -58,6 +62,7 @@ pub fn field_name(field: FieldName) -> &'static str
         FieldName::Password => "password",
         FieldName::Permission => "permission_to_manage",
         FieldName::Roles => "roles",
+        FieldName::Tid => "tid",
         FieldName::Title => "title",
         FieldName::UserId => "userid",
         FieldName::UserIds => "userids",
@@ -77,8 +82,6 @@ pub enum ManageRefusal {
     Broken(Oid),
     /// It is no call on such an object, or not by that method.
     NotFound(Call),
-    /// A call on this object that isn't built yet.
-    NotYet(Oid),
     /// A field is absent that has to be there.
     Missing(FieldName),
     /// A field has a list where one value is due, or breaks its rule in another way than by too many bytes.
@@ -95,6 +98,10 @@ pub enum ManageRefusal {
     BadSource(DtmlRefusal),
     /// The containers of the object don't reach the root within 64.
     TooDeep,
+    /// No transaction that can be undone has this id.
+    NoSuchTransaction(Tid),
+    /// The first object that has another value now than the transaction gave it.
+    UndoChanged(Oid),
 }
 
 impl From<Memory> for ManageRefusal {
@@ -131,6 +138,19 @@ impl From<AqRefusal> for ManageRefusal {
             AqRefusal::Need(oid) => ManageRefusal::Need(Ask::Object(oid)),
             AqRefusal::Broken(oid) => ManageRefusal::Broken(oid),
             AqRefusal::TooDeep => ManageRefusal::TooDeep,
+        }
+    }
+}
+
+impl From<UndoHalt> for ManageRefusal {
+    ghost from_gives = { λ halt e. e ≡ undoing.refusal_of halt };
+
+    fn from(halt: UndoHalt) -> ManageRefusal {
+        match halt {
+            UndoHalt::Memory => ManageRefusal::Memory,
+            UndoHalt::Need(ask) => ManageRefusal::Need(ask),
+            UndoHalt::NoTransaction(tid) => ManageRefusal::NoSuchTransaction(tid),
+            UndoHalt::Changed(oid) => ManageRefusal::UndoChanged(oid),
         }
     }
 }

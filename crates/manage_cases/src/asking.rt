@@ -7,7 +7,7 @@ use cases::{CasesRefusal, Part, add_bytes, add_line, put_number, put_numbered};
 use evaluator::{Entry, Name};
 use form_fields::{Fields, fields};
 use http_in::{Message, Reader, Verb};
-use manage::{Call, Change, ManageRefusal, call_name, call_named, change, permission_at};
+use manage::{Call, Called, ManageRefusal, call_name, call_named, change, permission_at};
 use std::alloc::Global;
 use zbase::{Bytes, Oid};
 use zknown::Known;
@@ -138,18 +138,30 @@ fn put_entry(alloc: Global, entry: &Entry, parts: &mut Vec<Part>) -> Result<(), 
     }
 }
 
+fn put_entries(
+    alloc: Global,
+    entries: &[Entry],
+    parts: &mut Vec<Part>,
+) -> Result<(), CasesRefusal> {
+    for entry in entries {
+        put_entry(alloc, entry, parts)?;
+    }
+    Ok(())
+}
+
 fn put_answer(
     alloc: Global,
-    answer: Result<Change, ManageRefusal>,
+    answer: Result<Called, ManageRefusal>,
     parts: &mut Vec<Part>,
 ) -> Result<(), CasesRefusal> {
     match answer {
-        Ok(change) => {
-            for entry in change.entries.as_slice() {
-                put_entry(alloc, entry, parts)?;
-            }
-            Ok(())
-        }
+        Ok(Called::Writes(change)) => put_entries(alloc, change.entries.as_slice(), parts),
+        Ok(Called::Undoes(tid)) => add_line(
+            alloc,
+            parts,
+            line_of(alloc, "undoes", tid.0)?.as_str(),
+        ),
+        Ok(Called::Lists) => add_line(alloc, parts, "lists"),
         Err(refusal) => {
             let mut line = String::from_str(alloc, "refused")?;
             put_refusal(alloc, &mut line, refusal)?;
@@ -158,7 +170,7 @@ fn put_answer(
     }
 }
 
-/// Adds what a call changes by the form below.
+/// Adds what a call comes to by the form below.
 pub(crate) fn put_change(
     alloc: Global,
     known: &Known,

@@ -4,6 +4,7 @@
 
 mod asking;
 mod knowing;
+mod listing;
 mod running;
 mod telling;
 

@@ -53,7 +53,6 @@ pub(crate) fn put_refusal(
         ManageRefusal::Need(ask) => put_ask(alloc, line, ask),
         ManageRefusal::Broken(oid) => put_numbered(alloc, line, "broken", oid.0),
         ManageRefusal::NotFound(call) => put_words(line, "not-found", call_name(call)),
-        ManageRefusal::NotYet(oid) => put_numbered(alloc, line, "not-yet", oid.0),
         ManageRefusal::Missing(field) => put_words(line, "missing", field_name(field)),
         ManageRefusal::BadField(field) => put_words(line, "bad-field", field_name(field)),
         ManageRefusal::TooLong(field) => put_words(line, "too-long", field_name(field)),
@@ -62,5 +61,12 @@ pub(crate) fn put_refusal(
         ManageRefusal::TooMany => put_word(line, "too-many"),
         ManageRefusal::BadSource(refusal) => put_source(alloc, line, refusal),
         ManageRefusal::TooDeep => put_word(line, "too-deep"),
+        ManageRefusal::NoSuchTransaction(tid) => put_numbered(
+            alloc,
+            line,
+            "no-such-transaction",
+            tid.0,
+        ),
+        ManageRefusal::UndoChanged(oid) => put_numbered(alloc, line, "changed", oid.0),
     }
 }

@@ -1,23 +1,33 @@
 -- Contents that a user may not view make no difference to his pages.
-use Rattle.std.proofs.Common.{ℕ, ◌≡◌, ◌∙◌, inl, inr, refl, sym, ap, subst, List, [], Option, Some, Result, Ok, Err}
+use Rattle.std.proofs.Common.{ℕ, ◌≡◌, ◌∙◌, inl, inr, refl, sym, ap, subst, List, [], Option, Some, None, option_map, Result, Ok, Err}
 use Rattle.zbase.specs.History.{History}
-use Rattle.zbase.specs.Query.{run, and_then, or_else, ◌>>=◌ as ◌>>>◌}
+use Rattle.zbase.specs.Query.{run, go_on, and_then, or_else, Halt, Need, Cause, ◌>>=◌ as ◌>>>◌}
 use Rattle.zbase.specs.QueryLaws.{run_then}
 use Rattle.zobject.specs.declared.object.Object.{Object}
-use Rattle.zknown.specs.Seen.{Seen, Shapes, Objects}
+use Rattle.zknown.specs.Seen.{Seen, Here, Absent, Unreadable, Shapes, Objects, shape_seen}
 use Rattle.acquisition.specs.Acquiring.{first}
+use Rattle.permissions.specs.declared.who.Verdict.{Verdict}
+use Rattle.permissions.specs.declared.who.Verdict.TheVariants as verdicts
 use Rattle.permissions.specs.declared.who.Who.{Who}
 use Rattle.permissions.specs.Users.{Credentials, who}
+use Rattle.permissions.specs.Verdicts.{verdict_on}
 use Rattle.user_folder.specs.Credentials.{credentials_of}
 use Rattle.evaluator.specs.declared.ask.Ask.{Ask}
 use Rattle.evaluator.specs.declared.fact.Fact.{Fact}
 use Rattle.evaluator.specs.declared.reply.Reply.{Reply}
 use Rattle.evaluator.specs.Facts.{fact}
-use Rattle.evaluator.specs.Questions.{as_ask, outcome}
+use Rattle.evaluator.specs.Questions.{Made, Reads, as_ask, outcome}
+use Rattle.fs_undo.specs.Undone.{in_history}
 use Rattle.form_fields.specs.declared.field.Field.{Field}
 use Rattle.form_fields.specs.Cookies.{cookies_of}
 use Rattle.form_fields.specs.Fields.{fields_of}
 use Rattle.http_in.specs.declared.message.Request.{Request}
+use Rattle.manage.specs.declared.call.Call.{Call}
+use Rattle.manage.specs.declared.call.Call.TheVariants as calls
+use Rattle.manage.specs.declared.changes.Called.{Called}
+use Rattle.manage.specs.declared.changes.Called.TheVariants as called_as
+use Rattle.manage.specs.Calling.{permission_at, present}
+use Rattle.manage.specs.Changing.{called_by, change}
 use Rattle.namespace.specs.LookLaws.{Same, contents_stay_apart, run_veiled}
 use Rattle.namespace.specs.Looks.{looked, taken, through, veiled, view}
 use Rattle.namespace.specs.Requests.{request_names}
@@ -25,15 +35,19 @@ use Rattle.traverse.specs.declared.target.Target.{Target}
 use Rattle.traverse.specs.declared.target.Target.TheVariants as targets
 use Rattle.traverse.specs.Publishing.{published}
 use Rattle.dtml_render.specs.Access.{NoneHasProxyRoles}
-use Rattle.publisher.specs.Access.{ContentsStayApart, IsPageFor, IsTargetFor, objects_in}
+use Rattle.publisher.specs.declared.answer.Answer.{Answer}
+use Rattle.publisher.specs.declared.answer.Answer.TheVariants as answer
+use Rattle.publisher.specs.Access.{ContentsStayApart, GrantsCall, IsPageFor, IsTargetFor, objects_in}
 use Rattle.publisher.specs.Comes.{history_tells, made_of, over_history_comes, reworded, run_reworded, within_or}
 use Rattle.publisher.specs.Faults as faults
 use Rattle.publisher.specs.Faults.{Fault, by_shapes, or_stops}
 use Rattle.publisher.specs.Pages.{page_text}
-use Rattle.publisher.specs.Replies.{by_verb, runaway_facts}
-use Rattle.publisher.specs.Site.{answered, authorization, bad_credentials, over_history, page, page_for, scope_answer, request, shown_page, with_credentials, with_fields}
+use Rattle.publisher.specs.Replies.{by_verb, log_reply, runaway_facts}
+use Rattle.publisher.specs.Site.{answer_of, answered, authorization, bad_credentials, call_on, call_with, called, change_by, change_for, changed, over_history, page, page_for, rows_told, scope_answer, request, shown_page, where_granted, with_credentials, with_fields}
+use Rattle.publisher.specs.Ways.{Any, ComesTo}
 use Rattle.publisher.proofs.ForUsers.{AreOwn, page_own}
 use Rattle.publisher.specs.Backwards.{shapes_came, stops_came}
+use Rattle.publisher.specs.Granting.{request_grants}
 
 module _ (own : AreOwn) (w : Who) (k l : ℕ → Option (Seen Object)) (same : Same w k l) (none : NoneHasProxyRoles k) (q : Request) where
   both : {A B : Type 0} (p : Objects Fault A) (f g : A → Objects Fault B) → run k p ≡ run l p → ((x : A) → run k p ≡ Ok x → run k (f x) ≡ run l (g x)) → run k (p >>> f) ≡ run l (p >>> g)
@@ -70,9 +84,51 @@ module _ (own : AreOwn) (w : Who) (k l : ℕ → Option (Seen Object)) (same : S
           both (or_else faults.Page (through taken [] text)) shown_page shown_page
           (run_reworded k faults.Page (through taken [] text) ∙ ap (reworded faults.Page) (text_same user is) ∙ sym (run_reworded l faults.Page (through taken [] text))) (λ x came. refl)
 
+  -- the log is asked for by shapes alone
+  granted_same : (o permission : ℕ) (p p' : Objects Fault Answer) (v : Verdict) → run k p ≡ run l p' → run k (where_granted o permission p v) ≡ run l (where_granted o permission p' v)
+  granted_same o permission p p' (verdicts.Granted role) e = e
+  granted_same o permission p p' (verdicts.Denied d) e = refl
+
+  here_same : (fields : List Field) (o : ℕ) (user : Who) (found found' : Option (Seen Object)) → option_map shape_seen found ≡ option_map shape_seen found' →
+      and_then (reworded faults.Call (go_on o (λ seen. run k (present o seen >>> λ object. called_by calls.ListTransactions o object fields)) found)) (λ c. run k (changed q user c))
+      ≡ and_then (reworded faults.Call (go_on o (λ seen. run l (present o seen >>> λ object. called_by calls.ListTransactions o object fields)) found')) (λ c. run l (changed q user c))
+  here_same fields o user None None e = refl
+  here_same fields o user None (Some s) e = absurd (let bad = e in cc)
+  here_same fields o user (Some s) None e = absurd (let bad = e in cc)
+  here_same fields o user (Some (Here a)) (Some (Here b)) e = refl
+  here_same fields o user (Some (Here a)) (Some Absent) e = absurd (let bad = e in cc)
+  here_same fields o user (Some (Here a)) (Some Unreadable) e = absurd (let bad = e in cc)
+  here_same fields o user (Some Absent) (Some (Here b)) e = absurd (let bad = e in cc)
+  here_same fields o user (Some Absent) (Some Absent) e = refl
+  here_same fields o user (Some Absent) (Some Unreadable) e = absurd (let bad = e in cc)
+  here_same fields o user (Some Unreadable) (Some (Here b)) e = absurd (let bad = e in cc)
+  here_same fields o user (Some Unreadable) (Some Absent) e = absurd (let bad = e in cc)
+  here_same fields o user (Some Unreadable) (Some Unreadable) e = refl
+
+  shapes_at : (o : ℕ) → option_map shape_seen (k o) ≡ option_map shape_seen (l o)
+  unfolding veiled
+  shapes_at o = same.without_contents o
+
+  list_by_same : (fields : List Field) (o : ℕ) (user : Who) → run k (change_by q fields calls.ListTransactions o user) ≡ run l (change_by q fields calls.ListTransactions o user)
+  unfolding change_by change
+  list_by_same fields o user =
+      let p = change calls.ListTransactions o fields in
+      run_then k (or_else faults.Call p) (changed q user) ∙ ap (λ r. and_then r (λ c. run k (changed q user c))) (run_reworded k faults.Call p)
+      ∙ here_same fields o user (k o) (l o) (shapes_at o)
+      ∙ sym (run_then l (or_else faults.Call p) (changed q user) ∙ ap (λ r. and_then r (λ c. run l (changed q user c))) (run_reworded l faults.Call p))
+
+  listed_same : (fields : List Field) (credentials : Option Credentials) (o : ℕ) → run k (call_on q fields credentials calls.ListTransactions o) ≡ run l (call_on q fields credentials calls.ListTransactions o)
+  unfolding call_on call_with change_for
+  listed_same fields credentials o =
+      both (by_shapes faults.Call (permission_at calls.ListTransactions q.method o)) (call_with q fields credentials calls.ListTransactions o) (call_with q fields credentials calls.ListTransactions o) (shapes_same faults.Call (permission_at calls.ListTransactions q.method o)) (λ permission needed.
+      both (by_shapes faults.User (who credentials o permission)) (change_for q fields calls.ListTransactions o permission) (change_for q fields calls.ListTransactions o permission) (shapes_same faults.User (who credentials o permission)) (λ user is.
+      both (by_shapes faults.User (verdict_on user o permission)) (where_granted o permission (change_by q fields calls.ListTransactions o user)) (where_granted o permission (change_by q fields calls.ListTransactions o user)) (shapes_same faults.User (verdict_on user o permission)) (λ v told.
+      granted_same o permission (change_by q fields calls.ListTransactions o user) (change_by q fields calls.ListTransactions o user) v (list_by_same fields o user))))
+
   answered_same : (fields : List Field) (credentials : Option Credentials) (target : Target) → IsTargetFor w k credentials target → run k (answered q fields credentials target) ≡ run l (answered q fields credentials target)
   answered_same fields credentials (targets.Page object client) is = page_same fields credentials object client is
-  answered_same fields credentials (targets.Call name on) is = absurd is
+  answered_same fields credentials (targets.Call name on) is =
+      ap (λ c. run k (called q fields credentials name (first on) c)) is ∙ listed_same fields credentials (first on) ∙ sym (ap (λ c. run l (called q fields credentials name (first on) c)) is)
 
   request_same : IsPageFor w k q → run k (request q) ≡ run l (request q)
   unfolding request with_fields with_credentials
@@ -82,20 +138,65 @@ module _ (own : AreOwn) (w : Who) (k l : ℕ → Option (Seen Object)) (same : S
       both (by_shapes faults.Path (published q.path)) (answered q fields credentials) (answered q fields credentials) (shapes_same faults.Path (published q.path)) (λ target came.
       answered_same fields credentials target (is credentials target (stops_came k bad_credentials (credentials_of (authorization q)) credentials carried) (shapes_came k faults.Path (published q.path) target came)))))
 
+-- an answer to a request for a page or the log
+abbrev RestsOnLog : Answer → Type 0
+RestsOnLog (answer.Page x) = Unit {0}
+RestsOnLog (answer.Change x d) = ⊥
+RestsOnLog (answer.Undo user t) = ⊥
+RestsOnLog answer.Log = Unit {0}
+
+abbrev listed_result : Request → Fact → Result Made (Halt Ask Reply)
+listed_result q f = Ok (Reads (by_verb q.method (log_reply (rows_told f))))
+
+-- only the log is listed
+lists_made : (k : ℕ → Option (Seen Object)) (o : ℕ) (fields : List Field) (made : Called) → run k (change calls.ListTransactions o fields) ≡ Ok made → made ≡ called_as.Lists
+unfolding change
+lists_made k o fields made e = at (k o) e
+  where
+    at : (found : Option (Seen Object)) → go_on o (λ seen. run k (present o seen >>> λ object. called_by calls.ListTransactions o object fields)) found ≡ Ok made → made ≡ called_as.Lists
+    at None e' = absurd (let bad = e' in cc)
+    at (Some (Here x)) e' = cc
+    at (Some Absent) e' = absurd (let bad = e' in cc)
+    at (Some Unreadable) e' = absurd (let bad = e' in cc)
+
+lists_only : (w : Who) (k : ℕ → Option (Seen Object)) (q : Request) (user : Who) (made : Called) → IsPageFor w k q → GrantsCall k q user made → made ≡ called_as.Lists
+lists_only w k q user made is g =
+    let named = is g.credentials (targets.Call g.name g.on) g.carried g.target in
+    let same : g.call ≡ calls.ListTransactions = (let both : Some g.call ≡ Some calls.ListTransactions = sym g.named ∙ named in cc) in
+    lists_made k (first g.on) g.fields made (subst (λ (c : Call). run k (change c (first g.on) g.fields) ≡ Ok made) same g.called)
+
+rests_at : (w : Who) (k : ℕ → Option (Seen Object)) (q : Request) (r : Result Answer (Halt ℕ Fault)) → IsPageFor w k q → run k (request q) ≡ r → ComesTo (λ (f : Fault). Any f) RestsOnLog r
+rests_at w k q (Ok (answer.Page x)) is e = tt
+rests_at w k q (Ok (answer.Change x d)) is e =
+    let found = request_grants k q (answer.Change x d) (λ bad. bad) e in
+    absurd (let a : answer.Change x d ≡ answer.Log = found.3 ∙ ap (answer_of q found.0) (lists_only w k q found.0 found.1 is found.2) in cc)
+rests_at w k q (Ok (answer.Undo user t)) is e =
+    let found = request_grants k q (answer.Undo user t) (λ bad. bad) e in
+    absurd (let a : answer.Undo user t ≡ answer.Log = found.3 ∙ ap (answer_of q found.0) (lists_only w k q found.0 found.1 is found.2) in cc)
+rests_at w k q (Ok answer.Log) is e = tt
+rests_at w k q (Err (Need o)) is e = tt
+rests_at w k q (Err (Cause f)) is e = tt
+
+made_same : (h1 h2 : History) (q : Request) (r : Result Answer (Halt ℕ Fault)) → fact h1 Ask.Log ≡ fact h2 Ask.Log → ComesTo (λ (f : Fault). Any f) RestsOnLog r → made_of (in_history h1) q (as_ask r) ≡ made_of (in_history h2) q (as_ask r)
+made_same h1 h2 q (Ok (answer.Page x)) logs rests = refl
+made_same h1 h2 q (Ok (answer.Change x d)) logs rests = absurd rests
+made_same h1 h2 q (Ok (answer.Undo user t)) logs rests = absurd rests
+made_same h1 h2 q (Ok answer.Log) logs rests = ap (λ (f : Fact). listed_result q f) logs
+made_same h1 h2 q (Err (Need o)) logs rests = refl
+made_same h1 h2 q (Err (Cause f)) logs rests = refl
+
 pub stay_apart : AreOwn → ContentsStayApart
-stay_apart own w h1 h2 q same none is first_goes second_goes = elim (within_or runaway (known h1) (over_history q) (history_tells h1)) [
+stay_apart own w h1 h2 q same logs none is first_goes second_goes = elim (within_or runaway (in_history h1) (over_history q) (history_tells h1)) [
   | inl runs ↦ absurd (first_goes (ap outcome runs))
-  | inr first ↦ elim (within_or runaway (known h2) (over_history q) (history_tells h2)) [
+  | inr first ↦ elim (within_or runaway (in_history h2) (over_history q) (history_tells h2)) [
     | inl runs ↦ absurd (second_goes (ap outcome runs))
     | inr second ↦
-        ap outcome (first ∙ over_history_comes (known h1) q)
-        ∙ ap (λ r. outcome (made_of q.method (as_ask r))) (request_same own w (objects_in h1) (objects_in h2) same none q is)
-        ∙ sym (ap outcome (second ∙ over_history_comes (known h2) q))
+        ap outcome (first ∙ over_history_comes (in_history h1) q)
+        ∙ ap (λ r. outcome (made_of (in_history h1) q (as_ask r))) (request_same own w (objects_in h1) (objects_in h2) same none q is)
+        ∙ ap outcome (made_same h1 h2 q (run (objects_in h2) (request q)) logs (subst (ComesTo (λ (f : Fault). Any f) RestsOnLog) (request_same own w (objects_in h1) (objects_in h2) same none q is) (rests_at w (objects_in h1) q (run (objects_in h1) (request q)) is refl)))
+        ∙ sym (ap outcome (second ∙ over_history_comes (in_history h2) q))
   ]
 ]
   where
     runaway : Reply
     runaway = by_verb q.method runaway_facts
-
-    known : History → Ask → Option Fact
-    known h ask = Some (fact h ask)

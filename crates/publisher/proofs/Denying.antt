@@ -1,6 +1,6 @@
 -- What a refusal denies.
 use Rattle.std.proofs.Common.{ℕ, ◌≡◌, ◌∙◌, ◌⊎◌, inl, inr, refl, sym, ap, subst, List, [], Option, Some, None, Result, Ok, Err}
-use Rattle.zbase.specs.Query.{run, or_else, Halt, Need, Cause}
+use Rattle.zbase.specs.Query.{run, go_on, or_else, Halt, Need, Cause}
 use Rattle.zobject.specs.declared.object.Object.{Object}
 use Rattle.zknown.specs.Seen.{Seen, Shapes}
 use Rattle.acquisition.specs.Acquiring as acquiring
@@ -11,6 +11,8 @@ use Rattle.permissions.specs.declared.who.Who.{Who}
 use Rattle.permissions.specs.Users.{Credentials, who}
 use Rattle.permissions.specs.Verdicts.{verdict_on}
 use Rattle.user_folder.specs.Credentials.{credentials_of}
+use Rattle.evaluator.specs.declared.ask.Ask.{Ask}
+use Rattle.evaluator.specs.declared.fact.Fact.{Fact}
 use Rattle.evaluator.specs.declared.outcome.Outcome.{Outcome}
 use Rattle.evaluator.specs.declared.reply.Denial.{Denial}
 use Rattle.evaluator.specs.declared.reply.Reply.{Reply}
@@ -43,10 +45,10 @@ use Rattle.publisher.specs.Comes.{made_of, over_history_comes, reworded, run_rew
 use Rattle.publisher.specs.Faults as faults
 use Rattle.publisher.specs.Faults.{Fault, by_shapes, or_stops}
 use Rattle.publisher.specs.Pages.{page_text}
-use Rattle.publisher.specs.Replies.{by_verb, fault_reply, page_reply, runaway_facts}
-use Rattle.publisher.specs.Site.{answered, authorization, bad_credentials, call_on, call_with, called, change_by, change_for, changed, over_history, page, page_for, refused_by, scope_answer, request, shown_page, where_granted, with_credentials, with_fields}
+use Rattle.publisher.specs.Replies.{by_verb, fault_reply, log_reply, page_reply, runaway_facts}
+use Rattle.publisher.specs.Site.{answered, authorization, bad_credentials, call_on, call_with, called, change_by, change_for, changed, listed, over_history, page, page_for, refused_by, rows_told, scope_answer, request, shown_page, undo_by, where_granted, with_credentials, with_fields}
 use Rattle.publisher.proofs.ForUsers.{AreForUsers, page_for_users}
-use Rattle.publisher.specs.Backwards.{answer_is, calls_change, came, no_page, shapes_came, shapes_stopped, stopped, stops_came}
+use Rattle.publisher.specs.Backwards.{answer_is, calls_change, came, no_page, shapes_came, shapes_stopped, stopped, stops_came, undo_answers}
 
 denial_of : Fault → Option Denial
 denial_of f = (fault_reply f).denied
@@ -68,7 +70,6 @@ call_silent refusals.Memory = refl
 call_silent (refusals.Need ask) = refl
 call_silent (refusals.Broken o) = refl
 call_silent (refusals.NotFound c) = refl
-call_silent (refusals.NotYet o) = refl
 call_silent (refusals.Missing field) = refl
 call_silent (refusals.BadField field) = refl
 call_silent (refusals.TooLong field) = refl
@@ -77,6 +78,8 @@ call_silent (refusals.Taken name) = refl
 call_silent refusals.TooMany = refl
 call_silent (refusals.BadSource c) = refl
 call_silent refusals.TooDeep = refl
+call_silent (refusals.NoSuchTransaction t) = refl
+call_silent (refusals.UndoChanged o) = refl
 
 module _ (all : AreForUsers) (k : ℕ → Option (Seen Object)) (q : Request) (d : Denial) where
   abbrev Rightly : Type 0
@@ -233,12 +236,22 @@ no_denial k q y e =
     let target = came k (by_shapes faults.Path (published q.path)) (answered q fields.0 credentials.0) (answer.Page y) credentials.2 in
     answered_denies k q fields.0 credentials.0 target.0 y target.2
 
-denied_at : AreForUsers → (k : ℕ → Option (Seen Object)) (q : Request) (x : Reply) (d : Denial) (r : Result Answer (Halt ℕ Fault)) → run k (request q) ≡ r → outcome (made_of q.method (as_ask r)) ≡ Outcome.Answer x → x.denied ≡ Some d →
+-- nor do an undo and the log
+undo_denies : (known : Ask → Option Fact) (q : Request) (user : List ℕ) (t : ℕ) (x : Reply) → outcome (run known (undo_by q user t)) ≡ Outcome.Answer x → x.denied ≡ None
+undo_denies known q user t x e = (let found = undo_answers known q user t x e in ap (λ (z : Reply). z.denied) found.1 ∙ call_silent found.0)
+
+log_denies : (known : Ask → Option Fact) (q : Request) (x : Reply) (o : Option Fact) → outcome (go_on Ask.Log (λ f. run known (listed q f)) o) ≡ Outcome.Answer x → x.denied ≡ None
+log_denies known q x None e = absurd (let bad = e in cc)
+log_denies known q x (Some f) e = sym (ap (λ (z : Reply). z.denied) (answer_is (by_verb q.method (log_reply (rows_told f))) x e))
+
+denied_at : AreForUsers → (known : Ask → Option Fact) (k : ℕ → Option (Seen Object)) (q : Request) (x : Reply) (d : Denial) (r : Result Answer (Halt ℕ Fault)) → run k (request q) ≡ r → outcome (made_of known q (as_ask r)) ≡ Outcome.Answer x → x.denied ≡ Some d →
     (user : Who) × IsItsUser k q user × IsDeniedTo k user d
-denied_at all k q x d (Ok (answer.Page y)) is e d_is = absurd (none_is d (sym (no_denial k q y is) ∙ ap (λ (z : Reply). z.denied) (answer_is (by_verb q.method y) x e) ∙ d_is))
-denied_at all k q x d (Ok (answer.Change y c)) is e d_is = absurd (let bad = e in cc)
-denied_at all k q x d (Err (Need o)) is e d_is = absurd (let bad = e in cc)
-denied_at all k q x d (Err (Cause f)) is e d_is = request_denied all k q d f is (ap (λ (z : Reply). z.denied) (answer_is (refused_by q.method f) x e) ∙ d_is)
+denied_at all known k q x d (Ok (answer.Page y)) is e d_is = absurd (none_is d (sym (no_denial k q y is) ∙ ap (λ (z : Reply). z.denied) (answer_is (by_verb q.method y) x e) ∙ d_is))
+denied_at all known k q x d (Ok (answer.Change y c)) is e d_is = absurd (let bad = e in cc)
+denied_at all known k q x d (Ok (answer.Undo user t)) is e d_is = absurd (none_is d (sym (undo_denies known q user t x e) ∙ d_is))
+denied_at all known k q x d (Ok answer.Log) is e d_is = absurd (none_is d (sym (log_denies known q x (known Ask.Log) e) ∙ d_is))
+denied_at all known k q x d (Err (Need o)) is e d_is = absurd (let bad = e in cc)
+denied_at all known k q x d (Err (Cause f)) is e d_is = request_denied all k q d f is (ap (λ (z : Reply). z.denied) (answer_is (refused_by q.method f) x e) ∙ d_is)
 
 runaway_silent : (verb : Verb) (x : Reply) (d : Denial) → Outcome.Answer (by_verb verb runaway_facts) ≡ Outcome.Answer x → x.denied ≡ Some d → ⊥
 runaway_silent verb x d e d_is = none_is d (ap (λ (z : Reply). z.denied) (answer_is (by_verb verb runaway_facts) x e) ∙ d_is)
@@ -246,5 +259,5 @@ runaway_silent verb x d e d_is = none_is d (ap (λ (z : Reply). z.denied) (answe
 pub are_denied : AreForUsers → RefusalsAreDenied
 are_denied all known q x d tells e d_is = elim (within_or (by_verb q.method runaway_facts) known (over_history q) tells) [
   | inl runs ↦ absurd (runaway_silent q.method x d (sym (ap outcome runs) ∙ e) d_is)
-  | inr same ↦ denied_at all (shown_by known) q x d (run (shown_by known) (request q)) refl (sym (ap outcome (same ∙ over_history_comes known q)) ∙ e) d_is
+  | inr same ↦ denied_at all known (shown_by known) q x d (run (shown_by known) (request q)) refl (sym (ap outcome (same ∙ over_history_comes known q)) ∙ e) d_is
 ]

@@ -1,7 +1,7 @@
 -- What a page shows.
-use Rattle.std.proofs.Common.{ℕ, ◌≡◌, ◌∙◌, ◌==◌, inl, inr, refl, eq-eqb, sym, ap, subst, Bool, true, false, List, [], ◌∷◌, Option, Some, None, Result, Ok, Err}
+use Rattle.std.proofs.Common.{ℕ, ◌≡◌, ◌∙◌, ◌⊎◌, ◌==◌, inl, inr, refl, eq-eqb, sym, ap, subst, Bool, true, false, List, [], ◌∷◌, Option, Some, None, Result, Ok, Err}
 use Rattle.std.specs.List.{AllByRecursion}
-use Rattle.zbase.specs.Query.{run, or_else, Halt, Need, Cause}
+use Rattle.zbase.specs.Query.{run, go_on, or_else, Halt, Need, Cause}
 use Rattle.zobject.specs.declared.object.Object.{Object}
 use Rattle.zknown.specs.Seen.{Seen}
 use Rattle.acquisition.specs.Acquiring as acquiring
@@ -9,6 +9,8 @@ use Rattle.acquisition.specs.Acquiring.{first}
 use Rattle.permissions.specs.declared.who.Who.{Who}
 use Rattle.permissions.specs.Users.{Credentials, who}
 use Rattle.user_folder.specs.Credentials.{credentials_of}
+use Rattle.evaluator.specs.declared.ask.Ask.{Ask}
+use Rattle.evaluator.specs.declared.fact.Fact.{Fact}
 use Rattle.evaluator.specs.declared.outcome.Outcome.{Outcome}
 use Rattle.evaluator.specs.declared.reply.Reply.{Reply}
 use Rattle.evaluator.specs.declared.reply.Shown.{Shown}
@@ -34,15 +36,16 @@ use Rattle.traverse.specs.Publishing.{published}
 use Rattle.dtml_values.specs.Values.{Left}
 use Rattle.publisher.specs.declared.answer.Answer.{Answer}
 use Rattle.publisher.specs.declared.answer.Answer.TheVariants as answer
-use Rattle.publisher.specs.Access.{IsGrantedTo, IsOfPage, PagesShowRightly, ShowsRightly, shown_by}
-use Rattle.publisher.specs.Comes.{made_of, over_history_comes, within_or}
+use Rattle.publisher.specs.Access.{IsGrantedTo, IsOfPage, ListsRightly, PagesShowRightly, ShowsRightly, shown_by}
+use Rattle.publisher.specs.Comes.{Tells, made_of, over_history_comes, within_or}
 use Rattle.publisher.specs.Faults as faults
 use Rattle.publisher.specs.Faults.{Fault, by_shapes, or_stops}
 use Rattle.publisher.specs.Pages.{page_text}
-use Rattle.publisher.specs.Replies.{by_verb, fault_reply, page_reply, runaway_facts}
-use Rattle.publisher.specs.Site.{answered, authorization, bad_credentials, call_on, called, over_history, page, page_for, refused_by, scope_answer, request, shown_page, with_credentials, with_fields}
+use Rattle.publisher.specs.Replies.{by_verb, fault_reply, log_reply, page_reply, runaway_facts}
+use Rattle.publisher.specs.Site.{answered, authorization, bad_credentials, call_on, called, finished, listed, over_history, page, page_for, refused_by, scope_answer, undo_by, request, shown_page, with_credentials, with_fields}
 use Rattle.publisher.proofs.ForUsers.{AreForUsers, page_for_users}
-use Rattle.publisher.specs.Backwards.{and_ok, answer_is, calls_change, came, no_page, page_came, shapes_came, stops_came}
+use Rattle.publisher.specs.Backwards.{and_ok, answer_is, calls_change, came, no_page, page_came, shapes_came, stops_came, undo_answers}
+use Rattle.publisher.specs.Granting.{log_granted}
 
 -- ---- what a page shows
 
@@ -142,7 +145,6 @@ call_not refusals.Memory = refl
 call_not (refusals.Need ask) = refl
 call_not (refusals.Broken o) = refl
 call_not (refusals.NotFound c) = refl
-call_not (refusals.NotYet o) = refl
 call_not (refusals.Missing field) = refl
 call_not (refusals.BadField field) = refl
 call_not (refusals.TooLong field) = refl
@@ -151,6 +153,8 @@ call_not (refusals.Taken name) = refl
 call_not refusals.TooMany = refl
 call_not (refusals.BadSource c) = refl
 call_not refusals.TooDeep = refl
+call_not (refusals.NoSuchTransaction t) = refl
+call_not (refusals.UndoChanged o) = refl
 
 status_not : (f : Fault) → is_ok (fault_reply f) ≡ false
 status_not (faults.NotANumber name) = refl
@@ -167,11 +171,32 @@ no_ok x other e = (let same : is_ok x ≡ true = eq-eqb x.status 200 e in cc)
 not_ok : (f : Fault) → IsOk (fault_reply f) → ⊥
 not_ok f e = no_ok (fault_reply f) (status_not f) e
 
-shows_at : AreForUsers → (k : ℕ → Option (Seen Object)) (q : Request) (x : Reply) (r : Result Answer (Halt ℕ Fault)) → run k (request q) ≡ r → outcome (made_of q.method (as_ask r)) ≡ Outcome.Answer x → IsOk x → ShowsRightly k q x
-shows_at all k q x (Ok (answer.Page y)) is e ok = subst (ShowsRightly k q) (answer_is (by_verb q.method y) x e) (request_shows all k q y is)
-shows_at all k q x (Ok (answer.Change y d)) is e ok = absurd (let bad = e in cc)
-shows_at all k q x (Err (Need o)) is e ok = absurd (let bad = e in cc)
-shows_at all k q x (Err (Cause f)) is e ok = absurd (not_ok f (subst IsOk (sym (answer_is (refused_by q.method f) x e)) ok))
+-- an undo that is answered at once is refused
+undo_not : (known : Ask → Option Fact) (q : Request) (user : List ℕ) (t : ℕ) (x : Reply) → outcome (run known (undo_by q user t)) ≡ Outcome.Answer x → IsOk x → ⊥
+undo_not known q user t x e ok = (let found = undo_answers known q user t x e in not_ok (faults.Call found.0) (subst IsOk found.1 ok))
+
+log_shows : (known : Ask → Option Fact) → Tells known → (q : Request) (x : Reply) → run (shown_by known) (request q) ≡ Ok answer.Log → outcome (run known (finished q answer.Log)) ≡ Outcome.Answer x → ListsRightly known q x
+log_shows known tells q x is e = at (known Ask.Log) refl e
+  where
+    at : (o : Option Fact) → known Ask.Log ≡ o → outcome (go_on Ask.Log (λ f. run known (listed q f)) o) ≡ Outcome.Answer x → ListsRightly known q x
+    at None found e' = absurd (let bad = e' in cc)
+    at (Some (Fact.Object o v s)) found e' = absurd (let bad = tells Ask.Log (Fact.Object o v s) found in cc)
+    at (Some (Fact.Transaction t ps)) found e' = absurd (let bad = tells Ask.Log (Fact.Transaction t ps) found in cc)
+    at (Some (Fact.Log rows)) found e' = (let granted = log_granted (shown_by known) q is in record {
+      user = granted.0;
+      granted = granted.1;
+      rows = rows;
+      told = found;
+      is = sym (answer_is (by_verb q.method (log_reply rows)) x e');
+    })
+
+shows_at : AreForUsers → (known : Ask → Option Fact) → Tells known → (q : Request) (x : Reply) (r : Result Answer (Halt ℕ Fault)) → run (shown_by known) (request q) ≡ r → outcome (made_of known q (as_ask r)) ≡ Outcome.Answer x → IsOk x → ShowsRightly (shown_by known) q x ⊎ ListsRightly known q x
+shows_at all known tells q x (Ok (answer.Page y)) is e ok = inl (subst (ShowsRightly (shown_by known) q) (answer_is (by_verb q.method y) x e) (request_shows all (shown_by known) q y is))
+shows_at all known tells q x (Ok (answer.Change y d)) is e ok = absurd (let bad = e in cc)
+shows_at all known tells q x (Ok (answer.Undo user t)) is e ok = absurd (undo_not known q user t x e ok)
+shows_at all known tells q x (Ok answer.Log) is e ok = inr (log_shows known tells q x is e)
+shows_at all known tells q x (Err (Need o)) is e ok = absurd (let bad = e in cc)
+shows_at all known tells q x (Err (Cause f)) is e ok = absurd (not_ok f (subst IsOk (sym (answer_is (refused_by q.method f) x e)) ok))
 
 runaway_not : (verb : Verb) (x : Reply) → Outcome.Answer (by_verb verb runaway_facts) ≡ Outcome.Answer x → IsOk x → ⊥
 runaway_not verb x e ok = no_ok (by_verb verb runaway_facts) refl (subst IsOk (sym (answer_is (by_verb verb runaway_facts) x e)) ok)
@@ -179,5 +204,5 @@ runaway_not verb x e ok = no_ok (by_verb verb runaway_facts) refl (subst IsOk (s
 pub show_rightly : AreForUsers → PagesShowRightly
 show_rightly all known q x tells e ok = elim (within_or (by_verb q.method runaway_facts) known (over_history q) tells) [
   | inl runs ↦ absurd (runaway_not q.method x (sym (ap outcome runs) ∙ e) ok)
-  | inr same ↦ shows_at all (shown_by known) q x (run (shown_by known) (request q)) refl (sym (ap outcome (same ∙ over_history_comes known q)) ∙ e) ok
+  | inr same ↦ shows_at all known tells q x (run (shown_by known) (request q)) refl (sym (ap outcome (same ∙ over_history_comes known q)) ∙ e) ok
 ]

@@ -15,7 +15,9 @@ use Rattle.permissions.specs.Verdicts.{verdict_on}
 use Rattle.user_folder.specs.Credentials.{credentials_of}
 use Rattle.evaluator.specs.declared.ask.Ask.{Ask}
 use Rattle.evaluator.specs.declared.draft.Draft.{Draft}
+use Rattle.evaluator.specs.declared.draft.Entry.{Entry}
 use Rattle.evaluator.specs.declared.fact.Fact.{Fact}
+use Rattle.evaluator.specs.declared.fact.LogRow.{LogRow}
 use Rattle.evaluator.specs.declared.outcome.Outcome.{Outcome}
 use Rattle.evaluator.specs.declared.reply.Reply.{Reply}
 use Rattle.evaluator.specs.declared.reply.Denial.{Denial}
@@ -29,10 +31,13 @@ use Rattle.form_fields.specs.Fields.{fields_of}
 use Rattle.http_in.specs.declared.message.Message.TheVariants.{Whole}
 use Rattle.http_in.specs.declared.message.Request.{Request}
 use Rattle.manage.specs.declared.call.Call.{Call}
-use Rattle.manage.specs.declared.changes.Change.{Change}
+use Rattle.manage.specs.declared.call.Call.TheVariants as calls
+use Rattle.manage.specs.declared.changes.Called.{Called}
+use Rattle.manage.specs.declared.changes.Called.TheVariants as called_as
 use Rattle.manage.specs.Calling.{permission_at}
 use Rattle.manage.specs.Calls.{call_named}
 use Rattle.manage.specs.Changing.{change as call_change}
+use Rattle.manage.specs.Undoing.{undone}
 use Rattle.namespace.specs.LookLaws.{IsShown, Same, Views}
 use Rattle.namespace.specs.Looks.{veiled, view}
 use Rattle.namespace.specs.Requests.{request_names}
@@ -42,8 +47,8 @@ use Rattle.traverse.specs.Publishing.{published}
 use Rattle.dtml_render.specs.Access.{HasProxyRoles, NoneHasProxyRoles}
 use Rattle.publisher.specs.Comes.{Tells}
 use Rattle.publisher.specs.Pages.{page_text}
-use Rattle.publisher.specs.Replies.{by_verb, runaway_facts}
-use Rattle.publisher.specs.Site.{authorization, draft_of, seen, site}
+use Rattle.publisher.specs.Replies.{by_verb, log_reply, runaway_facts}
+use Rattle.publisher.specs.Site.{authorization, drafted, seen, site, user_name}
 
 -- the objects that facts show
 abbrev pub shown_by : (Ask → Option Fact) → ℕ → Option (Seen Object)
@@ -87,10 +92,6 @@ pub record ShowsRightly (k : ℕ → Option (Seen Object)) (q : Request) (x : Re
   pub granted : AllByRecursion (IsGrantedTo k user) x.shown
   pub used : (p : ℕ) → Views k p (page_text user o client (request_names q user fields (cookies_of q))) → IsShown p x.shown
 
--- Each 200 shows rightly.
-abbrev pub PagesShowRightly : Type 0
-PagesShowRightly = (known : Ask → Option Fact) (q : Request) (x : Reply) → Tells known → site known (Whole q) ≡ Outcome.Answer x → x.status ≡ 200 → ShowsRightly (shown_by known) q x
-
 -- a user of the request: of its page, or of its call
 abbrev pub IsItsUser : (ℕ → Option (Seen Object)) → Request → Who → Type 0
 IsItsUser k q user = (credentials : Option Credentials) × (o : ℕ) × (permission : ℕ) × (credentials_of (authorization q) ≡ Ok credentials) × (run (veiled k) (who credentials o permission) ≡ Ok user)
@@ -99,11 +100,11 @@ IsItsUser k q user = (credentials : Option Credentials) × (o : ℕ) × (permiss
 abbrev pub RefusalsAreDenied : Type 0
 RefusalsAreDenied = (known : Ask → Option Fact) (q : Request) (x : Reply) (d : Denial) → Tells known → site known (Whole q) ≡ Outcome.Answer x → x.denied ≡ Some d → (user : Who) × IsItsUser (shown_by known) q user × IsDeniedTo (shown_by known) user d
 
--- ---- changes
+-- ---- calls
 
--- A change was granted: the path leads to a call on an object, which needs this permission there, this is the user of the
--- request, to whom it is granted, and what is written is the call's change, told as his.
-pub record IsGrantedChange (k : ℕ → Option (Seen Object)) (q : Request) (d : Draft) : Type 0 where
+-- A call was granted: the path leads to a call on an object, which needs this permission there, this is the user of the
+-- request, to whom it is granted, and this is what the call comes to over the objects.
+pub record GrantsCall (k : ℕ → Option (Seen Object)) (q : Request) (user : Who) (made : Called) : Type 0 where
   pub fields : List Field
   pub read : fields_of q ≡ Ok fields
   pub credentials : Option Credentials
@@ -115,30 +116,57 @@ pub record IsGrantedChange (k : ℕ → Option (Seen Object)) (q : Request) (d :
   pub named : call_named name ≡ Some call
   pub permission : ℕ
   pub needed : run (veiled k) (permission_at call q.method (first on)) ≡ Ok permission
-  pub user : Who
   pub is_user : run (veiled k) (who credentials (first on) permission) ≡ Ok user
   pub role : List ℕ
   pub granted : run (veiled k) (verdict_on user (first on) permission) ≡ Ok (Granted role)
-  pub change : Change
-  pub changed : run k (call_change call (first on) fields) ≡ Ok change
-  pub told : d ≡ draft_of q user change
+  pub called : run k (call_change call (first on) fields) ≡ Ok made
+
+-- the entries that a call writes, over what is known
+abbrev pub Writes : (Ask → Option Fact) → Called → List Entry → Type 0
+Writes known (called_as.Writes change) entries = entries ≡ change.entries
+Writes known (called_as.Undoes t) entries = run known (undone t) ≡ Ok entries
+Writes known called_as.Lists entries = ⊥
+
+-- A change was granted: it is what a granted call writes, told as its user's.
+pub record IsGrantedChange (known : Ask → Option Fact) (q : Request) (d : Draft) : Type 0 where
+  pub user : Who
+  pub made : Called
+  pub granted : GrantsCall (shown_by known) q user made
+  pub entries : List Entry
+  pub writes : Writes known made entries
+  pub told : d ≡ drafted q (user_name user) entries
 
 -- Each change was granted.
 abbrev pub ChangesAreGranted : Type 0
-ChangesAreGranted = (known : Ask → Option Fact) (q : Request) (x : Reply) (d : Draft) → Tells known → site known (Whole q) ≡ Outcome.Change x d → IsGrantedChange (shown_by known) q d
+ChangesAreGranted = (known : Ask → Option Fact) (q : Request) (x : Reply) (d : Draft) → Tells known → site known (Whole q) ≡ Outcome.Change x d → IsGrantedChange known q d
+
+-- ---- the log
+
+-- A request shows the newest transactions of the log by a call that was granted, and nothing else.
+pub record ListsRightly (known : Ask → Option Fact) (q : Request) (x : Reply) : Type 0 where
+  pub user : Who
+  pub granted : GrantsCall (shown_by known) q user called_as.Lists
+  pub rows : List LogRow
+  pub told : known Ask.Log ≡ Some (Fact.Log rows)
+  pub is : x ≡ by_verb q.method (log_reply rows)
+
+-- Each 200 is a page that shows rightly, or shows the log so.
+abbrev pub PagesShowRightly : Type 0
+PagesShowRightly = (known : Ask → Option Fact) (q : Request) (x : Reply) → Tells known → site known (Whole q) ≡ Outcome.Answer x → x.status ≡ 200 → ShowsRightly (shown_by known) q x ⊎ ListsRightly known q x
 
 -- ---- contents stay apart
 
--- the request is for a page, or leads nowhere, and its user can be nobody but this one
+-- the request is for a page, or leads nowhere, and its user can be nobody but this one; or it is for the log
 abbrev pub IsTargetFor : Who → (ℕ → Option (Seen Object)) → Option Credentials → Target → Type 0
 IsTargetFor w k credentials (targets.Page object client) = (user : Who) → run (veiled k) (who credentials (first object) view) ≡ Ok user → user ≡ w
-IsTargetFor w k credentials (targets.Call name on) = ⊥
+IsTargetFor w k credentials (targets.Call name on) = call_named name ≡ Some calls.ListTransactions
 
 abbrev pub IsPageFor : Who → (ℕ → Option (Seen Object)) → Request → Type 0
 IsPageFor w k q = (credentials : Option Credentials) (target : Target) → credentials_of (authorization q) ≡ Ok credentials → run (veiled k) (published q.path) ≡ Ok target → IsTargetFor w k credentials target
 
--- Where the histories differ at their ends in contents alone that the user may not view, and no object has proxy roles, a
--- request for a page by this user comes to the same over both, unless one has too much to look at.
+-- Where the histories differ at their ends in contents alone that the user may not view, have the same log, and no object
+-- has proxy roles, a request for a page or the log by this user comes to the same over both, unless one has too much to look
+-- at.
 abbrev pub ContentsStayApart : Type 0
-ContentsStayApart = (w : Who) (h1 h2 : History) (q : Request) → Same w (objects_in h1) (objects_in h2) → NoneHasProxyRoles (objects_in h1) → IsPageFor w (objects_in h1) q →
+ContentsStayApart = (w : Who) (h1 h2 : History) (q : Request) → Same w (objects_in h1) (objects_in h2) → fact h1 Ask.Log ≡ fact h2 Ask.Log → NoneHasProxyRoles (objects_in h1) → IsPageFor w (objects_in h1) q →
     exec site h1 (Whole q) ≢ Outcome.Answer (by_verb q.method runaway_facts) → exec site h2 (Whole q) ≢ Outcome.Answer (by_verb q.method runaway_facts) → exec site h1 (Whole q) ≡ exec site h2 (Whole q)

@@ -6,14 +6,23 @@ use Rattle.zobject.specs.declared.object.Object.{Object}
 use Rattle.zknown.specs.Seen.{Seen, Shapes, Objects}
 use Rattle.permissions.specs.declared.who.Verdict.{Verdict}
 use Rattle.permissions.specs.declared.who.Verdict.TheVariants as verdicts
+use Rattle.permissions.specs.declared.who.Who.{Who}
 use Rattle.permissions.specs.Users.{Credentials, who}
 use Rattle.permissions.specs.Verdicts.{verdict_on}
+use Rattle.evaluator.specs.declared.ask.Ask.{Ask}
+use Rattle.evaluator.specs.declared.draft.Entry.{Entry}
+use Rattle.evaluator.specs.declared.fact.Fact.{Fact}
 use Rattle.evaluator.specs.declared.outcome.Outcome.{Outcome}
 use Rattle.evaluator.specs.declared.reply.Reply.{Reply}
 use Rattle.evaluator.specs.declared.reply.Shown.{Shown}
+use Rattle.evaluator.specs.Questions.{outcome}
 use Rattle.form_fields.specs.declared.field.Field.{Field}
 use Rattle.http_in.specs.declared.message.Request.{Request}
 use Rattle.manage.specs.declared.call.Call.{Call}
+use Rattle.manage.specs.declared.changes.Called.{Called}
+use Rattle.manage.specs.declared.changes.Called.TheVariants as called_as
+use Rattle.manage.specs.declared.refusal.ManageRefusal.{ManageRefusal}
+use Rattle.manage.specs.Undoing.{undone}
 use Rattle.manage.specs.Calling.{permission_at}
 use Rattle.manage.specs.Changing.{change}
 use Rattle.namespace.specs.LookLaws.{run_veiled}
@@ -25,7 +34,7 @@ use Rattle.publisher.specs.declared.answer.Answer.TheVariants as answer
 use Rattle.publisher.specs.Comes.{reworded, run_reworded}
 use Rattle.publisher.specs.Faults as faults
 use Rattle.publisher.specs.Faults.{Fault, by_shapes, or_stops}
-use Rattle.publisher.specs.Site.{call_on, call_with, change_by, change_for, where_granted}
+use Rattle.publisher.specs.Site.{answer_of, call_on, call_refused, call_with, change_by, change_for, undo_by, undo_made, where_granted}
 use Rattle.publisher.specs.Ways.{Any, ComesTo, Keeps, keeps_any, keeps_run, keeps_then}
 
 -- ---- from an outcome back
@@ -86,11 +95,25 @@ module _ (k : ℕ → Option (Seen Object)) where
 pub answer_is : (x y : Reply) → Outcome.Answer x ≡ Outcome.Answer y → x ≡ y
 answer_is x y e = cc
 
+-- an undo that is answered at once is refused
+undo_at : (q : Request) (user : List ℕ) (x : Reply) (known : Ask → Option Fact) (r : Result (List Entry) (Halt Ask ManageRefusal)) → outcome (and_then (reworded (call_refused q.method) r) (λ entries. run known (undo_made q user entries))) ≡ Outcome.Answer x → (c : ManageRefusal) × (x ≡ call_refused q.method c)
+undo_at q user x known (Ok entries) e = absurd (let bad = e in cc)
+undo_at q user x known (Err (Need ask)) e = absurd (let bad = e in cc)
+undo_at q user x known (Err (Cause c)) e = (c, sym (answer_is (call_refused q.method c) x e))
+
+pub undo_answers : (known : Ask → Option Fact) (q : Request) (user : List ℕ) (t : ℕ) (x : Reply) → outcome (run known (undo_by q user t)) ≡ Outcome.Answer x → (c : ManageRefusal) × (x ≡ call_refused q.method c)
+unfolding undo_by
+undo_answers known q user t x e =
+    undo_at q user x known (run known (undone t))
+    (sym (ap outcome (run_then known (or_else (call_refused q.method) (undone t)) (undo_made q user) ∙ ap (λ r. and_then r (λ entries. run known (undo_made q user entries))) (run_reworded known (call_refused q.method) (undone t)))) ∙ e)
+
 -- ---- a page is no call
 
 abbrev IsChange : Answer → Type 0
 IsChange (answer.Page x) = ⊥
 IsChange (answer.Change x d) = Unit {0}
+IsChange (answer.Undo user t) = Unit {0}
+IsChange answer.Log = Unit {0}
 
 abbrev OnlyChanges : Objects Fault Answer → Type 0
 OnlyChanges q = Keeps (λ (s : Seen Object). Any s) (λ (f : Fault). Any f) IsChange q
@@ -102,13 +125,18 @@ granted_changes : (o permission : ℕ) (further : Objects Fault Answer) (v : Ver
 granted_changes o permission further (verdicts.Granted role) c = c
 granted_changes o permission further (verdicts.Denied p) c = tt
 
+answer_changes : (q : Request) (user : Who) (made : Called) → IsChange (answer_of q user made)
+answer_changes q user (called_as.Writes change) = tt
+answer_changes q user (called_as.Undoes t) = tt
+answer_changes q user called_as.Lists = tt
+
 pub calls_change : (q : Request) (fields : List Field) (credentials : Option Credentials) (call : Call) (o : ℕ) → OnlyChanges (call_on q fields credentials call o)
 unfolding call_on call_with change_for change_by
 calls_change q fields credentials call o =
     then_changes (by_shapes faults.Call (permission_at call q.method o)) _ (λ permission.
     then_changes (by_shapes faults.User (who credentials o permission)) _ (λ user.
     then_changes (by_shapes faults.User (verdict_on user o permission)) _ (λ v.
-    granted_changes o permission (change_by q fields call o user) v (then_changes (or_else faults.Call (change call o fields)) _ (λ c. tt)))))
+    granted_changes o permission (change_by q fields call o user) v (then_changes (or_else faults.Call (change call o fields)) _ (λ c. answer_changes q user c)))))
 
 pub no_page : (k : ℕ → Option (Seen Object)) (q : Objects Fault Answer) (y : Reply) → OnlyChanges q → run k q ≡ Ok (answer.Page y) → ⊥
 no_page k q y only e = subst (ComesTo (λ (f : Fault). Any f) IsChange) e (keeps_run (λ (f : Fault). Any f) IsChange k q only)

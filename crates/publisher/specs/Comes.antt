@@ -14,10 +14,9 @@ use Rattle.evaluator.specs.Facts.{ask_of, fact, look, same_ask}
 use Rattle.evaluator.specs.QuestionLaws.{run_over}
 use Rattle.evaluator.specs.Questions.{Evaluation, Made, as_ask, counted, limited, met_or, most_bytes, objects_of, over_facts, size_of_fact, within_limits}
 use Rattle.http_in.specs.declared.message.Request.{Request}
-use Rattle.http_in.specs.declared.message.Verb.{Verb}
 use Rattle.publisher.specs.declared.answer.Answer.{Answer}
 use Rattle.publisher.specs.Faults.{Fault}
-use Rattle.publisher.specs.Site.{made_by, over_history, refused_by, request, seen}
+use Rattle.publisher.specs.Site.{finished, over_history, refused_by, request, seen}
 
 -- ---- causes in other words
 
@@ -41,23 +40,23 @@ run_reworded known reword (Asks ask go) = go_on_same ask _ _ (λ answer. run_rew
 
 -- ---- over facts
 
--- what a request of that method comes to, by what its question does
-abbrev pub made_of : Verb → Result Answer (Halt Ask Fault) → Result Made (Halt Ask Reply)
-made_of verb (Ok x) = Ok (made_by verb x)
-made_of verb (Err (Need ask)) = Err (Need ask)
-made_of verb (Err (Cause fault)) = Err (Cause (refused_by verb fault))
+-- what a request comes to over what is known, by what its question does over the objects
+abbrev pub made_of : (Ask → Option Fact) → Request → Result Answer (Halt Ask Fault) → Result Made (Halt Ask Reply)
+made_of known q (Ok x) = run known (finished q x)
+made_of known q (Err (Need ask)) = Err (Need ask)
+made_of known q (Err (Cause fault)) = Err (Cause (refused_by q.method fault))
 
-made_so : (verb : Verb) (r : Result Answer (Halt ℕ Fault)) → and_then (as_ask (reworded (refused_by verb) r)) (λ x. Ok (made_by verb x)) ≡ made_of verb (as_ask r)
-made_so verb (Ok x) = refl
-made_so verb (Err (Need o)) = refl
-made_so verb (Err (Cause fault)) = refl
+made_so : (known : Ask → Option Fact) (q : Request) (r : Result Answer (Halt ℕ Fault)) → and_then (as_ask (reworded (refused_by q.method) r)) (λ x. run known (finished q x)) ≡ made_of known q (as_ask r)
+made_so known q (Ok x) = refl
+made_so known q (Err (Need o)) = refl
+made_so known q (Err (Cause fault)) = refl
 
-pub over_history_comes : (known : Ask → Option Fact) (q : Request) → run known (over_history q) ≡ made_of q.method (as_ask (run (objects_of seen known) (request q)))
+pub over_history_comes : (known : Ask → Option Fact) (q : Request) → run known (over_history q) ≡ made_of known q (as_ask (run (objects_of seen known) (request q)))
 over_history_comes known q =
     let inner = or_else (refused_by q.method) (request q) in
-    run_then known (over_facts seen inner) (λ x. Done (made_by q.method x))
-    ∙ ap (λ r. and_then r (λ x. run known (Done (made_by q.method x)))) (run_over seen known inner ∙ ap as_ask (run_reworded (objects_of seen known) (refused_by q.method) (request q)))
-    ∙ made_so q.method (run (objects_of seen known) (request q))
+    run_then known (over_facts seen inner) (finished q)
+    ∙ ap (λ r. and_then r (λ x. run known (finished q x))) (run_over seen known inner ∙ ap as_ask (run_reworded (objects_of seen known) (refused_by q.method) (request q)))
+    ∙ made_so known q (run (objects_of seen known) (request q))
 
 -- ---- within limits
 

@@ -2,7 +2,7 @@
 --
 -- Zope Developer's Guide, "Object Publishing"; RFC 9110, "Status Codes" and "HEAD"; RFC 7617 for 401. The lines are this
 -- project's own.
-use Rattle.std.specs.Prelude.{ℕ, Bool, true, false, List, ◌++◌, Some, None, codes, decimal}
+use Rattle.std.specs.Prelude.{ℕ, Bool, true, false, List, [], ◌++◌, Some, None, codes, decimal}
 use Rattle.zbase.specs.Hex.{hex16_text}
 use Rattle.acquisition.specs.Acquiring as acquiring
 use Rattle.dtml_lex.specs.declared.refusal.DtmlRefusal.{DtmlRefusal}
@@ -10,6 +10,7 @@ use Rattle.dtml_lex.specs.declared.refusal.DtmlRefusal.TheVariants as templates
 use Rattle.evaluator.specs.declared.reply.Kind.{Kind}
 use Rattle.evaluator.specs.declared.reply.Reply.{Reply}
 use Rattle.evaluator.specs.declared.reply.Shown.{Shown}
+use Rattle.evaluator.specs.declared.fact.LogRow.{LogRow}
 use Rattle.evaluator.specs.Permissions.{permission_text}
 use Rattle.evaluator.specs.Replies.{one_line}
 use Rattle.http_in.specs.declared.message.HttpRefusal.{HttpRefusal}
@@ -18,6 +19,7 @@ use Rattle.http_in.specs.declared.message.Verb.{Verb}
 use Rattle.http_in.specs.declared.message.Verb.TheVariants as verb
 use Rattle.manage.specs.Calls.{field_text, name_of}
 use Rattle.manage.specs.declared.refusal.ManageRefusal.{ManageRefusal}
+use Rattle.manage.specs.Undoing.{log_text}
 use Rattle.manage.specs.declared.refusal.ManageRefusal.TheVariants as calls
 use Rattle.namespace.specs.Looks as looks
 use Rattle.traverse.specs.Publishing as publishing
@@ -44,6 +46,10 @@ page_reply text shown = record { status = 200; kind = Kind.Html; head_only = fal
 abbrev pub done : Reply
 done = one_line 200 (codes "done")
 
+-- the newest transactions
+abbrev pub log_reply : List LogRow → Reply
+log_reply rows = record { status = 200; kind = Kind.Plain; head_only = false; body = log_text rows; shown = []; denied = None }
+
 -- ---- refusals
 
 abbrev pub not_found : List ℕ → Reply
@@ -54,10 +60,6 @@ broken o = one_line 500 (codes "broken object: " ++ hex16_text o)
 
 abbrev pub too_deep : Reply
 too_deep = one_line 500 (codes "too deep")
-
--- the object has a call that isn't built yet
-abbrev pub not_yet : ℕ → Reply
-not_yet o = one_line 500 (codes "not yet: " ++ hex16_text o)
 
 abbrev pub unauthorized : ℕ → ℕ → Reply
 unauthorized o permission = record (one_line 401 (codes "unauthorized: " ++ permission_text permission)) { denied = Some (record { oid = o; permission = permission }) }
@@ -130,7 +132,6 @@ call_reply calls.Memory = out_of_memory
 call_reply (calls.Need ask) = out_of_memory
 call_reply (calls.Broken o) = broken o
 call_reply (calls.NotFound call) = not_found (name_of call)
-call_reply (calls.NotYet o) = not_yet o
 call_reply (calls.Missing field) = one_line 400 (codes "missing: " ++ field_text field)
 call_reply (calls.BadField field) = one_line 400 (codes "bad field: " ++ field_text field)
 call_reply (calls.TooLong field) = one_line 400 (codes "too long: " ++ field_text field)
@@ -139,6 +140,8 @@ call_reply (calls.Taken name) = one_line 400 (codes "taken: " ++ name)
 call_reply calls.TooMany = one_line 400 (codes "too many")
 call_reply (calls.BadSource cause) = one_line 400 (codes "bad source: " ++ template_text cause)
 call_reply calls.TooDeep = too_deep
+call_reply (calls.NoSuchTransaction t) = one_line 400 (codes "no such transaction: " ++ hex16_text t)
+call_reply (calls.UndoChanged o) = one_line 400 (codes "changed since: " ++ hex16_text o)
 
 abbrev pub fault_reply : Fault → Reply
 fault_reply (NotANumber name) = one_line 400 (codes "not a number: " ++ name)

@@ -5,7 +5,7 @@
 --
 -- Zope Developer's Guide, "Object Publishing" and "Security".
 use Rattle.std.specs.Prelude.{ℕ, List, [], Option, Some, None, Result, Ok, Err, codes}
-use Rattle.zbase.specs.Query.{Done, Stops, ◌>>=◌, or_else}
+use Rattle.zbase.specs.Query.{Done, Stops, Asks, ◌>>=◌, or_else}
 use Rattle.zbase.specs.History.{Value}
 use Rattle.zobject.specs.declared.object.Object.{Object}
 use Rattle.zknown.specs.Seen.{Seen, Here, Absent, Unreadable, Objects}
@@ -19,12 +19,15 @@ use Rattle.permissions.specs.Users.{Credentials, who}
 use Rattle.permissions.specs.Verdicts.{verdict_on}
 use Rattle.user_folder.specs.Credentials.{credentials_of}
 use Rattle.user_folder.specs.declared.basic.HeaderRefusal.{HeaderRefusal}
+use Rattle.evaluator.specs.declared.ask.Ask.{Ask}
 use Rattle.evaluator.specs.declared.draft.Draft.{Draft}
+use Rattle.evaluator.specs.declared.draft.Entry.{Entry}
 use Rattle.evaluator.specs.declared.fact.Fact.{Fact}
+use Rattle.evaluator.specs.declared.fact.LogRow.{LogRow}
 use Rattle.evaluator.specs.declared.reply.Reply.{Reply}
 use Rattle.evaluator.specs.declared.reply.Shown.{Shown}
 use Rattle.evaluator.specs.Exec.{Eval}
-use Rattle.evaluator.specs.Questions.{Evaluation, Made, Reads, Changes, meaning_of, over_facts, within_limits}
+use Rattle.evaluator.specs.Questions.{Evaluation, Reads, Changes, meaning_of, over_facts, within_limits}
 use Rattle.form_fields.specs.declared.field.Field.{Field}
 use Rattle.form_fields.specs.Cookies.{cookies_of}
 use Rattle.form_fields.specs.Fields.{fields_of}
@@ -35,10 +38,14 @@ use Rattle.http_in.specs.declared.message.Verb.{Verb}
 use Rattle.http_in.specs.Headers.{first_value}
 use Rattle.http_in.specs.Paths.{path_text}
 use Rattle.manage.specs.declared.call.Call.{Call}
+use Rattle.manage.specs.declared.changes.Called.{Called}
+use Rattle.manage.specs.declared.changes.Called.TheVariants as called_as
 use Rattle.manage.specs.declared.changes.Change.{Change}
+use Rattle.manage.specs.declared.refusal.ManageRefusal.{ManageRefusal}
 use Rattle.manage.specs.Calling.{permission_at}
 use Rattle.manage.specs.Calls.{call_named}
 use Rattle.manage.specs.Changing.{change}
+use Rattle.manage.specs.Undoing.{undone}
 use Rattle.namespace.specs.Looks.{taken, through, view}
 use Rattle.namespace.specs.Names.{Scope}
 use Rattle.namespace.specs.Requests.{request_names}
@@ -51,7 +58,7 @@ use Rattle.publisher.specs.declared.answer.Answer.TheVariants as answer
 use Rattle.publisher.specs.Faults as faults
 use Rattle.publisher.specs.Faults.{Fault, by_shapes, or_stops}
 use Rattle.publisher.specs.Pages.{page_scope, scope_page}
-use Rattle.publisher.specs.Replies.{by_verb, done, fault_reply, message_reply, page_reply, runaway_facts}
+use Rattle.publisher.specs.Replies.{by_verb, done, fault_reply, log_reply, message_reply, page_reply, runaway_facts}
 
 -- ---- what a fact shows of its object
 
@@ -94,11 +101,19 @@ user_name users.Anonymous = []
 user_name (users.Known name roles home) = name
 
 -- a change is the user's, and is described by the path of its request
-abbrev pub draft_of : Request → Who → Change → Draft
-draft_of q user change = record { user = user_name user; description = path_text q.path; entries = change.entries }
+abbrev pub drafted : Request → List ℕ → List Entry → Draft
+drafted q user entries = record { user = user; description = path_text q.path; entries = entries }
 
-abbrev pub changed : Request → Who → Change → Objects Fault Answer
-changed q user change = Done (answer.Change done (draft_of q user change))
+abbrev pub draft_of : Request → Who → Change → Draft
+draft_of q user change = drafted q (user_name user) change.entries
+
+abbrev pub answer_of : Request → Who → Called → Answer
+answer_of q user (called_as.Writes change) = answer.Change done (draft_of q user change)
+answer_of q user (called_as.Undoes t) = answer.Undo (user_name user) t
+answer_of q user called_as.Lists = answer.Log
+
+abbrev pub changed : Request → Who → Called → Objects Fault Answer
+changed q user made = Done (answer_of q user made)
 
 abbrev pub where_granted : {A : Type 0} → ℕ → ℕ → Objects Fault A → Verdict → Objects Fault A
 where_granted o permission further (verdicts.Granted role) = further
@@ -148,17 +163,38 @@ request q = or_stops faults.NotANumber (fields_of q) >>= with_fields q
 
 -- ---- an evaluation
 
--- an answer to a message of that method
-abbrev pub made_by : Verb → Answer → Made
-made_by verb (answer.Page x) = Reads (by_verb verb x)
-made_by verb (answer.Change x draft) = Changes (by_verb verb x) draft
-
 abbrev pub refused_by : Verb → Fault → Reply
 refused_by verb fault = by_verb verb (fault_reply fault)
 
+abbrev pub call_refused : Verb → ManageRefusal → Reply
+call_refused verb cause = refused_by verb (faults.Call cause)
+
+-- the change that undoes a transaction
+abbrev pub undo_made : Request → List ℕ → List Entry → Evaluation
+undo_made q user entries = Done (Changes (by_verb q.method done) (drafted q user entries))
+
+unfoldable pub undo_by : Request → List ℕ → ℕ → Evaluation
+undo_by q user t = or_else (call_refused q.method) (undone t) >>= undo_made q user
+
+abbrev pub rows_told : Fact → List LogRow
+rows_told (Fact.Object o value serial) = []
+rows_told (Fact.Transaction t parts) = []
+rows_told (Fact.Log rows) = rows
+
+-- the newest transactions
+abbrev pub listed : Request → Fact → Evaluation
+listed q f = Done (Reads (by_verb q.method (log_reply (rows_told f))))
+
+-- what an answer over the objects comes to over the history, by the method of its message
+abbrev pub finished : Request → Answer → Evaluation
+finished q (answer.Page x) = Done (Reads (by_verb q.method x))
+finished q (answer.Change x draft) = Done (Changes (by_verb q.method x) draft)
+finished q (answer.Undo user t) = undo_by q user t
+finished q answer.Log = Asks Ask.Log (listed q)
+
 -- the question over facts that a request is
 abbrev pub over_history : Request → Evaluation
-over_history q = over_facts seen (or_else (refused_by q.method) (request q)) >>= λ x. Done (made_by q.method x)
+over_history q = over_facts seen (or_else (refused_by q.method) (request q)) >>= finished q
 
 -- A refused message is answered at once. A whole one asks at most 12,000 times, and meets at most 67,108,864 bytes of
 -- values.

@@ -1,8 +1,8 @@
 -- A site keeps the laws of an evaluator: what is decided is decided on the whole, a change rests on what lasts, no message
 -- asks for more than 12,000 facts, and its changes and replies keep their rules.
-use Rattle.std.proofs.Common.{ℕ, ◌≤◌, ◌≡◌, ◌==◌, refl, subst, arith, Bool, true, false, List, [], length, Option, Some, None, Result, Ok, Err, if◌then◌else◌}
+use Rattle.std.proofs.Common.{ℕ, ◌≤◌, ◌≡◌, ◌==◌, refl, subst, arith, true, false, List, [], length, Option, Some, None, Result, Ok, Err}
 use Rattle.std.specs.List.{list_any}
-use Rattle.zbase.specs.Query.{Done, Stops, Halt, Need, Cause, ◌>>=◌, or_else, run}
+use Rattle.zbase.specs.Query.{Stops, Halt, Need, Cause, ◌>>=◌, or_else, run}
 use Rattle.zobject.specs.declared.object.Object.{Object}
 use Rattle.zobject.specs.Shapes.{Shape}
 use Rattle.zknown.specs.Seen.{Shapes, Objects}
@@ -11,7 +11,9 @@ use Rattle.acquisition.specs.Acquiring as acquiring
 use Rattle.acquisition.specs.Acquiring.{first}
 use Rattle.evaluator.specs.declared.ask.Ask.{Ask}
 use Rattle.evaluator.specs.declared.draft.Draft.{Draft}
+use Rattle.evaluator.specs.declared.draft.Entry.{Entry}
 use Rattle.evaluator.specs.declared.fact.Fact.{Fact}
+use Rattle.evaluator.specs.declared.fact.LogRow.{LogRow}
 use Rattle.evaluator.specs.declared.outcome.Outcome.{Outcome}
 use Rattle.evaluator.specs.declared.reply.Kind.{Kind as ReplyKind}
 use Rattle.evaluator.specs.declared.reply.Reply.{Reply}
@@ -21,7 +23,8 @@ use Rattle.evaluator.specs.Exec.{IsLawful, IsTrail, most_asks}
 use Rattle.evaluator.specs.Facts.{look}
 use Rattle.evaluator.specs.LimitLaws.{careful_limited, limited_within}
 use Rattle.evaluator.specs.QuestionLaws.{careful_over, lawful, trail_short}
-use Rattle.evaluator.specs.Questions.{IsCareful, Made, Reads, Changes, most_bytes, outcome, over_facts}
+use Rattle.evaluator.specs.Questions.{Evaluation, IsCareful, Made, Reads, Changes, most_bytes, outcome, over_facts}
+use Rattle.fs_undo.specs.UndoLaws.{undo_careful}
 use Rattle.form_fields.specs.declared.field.Field.{Field}
 use Rattle.http_in.specs.declared.message.HttpRefusal.{HttpRefusal}
 use Rattle.http_in.specs.declared.message.HttpRefusal.TheVariants as messages
@@ -30,15 +33,17 @@ use Rattle.http_in.specs.declared.message.Message.TheVariants.{Whole, Refused}
 use Rattle.http_in.specs.declared.message.Request.{Request}
 use Rattle.http_in.specs.declared.message.Verb.{Verb}
 use Rattle.manage.specs.declared.call.Call.{Call}
-use Rattle.manage.specs.declared.changes.Change.{Change}
+use Rattle.manage.specs.declared.changes.Called.{Called}
+use Rattle.manage.specs.declared.changes.Called.TheVariants as called_as
 use Rattle.manage.specs.declared.refusal.ManageRefusal.{ManageRefusal}
 use Rattle.manage.specs.declared.refusal.ManageRefusal.TheVariants as refusals
 use Rattle.manage.specs.Calling as calling
-use Rattle.manage.specs.Calling.{if_lawful, is_built, kind_of, permission_at}
+use Rattle.manage.specs.Calling.{if_lawful, kind_of, permission_at}
 use Rattle.manage.specs.Calls.{call_named}
 use Rattle.manage.specs.CallLaws.{numbered}
 use Rattle.manage.specs.Changing.{change}
 use Rattle.manage.specs.Table.{permission_for}
+use Rattle.manage.specs.Undoing.{log_text, undo_refusal, undone}
 use Rattle.namespace.specs.Looks as looks
 use Rattle.namespace.specs.Looks.{taken, through, view}
 use Rattle.namespace.specs.Requests.{request_names}
@@ -61,8 +66,8 @@ use Rattle.publisher.specs.Faults as faults
 use Rattle.publisher.specs.Faults.{Fault, by_shapes, or_stops}
 use Rattle.publisher.specs.Pages.{page_text}
 use Rattle.publisher.specs.PageRules.{AreShown, FaultRule, ShownRule, none_shown, through_keeps}
-use Rattle.publisher.specs.Replies.{by_verb, call_reply, cause_reply, fault_reply, message_reply, no_page_reply, page_reply, path_reply, runaway_facts, unauthorized, user_reply}
-use Rattle.publisher.specs.Site.{answered, authorization, bad_credentials, call_on, call_with, called, change_by, change_for, changed, evaluation, made_by, over_history, page, page_for, scope_answer, read_as, refused_by, request, seen, shown_page, site, where_granted, with_credentials, with_fields}
+use Rattle.publisher.specs.Replies.{by_verb, call_reply, cause_reply, done, fault_reply, log_reply, message_reply, no_page_reply, page_reply, path_reply, runaway_facts, unauthorized, user_reply}
+use Rattle.publisher.specs.Site.{answered, authorization, bad_credentials, call_on, call_refused, call_with, called, change_by, change_for, changed, evaluation, finished, over_history, page, page_for, scope_answer, read_as, refused_by, request, rows_told, seen, shown_page, site, undo_by, undo_made, where_granted, with_credentials, with_fields}
 use Rattle.publisher.specs.TextRules.{read_keeps}
 use Rattle.publisher.specs.UserRules.{IsRight, IsRightShown, NameRule, VerdictRule, shape_right, verdict_keeps, who_keeps}
 use Rattle.publisher.specs.Ways.{Any, ComesTo, Keeps, keeps_then, keeps_else, keeps_any, keeps_facts, keeps_limited, keeps_objects, keeps_run}
@@ -119,7 +124,6 @@ call_keeps refusals.Memory = line_keeps 503 _ refl
 call_keeps (refusals.Need ask) = line_keeps 503 _ refl
 call_keeps (refusals.Broken o) = line_keeps 500 _ refl
 call_keeps (refusals.NotFound call) = line_keeps 404 _ refl
-call_keeps (refusals.NotYet o) = line_keeps 500 _ refl
 call_keeps (refusals.Missing field) = line_keeps 400 _ refl
 call_keeps (refusals.BadField field) = line_keeps 400 _ refl
 call_keeps (refusals.TooLong field) = line_keeps 400 _ refl
@@ -128,16 +132,20 @@ call_keeps (refusals.Taken name) = line_keeps 400 _ refl
 call_keeps refusals.TooMany = line_keeps 400 _ refl
 call_keeps (refusals.BadSource cause) = line_keeps 400 _ refl
 call_keeps refusals.TooDeep = line_keeps 500 _ refl
+call_keeps (refusals.NoSuchTransaction t) = line_keeps 400 _ refl
+call_keeps (refusals.UndoChanged o) = line_keeps 400 _ refl
 
 -- ---- the rules of a request
 
 abbrev HasReply : Fault → Type 0
 HasReply fault = IsReply (fault_reply fault)
 
--- of a change, that its user's name isn't too long
+-- of a change and of an undo, that its user's name isn't too long
 abbrev AnswerRule : Answer → Type 0
 AnswerRule (answer.Page x) = IsReply x
 AnswerRule (answer.Change x d) = IsReply x × (length d.user ≤ longest_text)
+AnswerRule (answer.Undo user t) = length user ≤ longest_text
+AnswerRule answer.Log = Unit {0}
 
 abbrev Asked : {A : Type 0} → (A → Type 0) → Objects Fault A → Type 0
 Asked V q = Keeps IsRight HasReply V q
@@ -181,14 +189,16 @@ of_call : (cause : ManageRefusal) → Any cause → HasReply (faults.Call cause)
 of_call cause any = call_keeps cause
 
 module _ (q : Request) where
-  changed_keeps : (user : Who) (c : Change) → NameRule user → Asked AnswerRule (changed q user c)
-  changed_keeps user c named = (line_keeps 200 _ refl, named)
+  changed_keeps : (user : Who) (c : Called) → NameRule user → Asked AnswerRule (changed q user c)
+  changed_keeps user (called_as.Writes c) named = (line_keeps 200 _ refl, named)
+  changed_keeps user (called_as.Undoes t) named = named
+  changed_keeps user called_as.Lists named = tt
 
   change_by_keeps : (fields : List Field) (call : Call) (o : ℕ) (user : Who) → NameRule user → Asked AnswerRule (change_by q fields call o user)
   unfolding change_by
   change_by_keeps fields call o user named =
-      then_keeps (λ (c : Change). Any c) AnswerRule (or_else faults.Call (change call o fields)) _
-      (keeps_else IsRight (λ (cause : ManageRefusal). Any cause) HasReply (λ (c : Change). Any c) faults.Call (change call o fields) (keeps_any IsRight (change call o fields)) of_call)
+      then_keeps (λ (c : Called). Any c) AnswerRule (or_else faults.Call (change call o fields)) _
+      (keeps_else IsRight (λ (cause : ManageRefusal). Any cause) HasReply (λ (c : Called). Any c) faults.Call (change call o fields) (keeps_any IsRight (change call o fields)) of_call)
       (λ c any. changed_keeps user c named)
 
   granted_keeps : (o permission : ℕ) (further : Objects Fault Answer) (v : Verdict) → IsPermission permission → Asked AnswerRule further → Asked AnswerRule (where_granted o permission further v)
@@ -210,19 +220,15 @@ module _ (q : Request) where
 abbrev Lawful : Shapes ManageRefusal ℕ → Type 0
 Lawful q = Keeps IsRightShown (λ (cause : ManageRefusal). Any cause) IsPermission q
 
-lawful_keeps : (call : Call) (o : ℕ) (needed : Option ℕ) → ((n : ℕ) → needed ≡ Some n → IsPermission n) → Lawful (if_lawful call o needed)
-lawful_keeps call o None is = tt
-lawful_keeps call o (Some permission) is = at (is_built call)
-  where
-    at : (built : Bool) → Lawful (if built then Done permission else Stops (refusals.NotYet o))
-    at true = is permission refl
-    at false = tt
+lawful_keeps : (call : Call) (needed : Option ℕ) → ((n : ℕ) → needed ≡ Some n → IsPermission n) → Lawful (if_lawful call needed)
+lawful_keeps call None is = tt
+lawful_keeps call (Some permission) is = is permission refl
 
 permission_keeps : (call : Call) (verb : Verb) (o : ℕ) → Lawful (permission_at call verb o)
 unfolding permission_at
 permission_keeps call verb o =
     keeps_then IsRightShown (λ (cause : ManageRefusal). Any cause) (λ (shape : Shape). Any shape) IsPermission (calling.here o) _ (keeps_any IsRightShown (calling.here o)) (λ shape any.
-    lawful_keeps call o (permission_for call verb o (kind_of shape.form)) (numbered call verb o (kind_of shape.form)))
+    lawful_keeps call (permission_for call verb o (kind_of shape.form)) (numbered call verb o (kind_of shape.form)))
 
 -- ---- a whole message
 
@@ -277,16 +283,32 @@ abbrev MadeRule : Made → Type 0
 MadeRule (Reads x) = IsReply x
 MadeRule (Changes x d) = IsReply x × (length d.user ≤ longest_text)
 
-made_keeps : (verb : Verb) (a : Answer) → AnswerRule a → MadeRule (made_by verb a)
-made_keeps verb (answer.Page x) is = by_verb_keeps verb x is
-made_keeps verb (answer.Change x d) is = (by_verb_keeps verb x is.0, is.1)
+log_keeps : (rows : List LogRow) → IsReply (log_reply rows)
+log_keeps rows = line_keeps 200 (log_text rows) refl
 
-over_history_keeps : (q : Request) → Keeps (λ (f : Fact). Any f) IsReply MadeRule (over_history q)
+abbrev KeepsFacts : Evaluation → Type 0
+KeepsFacts e = Keeps (λ (f : Fact). Any f) IsReply MadeRule e
+
+undo_keeps : (q : Request) (user : List ℕ) (t : ℕ) → length user ≤ longest_text → KeepsFacts (undo_by q user t)
+unfolding undo_by
+undo_keeps q user t few =
+    keeps_then (λ (f : Fact). Any f) IsReply (λ (x : List Entry). Any x) MadeRule (or_else (call_refused q.method) (undone t)) (undo_made q user)
+    (keeps_else (λ (f : Fact). Any f) (λ (cause : ManageRefusal). Any cause) IsReply (λ (x : List Entry). Any x) (call_refused q.method) (undone t) (keeps_any (λ (f : Fact). Any f) (undone t))
+    (λ cause any. by_verb_keeps q.method (call_reply cause) (call_keeps cause)))
+    (λ entries any. (by_verb_keeps q.method done (line_keeps 200 _ refl), few))
+
+finished_keeps : (q : Request) (a : Answer) → AnswerRule a → KeepsFacts (finished q a)
+finished_keeps q (answer.Page x) is = by_verb_keeps q.method x is
+finished_keeps q (answer.Change x d) is = (by_verb_keeps q.method x is.0, is.1)
+finished_keeps q (answer.Undo user t) is = undo_keeps q user t is
+finished_keeps q answer.Log is = λ f any. by_verb_keeps q.method (log_reply (rows_told f)) (log_keeps (rows_told f))
+
+over_history_keeps : (q : Request) → KeepsFacts (over_history q)
 over_history_keeps q =
-    keeps_then (λ (f : Fact). Any f) IsReply AnswerRule MadeRule (over_facts seen (or_else (refused_by q.method) (request q))) _
+    keeps_then (λ (f : Fact). Any f) IsReply AnswerRule MadeRule (over_facts seen (or_else (refused_by q.method) (request q))) (finished q)
     (keeps_facts IsRight IsReply AnswerRule seen (or_else (refused_by q.method) (request q)) right_seen
     (keeps_else IsRight HasReply IsReply AnswerRule (refused_by q.method) (request q) (request_keeps q) (λ fault is. by_verb_keeps q.method (fault_reply fault) is)))
-    (λ a is. made_keeps q.method a is)
+    (finished_keeps q)
 
 evaluation_keeps : (m : Message) → Keeps (λ (f : Fact). Any f) IsReply MadeRule (evaluation m)
 evaluation_keeps (Refused cause) = message_keeps cause
@@ -295,11 +317,19 @@ evaluation_keeps (Whole q) =
 
 -- ---- the laws
 
+-- nothing is written behind the log, or behind a transaction that isn't there
+finished_careful : (q : Request) (a : Answer) → IsCareful (finished q a)
+unfolding undo_by undone
+finished_careful q (answer.Page x) = tt
+finished_careful q (answer.Change x d) = tt
+finished_careful q (answer.Undo user t) = undo_careful (call_refused q.method) undo_refusal (undo_made q user) (λ entries. tt) t
+finished_careful q answer.Log = λ f asked. (λ lasts. tt, λ passes. tt)
+
 site_is_careful : (m : Message) → IsCareful (evaluation m)
 site_is_careful (Refused cause) = tt
 site_is_careful (Whole q) =
     careful_limited (by_verb q.method runaway_facts) most_bytes [] most_asks 0 (over_history q)
-    (careful_over seen (or_else (refused_by q.method) (request q)) (λ x. Done (made_by q.method x)) (λ x. tt))
+    (careful_over seen (or_else (refused_by q.method) (request q)) (finished q) (finished_careful q))
 
 pub site_is_lawful : IsLawful site
 site_is_lawful = lawful evaluation site_is_careful

@@ -47,8 +47,8 @@ use Rattle.http_in.specs.declared.message.Verb.{Verb}
 use Rattle.http_in.specs.declared.message.Verb.TheVariants.{Get, Head, Post}
 use Rattle.http_in.specs.Headers.{Header}
 use Rattle.manage.specs.declared.call.Call.TheVariants as calls
-use Rattle.manage.specs.declared.refusal.FieldName.TheVariants.{Data}
-use Rattle.manage.specs.declared.refusal.ManageRefusal.TheVariants.{NotFound, NotYet, Missing}
+use Rattle.manage.specs.declared.refusal.FieldName.TheVariants.{Data, Tid}
+use Rattle.manage.specs.declared.refusal.ManageRefusal.TheVariants.{NotFound, Missing}
 use Rattle.manage.specs.Calling.{permission_at}
 use Rattle.manage.specs.Changing.{change, judged as call_judged, written}
 use Rattle.manage.specs.Fields.{field_kept, fields_kept, text_of, texts_of}
@@ -182,7 +182,7 @@ then_the_path : comes_to (sent Get (at (codes "none")) [] stranger) ≡ Err (Cau
 unfolding request with_fields with_credentials page scope_answer scope_page call_on call_with change_for change_by change written call_judged fields_kept field_kept texts_of text_of published walked stepped child page_at index found reached containers upwards finds verdict_on judged roles has locals_on local_roles shape_of known_user sought taken_at user_at permission_at fields_of pairs pairs_of raw_pairs split percent_decode named_by whole_number utf8_lossy utf8_valid_len is_utf8 encode cookies_of spelled_by groups_bytes groups_error scan_steps encode_symbols sha1 digest_bytes hash_after compress rounds schedule first_words named_for in_layers in_layer in_base in_object searched in_one by_word title_in title_or_id_in ids_in values_in reach_each property_or_child property_in child_at request_names word_at quotation_at value_at attribute_at next_attribute tag_end attributes_at tag_named tag_at name_at entity_at begins_part plain_len part_at nodes_at arms_at template_at head_at dots_at item_at chain chain_at comparison_at and_at or_at not_at token_at tokens_at expression_at rendered sourced object_rendered rendered_if argument needed var_text call_text unless_text object_turn turn each over_items loop_text with_text bound let_text item_text items_text arms_text else_text source_text evaluated first_of fitting shape quoted cased sized html_quote last_space chars first_chars
 then_the_path = refl
 
--- a call is none by HEAD, and none on a user folder; one that isn't built yet is so for everyone
+-- a call is none by HEAD, and none on a user folder
 then_what_is_called_on : comes_to (sent Head (codes "d" ∷ codes "manage_edit" ∷ []) [] stranger) ≡ Err (Cause (faults.Call (NotFound calls.Edit)))
 unfolding request with_fields with_credentials page scope_answer scope_page call_on call_with change_for change_by change written call_judged fields_kept field_kept texts_of text_of published walked stepped child page_at index found reached containers upwards finds verdict_on judged roles has locals_on local_roles shape_of known_user sought taken_at user_at permission_at fields_of pairs pairs_of raw_pairs split percent_decode named_by whole_number utf8_lossy utf8_valid_len is_utf8 encode cookies_of spelled_by groups_bytes groups_error scan_steps encode_symbols sha1 digest_bytes hash_after compress rounds schedule first_words named_for in_layers in_layer in_base in_object searched in_one by_word title_in title_or_id_in ids_in values_in reach_each property_or_child property_in child_at request_names word_at quotation_at value_at attribute_at next_attribute tag_end attributes_at tag_named tag_at name_at entity_at begins_part plain_len part_at nodes_at arms_at template_at head_at dots_at item_at chain chain_at comparison_at and_at or_at not_at token_at tokens_at expression_at rendered sourced object_rendered rendered_if argument needed var_text call_text unless_text object_turn turn each over_items loop_text with_text bound let_text item_text items_text arms_text else_text source_text evaluated first_of fitting shape quoted cased sized html_quote last_space chars first_chars
 then_what_is_called_on = refl
@@ -190,10 +190,6 @@ then_what_is_called_on = refl
 no_call_there : comes_to (sent Post (codes "acl_users" ∷ codes "manage_edit" ∷ []) [] admin) ≡ Err (Cause (faults.Call (NotFound calls.Edit)))
 unfolding request with_fields with_credentials page scope_answer scope_page call_on call_with change_for change_by change written call_judged fields_kept field_kept texts_of text_of published walked stepped child page_at index found reached containers upwards finds verdict_on judged roles has locals_on local_roles shape_of known_user sought taken_at user_at permission_at fields_of pairs pairs_of raw_pairs split percent_decode named_by whole_number utf8_lossy utf8_valid_len is_utf8 encode cookies_of spelled_by groups_bytes groups_error scan_steps encode_symbols sha1 digest_bytes hash_after compress rounds schedule first_words named_for in_layers in_layer in_base in_object searched in_one by_word title_in title_or_id_in ids_in values_in reach_each property_or_child property_in child_at request_names word_at quotation_at value_at attribute_at next_attribute tag_end attributes_at tag_named tag_at name_at entity_at begins_part plain_len part_at nodes_at arms_at template_at head_at dots_at item_at chain chain_at comparison_at and_at or_at not_at token_at tokens_at expression_at rendered sourced object_rendered rendered_if argument needed var_text call_text unless_text object_turn turn each over_items loop_text with_text bound let_text item_text items_text arms_text else_text source_text evaluated first_of fitting shape quoted cased sized html_quote last_space chars first_chars
 no_call_there = refl
-
-no_call_yet : comes_to (sent Post (at (codes "manage_undo_transactions")) [] []) ≡ Err (Cause (faults.Call (NotYet 0)))
-unfolding request with_fields with_credentials page scope_answer scope_page call_on call_with change_for change_by change written call_judged fields_kept field_kept texts_of text_of published walked stepped child page_at index found reached containers upwards finds verdict_on judged roles has locals_on local_roles shape_of known_user sought taken_at user_at permission_at fields_of pairs pairs_of raw_pairs split percent_decode named_by whole_number utf8_lossy utf8_valid_len is_utf8 encode cookies_of spelled_by groups_bytes groups_error scan_steps encode_symbols sha1 digest_bytes hash_after compress rounds schedule first_words named_for in_layers in_layer in_base in_object searched in_one by_word title_in title_or_id_in ids_in values_in reach_each property_or_child property_in child_at request_names word_at quotation_at value_at attribute_at next_attribute tag_end attributes_at tag_named tag_at name_at entity_at begins_part plain_len part_at nodes_at arms_at template_at head_at dots_at item_at chain chain_at comparison_at and_at or_at not_at token_at tokens_at expression_at rendered sourced object_rendered rendered_if argument needed var_text call_text unless_text object_turn turn each over_items loop_text with_text bound let_text item_text items_text arms_text else_text source_text evaluated first_of fitting shape quoted cased sized html_quote last_space chars first_chars
-no_call_yet = refl
 
 then_the_user : comes_to (sent Post (codes "d" ∷ codes "manage_edit" ∷ []) [] stranger) ≡ Err (Cause (faults.Denied 3 CHANGE_DTML_DOCUMENTS))
 unfolding request with_fields with_credentials page scope_answer scope_page call_on call_with change_for change_by change written call_judged fields_kept field_kept texts_of text_of published walked stepped child page_at index found reached containers upwards finds verdict_on judged roles has locals_on local_roles shape_of known_user sought taken_at user_at permission_at fields_of pairs pairs_of raw_pairs split percent_decode named_by whole_number utf8_lossy utf8_valid_len is_utf8 encode cookies_of spelled_by groups_bytes groups_error scan_steps encode_symbols sha1 digest_bytes hash_after compress rounds schedule first_words named_for in_layers in_layer in_base in_object searched in_one by_word title_in title_or_id_in ids_in values_in reach_each property_or_child property_in child_at request_names word_at quotation_at value_at attribute_at next_attribute tag_end attributes_at tag_named tag_at name_at entity_at begins_part plain_len part_at nodes_at arms_at template_at head_at dots_at item_at chain chain_at comparison_at and_at or_at not_at token_at tokens_at expression_at rendered sourced object_rendered rendered_if argument needed var_text call_text unless_text object_turn turn each over_items loop_text with_text bound let_text item_text items_text arms_text else_text source_text evaluated first_of fitting shape quoted cased sized html_quote last_space chars first_chars
@@ -208,3 +204,23 @@ then_the_call = refl
 edit : comes_to (sent Post (codes "d" ∷ codes "manage_edit" ∷ []) (codes "data=x") admin) ≡ Ok (answers.Change done (record { user = codes "admin"; description = codes "/d/manage_edit"; entries = Entry.Write (Name.Old 3) (record_text Second (held 0 (codes "d") [] (parts.Document (codes "x") []))) [] ∷ [] }))
 unfolding request with_fields with_credentials page scope_answer scope_page call_on call_with change_for change_by change written call_judged fields_kept field_kept texts_of text_of published walked stepped child page_at index found reached containers upwards finds verdict_on judged roles has locals_on local_roles shape_of known_user sought taken_at user_at permission_at fields_of pairs pairs_of raw_pairs split percent_decode named_by whole_number utf8_lossy utf8_valid_len is_utf8 encode cookies_of spelled_by groups_bytes groups_error scan_steps encode_symbols sha1 digest_bytes hash_after compress rounds schedule first_words named_for in_layers in_layer in_base in_object searched in_one by_word title_in title_or_id_in ids_in values_in reach_each property_or_child property_in child_at request_names word_at quotation_at value_at attribute_at next_attribute tag_end attributes_at tag_named tag_at name_at entity_at begins_part plain_len part_at nodes_at arms_at template_at head_at dots_at item_at chain chain_at comparison_at and_at or_at not_at token_at tokens_at expression_at rendered sourced object_rendered rendered_if argument needed var_text call_text unless_text object_turn turn each over_items loop_text with_text bound let_text item_text items_text arms_text else_text source_text evaluated first_of fitting shape quoted cased sized html_quote last_space chars first_chars
 edit = refl
+
+-- ---- the log, and what is undone
+
+the_log : comes_to (sent Get (at (codes "undoable_transactions")) [] admin) ≡ Ok answers.Log
+unfolding request with_fields with_credentials page scope_answer scope_page call_on call_with change_for change_by change written call_judged fields_kept field_kept texts_of text_of published walked stepped child page_at index found reached containers upwards finds verdict_on judged roles has locals_on local_roles shape_of known_user sought taken_at user_at permission_at fields_of pairs pairs_of raw_pairs split percent_decode named_by whole_number utf8_lossy utf8_valid_len is_utf8 encode cookies_of spelled_by groups_bytes groups_error scan_steps encode_symbols sha1 digest_bytes hash_after compress rounds schedule first_words named_for in_layers in_layer in_base in_object searched in_one by_word title_in title_or_id_in ids_in values_in reach_each property_or_child property_in child_at request_names word_at quotation_at value_at attribute_at next_attribute tag_end attributes_at tag_named tag_at name_at entity_at begins_part plain_len part_at nodes_at arms_at template_at head_at dots_at item_at chain chain_at comparison_at and_at or_at not_at token_at tokens_at expression_at rendered sourced object_rendered rendered_if argument needed var_text call_text unless_text object_turn turn each over_items loop_text with_text bound let_text item_text items_text arms_text else_text source_text evaluated first_of fitting shape quoted cased sized html_quote last_space chars first_chars
+the_log = refl
+
+the_undone : comes_to (sent Post (at (codes "manage_undo_transactions")) (codes "tid=0331620000000001") admin) ≡ Ok (answers.Undo (codes "admin") 230072808112128001)
+unfolding request with_fields with_credentials page scope_answer scope_page call_on call_with change_for change_by change written call_judged fields_kept field_kept texts_of text_of published walked stepped child page_at index found reached containers upwards finds verdict_on judged roles has locals_on local_roles shape_of known_user sought taken_at user_at permission_at fields_of pairs pairs_of raw_pairs split percent_decode named_by whole_number utf8_lossy utf8_valid_len is_utf8 encode cookies_of spelled_by groups_bytes groups_error scan_steps encode_symbols sha1 digest_bytes hash_after compress rounds schedule first_words named_for in_layers in_layer in_base in_object searched in_one by_word title_in title_or_id_in ids_in values_in reach_each property_or_child property_in child_at request_names word_at quotation_at value_at attribute_at next_attribute tag_end attributes_at tag_named tag_at name_at entity_at begins_part plain_len part_at nodes_at arms_at template_at head_at dots_at item_at chain chain_at comparison_at and_at or_at not_at token_at tokens_at expression_at rendered sourced object_rendered rendered_if argument needed var_text call_text unless_text object_turn turn each over_items loop_text with_text bound let_text item_text items_text arms_text else_text source_text evaluated first_of fitting shape quoted cased sized html_quote last_space chars first_chars
+the_undone = refl
+
+-- by nobody
+not_his_log : comes_to (sent Get (at (codes "undoable_transactions")) [] []) ≡ Err (Cause (faults.Denied 0 12))
+unfolding request with_fields with_credentials page scope_answer scope_page call_on call_with change_for change_by change written call_judged fields_kept field_kept texts_of text_of published walked stepped child page_at index found reached containers upwards finds verdict_on judged roles has locals_on local_roles shape_of known_user sought taken_at user_at permission_at fields_of pairs pairs_of raw_pairs split percent_decode named_by whole_number utf8_lossy utf8_valid_len is_utf8 encode cookies_of spelled_by groups_bytes groups_error scan_steps encode_symbols sha1 digest_bytes hash_after compress rounds schedule first_words named_for in_layers in_layer in_base in_object searched in_one by_word title_in title_or_id_in ids_in values_in reach_each property_or_child property_in child_at request_names word_at quotation_at value_at attribute_at next_attribute tag_end attributes_at tag_named tag_at name_at entity_at begins_part plain_len part_at nodes_at arms_at template_at head_at dots_at item_at chain chain_at comparison_at and_at or_at not_at token_at tokens_at expression_at rendered sourced object_rendered rendered_if argument needed var_text call_text unless_text object_turn turn each over_items loop_text with_text bound let_text item_text items_text arms_text else_text source_text evaluated first_of fitting shape quoted cased sized html_quote last_space chars first_chars
+not_his_log = refl
+
+-- a form without an id
+no_id : comes_to (sent Post (at (codes "manage_undo_transactions")) [] admin) ≡ Err (Cause (faults.Call (Missing Tid)))
+unfolding request with_fields with_credentials page scope_answer scope_page call_on call_with change_for change_by change written call_judged fields_kept field_kept texts_of text_of published walked stepped child page_at index found reached containers upwards finds verdict_on judged roles has locals_on local_roles shape_of known_user sought taken_at user_at permission_at fields_of pairs pairs_of raw_pairs split percent_decode named_by whole_number utf8_lossy utf8_valid_len is_utf8 encode cookies_of spelled_by groups_bytes groups_error scan_steps encode_symbols sha1 digest_bytes hash_after compress rounds schedule first_words named_for in_layers in_layer in_base in_object searched in_one by_word title_in title_or_id_in ids_in values_in reach_each property_or_child property_in child_at request_names word_at quotation_at value_at attribute_at next_attribute tag_end attributes_at tag_named tag_at name_at entity_at begins_part plain_len part_at nodes_at arms_at template_at head_at dots_at item_at chain chain_at comparison_at and_at or_at not_at token_at tokens_at expression_at rendered sourced object_rendered rendered_if argument needed var_text call_text unless_text object_turn turn each over_items loop_text with_text bound let_text item_text items_text arms_text else_text source_text evaluated first_of fitting shape quoted cased sized html_quote last_space chars first_chars
+no_id = refl

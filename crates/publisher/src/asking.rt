@@ -18,7 +18,7 @@ use crate::refusal::SiteRefusal;
 use acquisition::Wrapped;
 use form_fields::{FieldRefusal, Fields, fields};
 use http_in::{Request, Verb};
-use manage::{Call, Change, change, permission_at};
+use manage::{Call, Called, change, permission_at};
 use permissions::{Verdict, Who, find_user, verdict_on};
 use std::alloc::Global;
 use traverse::{Target, publish};
@@ -146,7 +146,7 @@ pub(crate) fn permission(
     Ok(permission_at(known, call, verb, on)?)
 }
 
-/// What a call changes on an object.
+/// What a call on an object comes to.
 #[tactic(auto, using(crate::proofs::Steps::changes_are, crate::proofs::Steps::changes_stop))]
 pub(crate) fn change_on(
     alloc: Global,
@@ -154,7 +154,7 @@ pub(crate) fn change_on(
     on: &Wrapped,
     known: &Known,
     fields: &Fields,
-) -> Result<Change, SiteRefusal>
+) -> Result<Called, SiteRefusal>
     requires lawful { changing.KeepRules (objects known.now) }
     ensures { Answers told (λ c. c) result (comes_to known.now (or_else faults.Call (changing.change call (first on.now) fields.now))) }
 {

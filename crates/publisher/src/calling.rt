@@ -14,10 +14,10 @@ use crate::asking::{change_on, permission, user_on, verdict};
 use crate::refusal::SiteRefusal;
 use crate::replies::line;
 use acquisition::Wrapped;
-use evaluator::Draft;
+use evaluator::{Draft, Entries, Reply};
 use form_fields::Fields;
 use http_in::Request;
-use manage::{Call, Change};
+use manage::{Call, Called, Change};
 use permissions::{Verdict, Who};
 use std::alloc::Global;
 use zbase::{Memory, Text};
@@ -44,22 +44,44 @@ fn user_name(alloc: Global, user: &Who) -> Result<Text, Memory>
     }
 }
 
-// The change of a request by a user.
-fn draft_of(alloc: Global, request: &Request, user: &Who, change: Change) -> Result<Draft, Memory>
-    ensures { IfOk result (λ draft. draft ≡ spec.draft_of request.now user.now change) }
+/// What a request writes, told as its user's.
+pub(crate) fn drafted(
+    alloc: Global,
+    request: &Request,
+    user: Text,
+    entries: Entries,
+) -> Result<Draft, Memory>
+    ensures { IfOk result (λ draft. draft ≡ spec.drafted request.now user entries) }
 {
     Ok(Draft {
-        user: user_name(alloc, user)?,
+        user,
         description: path_text(alloc, request.path.as_slice())?,
-        entries: change.entries,
+        entries,
     })
 }
 
-fn changed(alloc: Global, request: &Request, user: &Who, change: Change) -> Result<Answer, Memory>
-    ensures { IfOk result (λ answer. answer ≡ answers.Change replies.done (spec.draft_of request.now user.now change)) }
+/// The reply to a request whose change is made.
+pub(crate) fn done(alloc: Global) -> Result<Reply, Memory>
+    ensures { IfOk result (λ reply. reply ≡ replies.done) }
 {
-    let draft = draft_of(alloc, request, user, change)?;
-    Ok(Answer::Change(line(alloc, 200, "done")?, draft))
+    line(alloc, 200, "done")
+}
+
+fn written(alloc: Global, request: &Request, user: Text, change: Change) -> Result<Answer, Memory>
+    ensures { IfOk result (λ answer. answer ≡ answers.Change replies.done (spec.drafted request.now user change.entries)) }
+{
+    let draft = drafted(alloc, request, user, change.entries)?;
+    Ok(Answer::Change(done(alloc)?, draft))
+}
+
+fn changed(alloc: Global, request: &Request, user: &Who, made: Called) -> Result<Answer, Memory>
+    ensures { IfOk result (λ answer. answer ≡ spec.answer_of request.now user.now made) }
+{
+    match made {
+        Called::Writes(change) => written(alloc, request, user_name(alloc, user)?, change),
+        Called::Undoes(tid) => Ok(Answer::Undo(user_name(alloc, user)?, tid)),
+        Called::Lists => Ok(Answer::Log),
+    }
 }
 
 /// A call on an object, with the request that names it and its fields.
@@ -83,8 +105,8 @@ fn change_by(
     ensures { Answers told (λ a. a) result (comes_to known.now
         (spec.change_by sent.now.request.now sent.now.fields.now sent.now.call (first sent.now.on.now) user.now)) }
 {
-    let change = change_on(alloc, sent.call, sent.on, known, sent.fields)?;
-    let answer = changed(alloc, sent.request, user, change)?;
+    let made = change_on(alloc, sent.call, sent.on, known, sent.fields)?;
+    let answer = changed(alloc, sent.request, user, made)?;
     Ok(answer)
 }
 

@@ -25,8 +25,9 @@ pub fn messages_are_lawful()
     ensures replies { (known : Ask → Option Fact) (message : Message) (reply : Reply) → site known message ≡ Outcome.Answer reply → IsReply reply }
 {}
 
-/// Each 200 is a page that shows rightly: each object that it shows was granted to its user, or to someone who has the
+/// Each 200 is a page that shows rightly, or the log, shown by a call that was granted. A page shows rightly where each object that it shows was granted to its user, or to someone who has the
 /// proxy roles of an object, by the role that is told; and each object whose title, source or property it uses is shown.
+/// Or it shows the newest transactions of the log, by a call that is granted to its user.
 /// What a refusal denies is an object and a permission that isn't granted to the request's user, or to someone who has the
 /// proxy roles of an object.
 pub fn pages_show_rightly()
@@ -36,15 +37,15 @@ pub fn pages_show_rightly()
     pages_are_for_their_users();
 }
 
-/// Each change is that of a call on the object to which the path leads, by the request's user, to whom the permission is granted
-/// that the call needs there.
+/// Each change is that of a call on the object to which the path leads, or of the undo for which the call asks, by the
+/// request's user, to whom the permission is granted that the call needs there.
 pub fn changes_are_granted()
     ensures { ChangesAreGranted }
 {}
 
-/// Contents that a user may not view make no difference to his pages: over two histories that differ at their ends in such
-/// contents alone, where no object has proxy roles, a request for a page has one reply, unless one of both has too much to
-/// look at.
+/// Contents that a user may not view make no difference to his pages and to the log: over two histories with one log that
+/// differ at their ends in such contents alone, where no object has proxy roles, a request for a page or the log has one
+/// reply, unless one of both has too much to look at.
 pub fn contents_stay_apart()
     ensures { ContentsStayApart }
 {

@@ -2,13 +2,15 @@
 //!
 //! `specs/Site` says what a message asks, answers and changes, as one question (Zope Developer's Guide, "Object
 //! Publishing"), `specs/Pages` what the page of an object is, `specs/Faults` why there is none, and `specs/Replies` how
-//! each is told. `specs/SiteLaws` has that it keeps the laws of an evaluator, and `specs/Access` to whom it shows what.
+//! each is told. All of it asks for objects alone, but an undo and the page of transactions, which ask the history at the
+//! end (`finished`). `specs/SiteLaws` has that it keeps the laws of an evaluator, and `specs/Access` to whom it shows what.
 #![tactic(auto)]
 
 mod answer;
 mod answering;
 mod asking;
 mod calling;
+mod finishing;
 mod halted;
 mod laws;
 mod page;

@@ -18,9 +18,9 @@ use crate::refusal::SiteRefusal;
 use acquisition::AqRefusal;
 use dtml_lex::DtmlRefusal;
 use dtml_values::{Limit, RenderRefusal};
-use evaluator::{Ask, Denial, Kind, Reply, ShownList, permission_name};
+use evaluator::{Ask, Denial, Kind, LogRows, Reply, ShownList, permission_name};
 use http_in::{HttpRefusal, Verb};
-use manage::{ManageRefusal, call_name, field_name};
+use manage::{ManageRefusal, call_name, field_name, log_page};
 use std::alloc::Global;
 use traverse::TravRefusal;
 use zbase::{Memory, Oid, Text};
@@ -39,6 +39,15 @@ fn line_of(alloc: Global, status: u16, front: &str, rest: &str) -> Result<Reply,
     let mut text = Text::from_str(alloc, front)?;
     text.push_str(rest)?;
     Reply::one_line(alloc, status, text)
+}
+
+// A refusal of a call about an id.
+fn id_line(alloc: Global, front: &str, id: u64) -> Result<Reply, Memory>
+    ensures { IfOk result (λ reply. reply ≡ lines.one_line 400 (front.now ++ hex16_text id)) }
+{
+    let mut text = Text::from_str(alloc, front)?;
+    text.push_hex16(id)?;
+    Reply::one_line(alloc, 400, text)
 }
 
 // A reply about an object.
@@ -69,6 +78,20 @@ pub(crate) fn page_reply(text: Text, shown: ShownList) -> Reply
         shown,
         denied: None,
     }
+}
+
+/// The reply that shows the newest transactions of a log.
+pub(crate) fn log_reply(alloc: Global, rows: &LogRows) -> Result<Reply, Memory>
+    ensures { IfOk result (λ reply. reply ≡ spec.log_reply rows.now) }
+{
+    Ok(Reply {
+        status: 200,
+        kind: Kind::Plain,
+        head_only: false,
+        body: log_page(alloc, rows)?,
+        shown: ShownList::new(alloc),
+        denied: None,
+    })
 }
 
 /// The same reply to a message of that method.
@@ -235,7 +258,6 @@ fn call_halted(alloc: Global, cause: &ManageRefusal) -> Result<Halted, Memory>
         ManageRefusal::NotFound(call) => {
             Ok(refused(line_of(alloc, 404, "not found: ", call_name(*call))?))
         }
-        ManageRefusal::NotYet(oid) => Ok(refused(object_line(alloc, "not yet: ", *oid)?)),
         ManageRefusal::Missing(field) => {
             Ok(refused(line_of(alloc, 400, "missing: ", field_name(*field))?))
         }
@@ -252,6 +274,10 @@ fn call_halted(alloc: Global, cause: &ManageRefusal) -> Result<Halted, Memory>
         ManageRefusal::TooMany => Ok(refused(line(alloc, 400, "too many")?)),
         ManageRefusal::BadSource(cause) => Ok(refused(bad_source(alloc, *cause)?)),
         ManageRefusal::TooDeep => Ok(refused(line(alloc, 500, "too deep")?)),
+        ManageRefusal::NoSuchTransaction(tid) => {
+            Ok(refused(id_line(alloc, "no such transaction: ", tid.0)?))
+        }
+        ManageRefusal::UndoChanged(oid) => Ok(refused(id_line(alloc, "changed since: ", oid.0)?)),
     }
 }
 

@@ -3,7 +3,7 @@ ghost use Rattle.zknown.specs.Seen.{objects};
 ghost use Rattle.evaluator.specs.declared.outcome.Outcome.{Outcome as OutcomeValue};
 ghost use Rattle.evaluator.specs.Counting.{judged};
 ghost use Rattle.evaluator.specs.Exec.{IsTrail, most_asks};
-ghost use Rattle.evaluator.specs.Facts.{look};
+ghost use Rattle.evaluator.specs.Facts.{EachOnce, look};
 ghost use Rattle.evaluator.specs.Questions.{most_bytes, outcome};
 ghost use Rattle.http_in.specs.Messages.{one_message};
 ghost use Rattle.manage.specs.Changing.{KeepRules};
@@ -18,7 +18,7 @@ ghost use Rattle.publisher.specs.SiteLaws.{site_asks_few, site_is_lawful, site_r
 
 use crate::answer::Answer;
 use crate::answering::answer;
-use crate::halted::Halted;
+use crate::finishing::{listed, refused, undo_by};
 use crate::replies::{by_verb, halt_of, line, message_reply};
 use crate::state::SiteState;
 use evaluator::{Evaluator, Facts, Outcome};
@@ -41,26 +41,25 @@ pub struct Site {
     alloc: Global,
 }
 
-fn refused(verb: Verb, halted: Halted) -> Outcome
-    ensures { result ≡ halting.outcome_of verb halted }
-{
-    match halted {
-        Halted::Need(ask) => Outcome::Need(ask),
-        Halted::Refused(reply) => Outcome::Answer(by_verb(verb, reply)),
-    }
-}
-
 // What a whole message comes to, without limits.
-#[tactic(auto, using(crate::proofs::Limiting::paged, crate::proofs::Limiting::changes_to, crate::proofs::Limiting::halts_at))]
-fn outcome_of(alloc: Global, request: &Request, known: &Known) -> Result<Outcome, Memory>
+#[tactic(auto, using(crate::proofs::Limiting::paged, crate::proofs::Limiting::changes_to, crate::proofs::Limiting::undoes_to, crate::proofs::Limiting::lists_to, crate::proofs::Limiting::halts_at))]
+fn outcome_of(
+    alloc: Global,
+    request: &Request,
+    facts: &Facts,
+    known: &Known,
+) -> Result<Outcome, Memory>
     requires lawful { KeepRules (objects known.now) }
-    ensures { IfOk result (λ it. it ≡ outcome (made_of request.now.method (comes_to known.now (spec.request request.now)))) }
+    requires once { EachOnce facts.now }
+    ensures { IfOk result (λ it. it ≡ outcome (made_of (look facts.now) request.now (comes_to known.now (spec.request request.now)))) }
 {
     match answer(alloc, request, known) {
         Ok(Answer::Page(reply)) => Ok(Outcome::Answer(by_verb(request.method, reply))),
         Ok(Answer::Change(reply, draft)) => {
             Ok(Outcome::Change(by_verb(request.method, reply), draft))
         }
+        Ok(Answer::Undo(user, tid)) => undo_by(alloc, request, facts, user, tid),
+        Ok(Answer::Log) => listed(alloc, request, facts),
         Err(cause) => {
             let halted = halt_of(alloc, &cause)?;
             Ok(refused(request.method, halted))
@@ -106,14 +105,15 @@ fn limited(
     request: &Request,
 ) -> Result<Outcome, Memory>
     requires holds { keeping.Holds state.now facts.now }
+    requires once { EachOnce facts.now }
     ensures { IfOk result (λ it. it ≡ outcome (judged (replies.by_verb request.now.method replies.runaway_facts) facts.now
-        (made_of request.now.method (comes_to state.now.known (spec.request request.now))))) }
+        (made_of (look facts.now) request.now (comes_to state.now.known (spec.request request.now))))) }
 {
     if has_too_many_bytes(state) {
         let runaway = runaway(alloc, request.method)?;
         return Ok(runaway);
     }
-    let outcome = outcome_of(alloc, request, state.known())?;
+    let outcome = outcome_of(alloc, request, facts, state.known())?;
     if asks_more(facts.len(), &outcome) {
         let runaway = runaway(alloc, request.method)?;
         return Ok(runaway);

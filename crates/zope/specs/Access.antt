@@ -13,20 +13,21 @@ use Rattle.evaluator.specs.declared.reply.Mark.{Mark}
 use Rattle.evaluator.specs.declared.reply.Reply.{Reply}
 use Rattle.evaluator.specs.Exec.{exec}
 use Rattle.evaluator.specs.Settle.{settle}
+use Rattle.fs_undo.specs.Undone.{in_history}
 use Rattle.http_in.specs.declared.message.Message.{Message}
 use Rattle.http_in.specs.declared.message.Message.TheVariants.{Whole, Refused}
 use Rattle.http_out.specs.Replies.{answer}
 use Rattle.schedule.specs.declared.line.Line.{Line}
 use Rattle.schedule.specs.Causes.{denied_line, shown_lines}
 use Rattle.schedule.specs.Courses.{Place}
-use Rattle.publisher.specs.Access.{IsDeniedTo, IsGrantedChange, IsItsUser, ShowsRightly, objects_in}
+use Rattle.publisher.specs.Access.{IsDeniedTo, IsGrantedChange, IsItsUser, ListsRightly, ShowsRightly, objects_in}
 use Rattle.publisher.specs.Site.{site}
 
 -- What a reply over a history shows was granted, and all whose contents the page uses is shown; what it denies isn't granted. A
 -- refused message shows and denies nothing.
 abbrev pub AnswersRightly : History → Message → Reply → Type 0
 AnswersRightly h (Whole q) x =
-    (x.status ≡ 200 → ShowsRightly (objects_in h) q x)
+    (x.status ≡ 200 → ShowsRightly (objects_in h) q x ⊎ ListsRightly (in_history h) q x)
     × ((d : Denial) → x.denied ≡ Some d → (user : Who) × IsItsUser (objects_in h) q user × IsDeniedTo (objects_in h) user d)
 AnswersRightly h (Refused cause) x = (x.shown ≡ []) × (x.denied ≡ None)
 
@@ -48,7 +49,7 @@ ShowsRightlyAt h p = (w t : ℕ) (bytes : List ℕ) (lines : List Line) → p.li
 
 -- the change of a message over a history was granted; a refused message has none
 abbrev pub ChangesRightly : History → Message → Draft → Type 0
-ChangesRightly h (Whole q) d = IsGrantedChange (objects_in h) q d
+ChangesRightly h (Whole q) d = IsGrantedChange (in_history h) q d
 ChangesRightly h (Refused cause) d = ⊥
 
 -- the transaction is what a message makes of the part before it, by a change that was granted there

@@ -1,5 +1,8 @@
-use Rattle.publisher.proofs.Limiting.{site_whole}
+use Rattle.publisher.proofs.Limiting.{site_once, site_whole}
 use Rattle.publisher.proofs.site.evaluated.Goals as goal
+
+pub limited-requires : goal.limited-requires
+limited-requires c = record { holds = c.requires.holds; once = site_once c.args.message.now c.args.facts.now c.requires.trail }
 
 pub returns-in_ok-outcome-in-Whole : goal.returns-in_ok-outcome-in-Whole
 returns-in_ok-outcome-in-Whole c =
