@@ -27,7 +27,7 @@ use Rattle.namespace.specs.NameLaws.{for_then, for_named}
 use Rattle.namespace.specs.Names.{Scope, whose, named, push, act}
 use Rattle.dtml_values.specs.Values.{Left, spend_tag, spend_output, is_met, defined, sequence, object_in}
 use Rattle.dtml_values.specs.Expressions.{evaluated}
-use Rattle.dtml_values.specs.Joining.{then_then}
+use Rattle.namespace.specs.Joining.{then_then}
 use Rattle.dtml_values.specs.UserLaws.{for_choice, for_spend_tag, for_spend_output, for_defined, for_object_in, for_sequence, for_evaluated}
 use Rattle.dtml_render.specs.Rendering.{State, state, Inside, Block, put, source_of, pushed_if, scope_in, as_text, rendered, has_source, rendered_or, sourced, object_rendered, rendered_if, given, argument, name_of, must_be, needed, or_missing, text_of, shaped_by, shaped, put_at, put_value, var_text, without_text, call_text, unless_met, unless_text, item_scope, item_pushed, item_names, has_turn, object_turn, turn_text, turn, counted_turn, each, turned, over_items, over, over_value, loop_text, inside_object, with_value, with_text, bind, bound, in_bound, let_text, counting, item_text, items_text, arms_text, else_text, or_bad, text_and_left, whole_text, source_text, tree_text}
 

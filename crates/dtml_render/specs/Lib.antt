@@ -3,3 +3,5 @@ pub mod Rendering
 pub mod Access
 pub mod Worked
 pub mod Told
+pub mod Resuming
+pub mod ResumeLaws

@@ -12,6 +12,8 @@ mod rendering;
 mod showing;
 
 pub use dtml_values::{Budget, Limit, RenderRefusal};
-pub use laws::{pages_are_for_their_users, pages_are_their_users_own, pages_show_what_is_granted};
+pub use laws::{
+    pages_are_for_their_users, pages_are_their_users_own, pages_go_on, pages_show_what_is_granted,
+};
 pub use reading::{read_source, source_of};
 pub use rendering::render;

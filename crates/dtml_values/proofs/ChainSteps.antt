@@ -20,7 +20,7 @@ use Rattle.dtml_values.specs.Expressions.{evaluated, first_of, is_decided, with_
 use Rattle.dtml_values.specs.StepLaws.{goes_so, left_so}
 use Rattle.dtml_values.specs.Told.{told}
 use Rattle.dtml_values.specs.declared.refusal.RenderRefusal.{RenderRefusal}
-use Rattle.dtml_values.specs.Joining.{then_then, then_done}
+use Rattle.namespace.specs.Joining.{then_then, then_done}
 use Rattle.dtml_values.specs.Chains.{left_side, onto, all_onto, views, AreWithin}
 
 -- an expression with a left side goes on with its value

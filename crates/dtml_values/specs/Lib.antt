@@ -1,7 +1,6 @@
 pub mod Values
 pub mod Expressions
 pub mod Chains
-pub mod Joining
 pub mod StepLaws
 pub mod UserLaws
 pub mod Told

@@ -1,9 +1,12 @@
 pub mod Labels
 pub mod Looks
 pub mod LookLaws
+pub mod Joining
+pub mod GoingOn
 pub mod Told
 pub mod Names
 pub mod NameLaws
+pub mod Locating
 pub mod Requests
 pub mod Worked
 pub mod Viewing
