@@ -149,24 +149,35 @@ fn put_entries(
     Ok(())
 }
 
+fn put_called(alloc: Global, called: &Called, parts: &mut Vec<Part>) -> Result<(), CasesRefusal> {
+    match called {
+        Called::Writes(change) => put_entries(alloc, change.entries.as_slice(), parts),
+        Called::Undoes(tid) => {
+            let line = line_of(alloc, "undoes", tid.0)?;
+            add_line(alloc, parts, line.as_str())
+        }
+        Called::Lists => add_line(alloc, parts, "lists"),
+    }
+}
+
+fn put_refused(
+    alloc: Global,
+    refusal: ManageRefusal,
+    parts: &mut Vec<Part>,
+) -> Result<(), CasesRefusal> {
+    let mut line = String::from_str(alloc, "refused")?;
+    put_refusal(alloc, &mut line, refusal)?;
+    add_line(alloc, parts, line.as_str())
+}
+
 fn put_answer(
     alloc: Global,
     answer: Result<Called, ManageRefusal>,
     parts: &mut Vec<Part>,
 ) -> Result<(), CasesRefusal> {
     match answer {
-        Ok(Called::Writes(change)) => put_entries(alloc, change.entries.as_slice(), parts),
-        Ok(Called::Undoes(tid)) => add_line(
-            alloc,
-            parts,
-            line_of(alloc, "undoes", tid.0)?.as_str(),
-        ),
-        Ok(Called::Lists) => add_line(alloc, parts, "lists"),
-        Err(refusal) => {
-            let mut line = String::from_str(alloc, "refused")?;
-            put_refusal(alloc, &mut line, refusal)?;
-            add_line(alloc, parts, line.as_str())
-        }
+        Ok(called) => put_called(alloc, &called, parts),
+        Err(refusal) => put_refused(alloc, refusal, parts),
     }
 }
 
