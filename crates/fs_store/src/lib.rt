@@ -8,7 +8,8 @@
 //! and settles then whether the transaction of a finish that failed counts.
 //!
 //! Of the file a store keeps where it ends, its numbers and each object's newest place (`OpenFile`, `specs/Knowing`);
-//! all else is read where it stands (`specs/Finding`). `specs/Stores` says what a store is seen as, `specs/Fronts` which
+//! all else is read where it stands (`specs/Finding`), and a transaction is looked for from the file's end back
+//! (`specs/Seeking`). `specs/Stores` says what a store is seen as, `specs/Fronts` which
 //! history its disk's file says, `specs/Verdicts` when a vote is refused, `specs/Moments` what a stop at any moment may
 //! leave, `specs/Opened` what opening makes of a disk, `specs/Staleness` what the disk of a stale store may hold, and
 //! `specs/StaleLaws` what its history becomes.
