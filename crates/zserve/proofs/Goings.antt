@@ -48,7 +48,7 @@ goes_none takes eval core now = record {
   ran = λ told end first done prior. subst (λ xs. RanTo eval (terms_of takes eval core.store.limit end) first xs core now) (sym (append-nil done)) prior;
   tells = tells_self core.store.disk.told;
   counted = refl;
-  calm = λ f. f;
+  calm = λ f. (f, refl);
   safe = λ told. (refl, refl);
 }
 
@@ -63,7 +63,7 @@ goes_then {E} {R} {S} takes eval a b c s t u xs ys first second =
           subst (λ zs. RanTo eval (terms_of takes eval a.store.limit end) from zs c u) (append_assoc done xs ys) (subst (λ n. RanTo eval (terms_of takes eval n end) from ((done ++ xs) ++ ys) c u) first.limit more));
       tells = tells_then a.store.disk.told b.store.disk.told c.store.disk.told first.tells second.tells;
       counted = subst (λ ls. AreCounted a.store.disk.counter.count ls c.store.disk.counter.count) (sym (map-append (λ (h : Happening). h.1) xs ys)) (counted_then a.store.disk.counter.count b.store.disk.counter.count c.store.disk.counter.count (printed xs) (printed ys) first.counted second.counted);
-      calm = λ f. second.calm (first.calm f);
+      calm = λ f. (let one = first.calm f in let two = second.calm one.0 in (two.0, two.1 ∙ one.1));
       safe = λ told. safe_then a.store.disk.told b.store.disk.told c.store.disk.told a.store.history b.store.history c.store.history xs ys (first.safe told) (second.safe (forth told));
     }
 
@@ -110,7 +110,7 @@ goes_step takes eval old new w now line limit steps tells counts keeps = record 
   ran = λ told end first done prior. ran_next eval (terms_of takes eval old.store.limit end) first done (Item2.Step w) (step_lines answer w line) old new now now (steps told (terms_of takes eval old.store.limit end) refl refl) prior;
   tells = tells;
   counted = (new.store.disk.counter.count, step_counted old.store.disk.counter new.store.disk.counter w line counts, refl);
-  calm = λ f. (counts.calm f).0;
+  calm = counts.calm;
   safe = λ told.
       (let grew = step_grows eval (terms_of takes eval old.store.limit 0) w now old new (step_lines answer w line) (steps told (terms_of takes eval old.store.limit 0) refl refl) in
       (new.store.disk.told, new.store.history, step_leaves old.store new.store keeps, grew.0, grew.1, (refl, refl)));
@@ -136,7 +136,7 @@ goes_quietly {E} {R} {S} takes eval old new since now item same follows images =
       ran = λ told end first done prior. ran_next eval (terms_of takes eval old.store.limit end) first done item [] old new since now (follows end) prior;
       tells = subst (λ d. TellsOn old.store.disk.told d) (sym told_is) (tells_self old.store.disk.told);
       counted = (old.store.disk.counter.count, record { later = omega arith; calm = λ none. refl; rose = λ some. absurd (omega (arith, some)); runs = refl }, count_is);
-      calm = λ f. subst (λ (s : StoreView). IsFaultless s.disk.counter) (sym same) f;
+      calm = λ f. (subst (λ (s : StoreView). IsFaultless s.disk.counter) (sym same) f, count_is);
       safe = λ told. (
         old.store.disk.told,
         old.store.history,

@@ -12,4 +12,5 @@ mod Closings
 mod Shutting
 mod Behind
 mod Whole
+mod Tapings
 mod Refusing

@@ -1,5 +1,5 @@
 -- What a core went by to where a run was refused, and what the hub tells of that run.
-use Rattle.std.proofs.Common.{◌≡◌, ℕ, ◌-◌, List, [], ◌∷◌, ◌++◌, map, append-nil, append_assoc, Option, Some, None, Result, Ok, Err, refl, sym, ap, ◌∙◌, subst, inl, inr}
+use Rattle.std.proofs.Common.{◌≡◌, ℕ, ◌-◌, List, [], ◌∷◌, ◌++◌, flat_map, map, append-nil, append_assoc, Option, Some, None, Result, Ok, Err, refl, sym, ap, ◌∙◌, subst, inl, inr}
 use Rattle.std.specs.Option.{option_map}
 use Rattle.std.specs.Prelude.{◌⊎◌, IfSome, OnErr, is_some}
 use Rattle.std.proofs.lemmas.List.{map-append}
@@ -20,13 +20,17 @@ use Rattle.txn_core.specs.Replying.{terms_of}
 use Rattle.txn_core.specs.Slots.{Possible}
 use Rattle.zserve.specs.Reports.{Reports}
 use Rattle.zserve.specs.Going.{Goes, Went}
-use Rattle.zserve.specs.Happened.{Happening}
+use Rattle.zserve.specs.Happened.{Happening, items}
 use Rattle.zserve.specs.Served.{RefusedRun, RefusedTold, RoundsGone, ToldSoFar}
-use Rattle.zserve.specs.Serving.{AllShut}
+use Rattle.zserve.specs.Serving.{AllShut, RoundLost}
 use Rattle.zserve.specs.Tapes.{AreRounds, RefusedRounds, Round, Takes, clients_of}
+use Rattle.zserve.specs.Taping.{Leaves, Taped}
 use Rattle.zserve.proofs.Goings.{goes_none, goes_then}
 use Rattle.zserve.proofs.Reporting.{ReplayLaw, RunLaw, reports}
 use Rattle.zserve.proofs.Rounding.{rounds_whole}
+use Rattle.zserve.proofs.Tapings.{leaves_as, leaves_same}
+use Rattle.schedule.specs.Items.{HasLine, item_text}
+use Rattle.std.specs.List.{AllByRecursion}
 
 -- ---- the core
 
@@ -34,11 +38,19 @@ pub on_err : {T M : Type 0} (r : Result T M) (P : Type 0) → P → OnErr r P
 on_err (Ok x) P p = tt
 on_err (Err m) P p = p
 
-pub went_none : {E R S : Type 0} (takes : List ℕ → Option R) (eval : Eval R) (core : CoreView E R S) (since : ℕ) → Went takes eval core since core
+unfoldable pub went_none : {E R S : Type 0} (takes : List ℕ → Option R) (eval : Eval R) (core : CoreView E R S) (since : ℕ) → Went takes eval core since core
 went_none takes eval core since = ([], since, goes_none takes eval core since)
 
 pub went_then : {E R S : Type 0} (takes : List ℕ → Option R) (eval : Eval R) (a b c : CoreView E R S) (s t : ℕ) (xs : List Happening) → Goes takes eval a s xs b t → Went takes eval b t c → Went takes eval a s c
 went_then takes eval a b c s t xs first more = (xs ++ more.0, more.1, goes_then takes eval a b c s t more.1 xs more.0 first more.2)
+
+-- a refused round, told by another refusal
+pub lost_as : {A B E R S : Type 0} → (A → B) → (takes : List ℕ → Option R) (eval : Eval R) (old new : CoreView E R S) (o n : Option Told) → ((since : ℕ) → RoundLost A takes eval old since new o n) → (since : ℕ) → RoundLost B takes eval old since new o n
+lost_as turn takes eval old new o n lost since = let l = lost since in (l.0, l.1, l.2, leaves_as turn o [] (flat_map item_text (items l.0)) n l.3)
+
+-- refused before the core went by anything
+pub lost_none : {E R S : Type 0} (A : Type 0) (takes : List ℕ → Option R) (eval : Eval R) (core : CoreView E R S) (o n : Option Told) → n ≡ o → (since : ℕ) → RoundLost A takes eval core since core o n
+lost_none A takes eval core o n same since = ([], since, goes_none takes eval core since, leaves_same A o [] n same)
 
 -- ---- the tape
 
@@ -81,7 +93,7 @@ told_then port connections most all a b k l left replies p q r listens so shut =
   stamps = (b, l, so.stamps);
 }
 
-tells_listening : (port connections most : ℕ) (all : List Happening) (a b : Option (List Tick)) (k l : Counter) (left replies : ℕ) (h i j : Option Peers) → IfSome h (λ p. p.port ≡ Some port)
+pub tells_listening : (port connections most : ℕ) (all : List Happening) (a b : Option (List Tick)) (k l : Counter) (left replies : ℕ) (h i j : Option Peers) → IfSome h (λ p. p.port ≡ Some port)
     → Tells h i (ToldSoFar connections most all a k b l left replies) → Tells i j AllShut → Tells h j (RefusedTold port connections most all a k)
 tells_listening port connections most all a b k l left replies None i j listens so shut = subst (λ (o : Option Peers). Tells o j AllShut) so shut
 tells_listening port connections most all a b k l left replies (Some p) i j listens so shut =
@@ -89,7 +101,7 @@ tells_listening port connections most all a b k l left replies (Some p) i j list
     (more.0, more.1, told_then port connections most all a b k l left replies p so.0 more.0 listens so.2 more.2)
 
 -- refused in a round, behind whole rounds
-pub refused_behind : {E R S : Type 0} (takes : List ℕ → Option R) (eval : Eval R) (port connections most : ℕ) (first old new : CoreView E R S) (a b : Option (List Tick)) (k l : Counter) (t u : Option Told) (h i j : Option Peers) (left replies : ℕ)
+unfoldable pub refused_behind : {E R S : Type 0} (takes : List ℕ → Option R) (eval : Eval R) (port connections most : ℕ) (first old new : CoreView E R S) (a b : Option (List Tick)) (k l : Counter) (t u : Option Told) (h i j : Option Peers) (left replies : ℕ)
     → IfSome h (λ p. p.port ≡ Some port) → RoundsGone takes eval connections most first old a k b l t u h i left replies → Tells i j AllShut → ((since : ℕ) → Went takes eval old since new) → RefusedRun takes eval port connections most first new a k h j
 refused_behind {E} {R} {S} takes eval port connections most first old new a b k l t u h i j left replies listens gone shut went =
     let on : Went takes eval old gone.now new = went gone.now in
@@ -107,25 +119,30 @@ refused_behind {E} {R} {S} takes eval port connections most first old new a b k 
 none_shut : (p : Peers) → AllShut p p
 none_shut p = record { clients = []; port = refl; came = refl; accepted = sym (append-nil p.accepted); shut = tt }
 
-tells_none_shut : (h : Option Peers) → Tells h h AllShut
+pub tells_none_shut : (h : Option Peers) → Tells h h AllShut
 tells_none_shut None = refl
 tells_none_shut (Some p) = (p, refl, none_shut p)
 
 -- refused behind the last round
-pub refused_last : {E R S : Type 0} (takes : List ℕ → Option R) (eval : Eval R) (port connections most : ℕ) (first old : CoreView E R S) (a b : Option (List Tick)) (k l : Counter) (t u : Option Told) (h i : Option Peers) (left replies : ℕ)
+unfoldable pub refused_last : {E R S : Type 0} (takes : List ℕ → Option R) (eval : Eval R) (port connections most : ℕ) (first old : CoreView E R S) (a b : Option (List Tick)) (k l : Counter) (t u : Option Told) (h i : Option Peers) (left replies : ℕ)
     → IfSome h (λ p. p.port ≡ Some port) → RoundsGone takes eval connections most first old a k b l t u h i left replies → RefusedRun takes eval port connections most first old a k h i
 refused_last takes eval port connections most first old a b k l t u h i left replies listens gone =
     refused_behind takes eval port connections most first old old a b k l t u h i i left replies listens gone (tells_none_shut i) (λ since. went_none takes eval old since)
+
+-- what refused rounds answer for: the run, and what stands of the tape
+abbrev pub RoundsLost : {E R S : Type 0} → (failed : Type 0) → (List ℕ → Option R) → Eval R → (port connections most : ℕ) → CoreView E R S → CoreView E R S → Option (List Tick) → Counter → Option Peers → Option Peers → Option Told → Option Told → Type 0
+RoundsLost failed takes eval port connections most old new a k h i t u =
+    (gone : RefusedRun takes eval port connections most old new a k h i) × AllByRecursion HasLine (items gone.all) × Leaves failed t (flat_map item_text (items gone.all)) (flat_map item_text (items gone.more)) u
 
 -- ---- from where the hub began to listen
 
 no_rounds : (connections most : ℕ) (p q : Peers) → q.coming ≡ p.coming → q.accepted ≡ p.accepted → RefusedRounds message_front connections most p q []
 no_rounds connections most p q came accepted = record { others = []; came = sym came; accepted = accepted ∙ sym (append-nil p.accepted); sized = tt; each = tt; shut = tt }
 
-told_none : (port connections most : ℕ) (a : Option (List Tick)) (k : Counter) (p q : Peers) → (q ≡ p) ⊎ (q.port ≡ Some port) → q.coming ≡ p.coming → q.accepted ≡ p.accepted → RefusedTold port connections most [] a k p q
+pub told_none : (port connections most : ℕ) (a : Option (List Tick)) (k : Counter) (p q : Peers) → (q ≡ p) ⊎ (q.port ≡ Some port) → q.coming ≡ p.coming → q.accepted ≡ p.accepted → RefusedTold port connections most [] a k p q
 told_none port connections most a k p q port_is came accepted = record { port_is = port_is; rounds = []; is = refl; are = no_rounds connections most p q came accepted; stamps = (a, k, (refl, refl)) }
 
-before_any : {E R S : Type 0} (takes : List ℕ → Option R) (eval : Eval R) (port connections most : ℕ) (core : CoreView E R S) (a : Option (List Tick)) (k : Counter) (h i : Option Peers) → Tells h i (RefusedTold port connections most [] a k) → RefusedRun takes eval port connections most core core a k h i
+unfoldable pub before_any : {E R S : Type 0} (takes : List ℕ → Option R) (eval : Eval R) (port connections most : ℕ) (core : CoreView E R S) (a : Option (List Tick)) (k : Counter) (h i : Option Peers) → Tells h i (RefusedTold port connections most [] a k) → RefusedRun takes eval port connections most core core a k h i
 before_any takes eval port connections most core a k h i told = record {
   all = [];
   served = core;
@@ -138,7 +155,7 @@ before_any takes eval port connections most core a k h i told = record {
 }
 
 -- the hub refused to listen
-pub refused_first : {E R S : Type 0} (takes : List ℕ → Option R) (eval : Eval R) (port connections most : ℕ) (core : CoreView E R S) (a : Option (List Tick)) (k : Counter) (h i : Option Peers) → i ≡ h → RefusedRun takes eval port connections most core core a k h i
+unfoldable pub refused_first : {E R S : Type 0} (takes : List ℕ → Option R) (eval : Eval R) (port connections most : ℕ) (core : CoreView E R S) (a : Option (List Tick)) (k : Counter) (h i : Option Peers) → i ≡ h → RefusedRun takes eval port connections most core core a k h i
 refused_first takes eval port connections most core a k h i same = before_any takes eval port connections most core a k h i (tells h i same)
   where
     tells : (h i : Option Peers) → i ≡ h → Tells h i (RefusedTold port connections most [] a k)
@@ -146,7 +163,7 @@ refused_first takes eval port connections most core a k h i same = before_any ta
     tells (Some p) i e = (p, e, told_none port connections most a k p p (inl refl) refl refl)
 
 -- it listens, and the tape refused its first line
-pub refused_listening : {E R S : Type 0} (takes : List ℕ → Option R) (eval : Eval R) (port connections most : ℕ) (core : CoreView E R S) (a : Option (List Tick)) (k : Counter) (h i : Option Peers) → i ≡ option_map (listening_on port) h → RefusedRun takes eval port connections most core core a k h i
+unfoldable pub refused_listening : {E R S : Type 0} (takes : List ℕ → Option R) (eval : Eval R) (port connections most : ℕ) (core : CoreView E R S) (a : Option (List Tick)) (k : Counter) (h i : Option Peers) → i ≡ option_map (listening_on port) h → RefusedRun takes eval port connections most core core a k h i
 refused_listening takes eval port connections most core a k h i listens = before_any takes eval port connections most core a k h i (tells h i listens)
   where
     tells : (h i : Option Peers) → i ≡ option_map (listening_on port) h → Tells h i (RefusedTold port connections most [] a k)
@@ -158,7 +175,7 @@ pub listens_on : (port : ℕ) (h i : Option Peers) → i ≡ option_map (listeni
 listens_on port None i e = subst (λ (o : Option Peers). IfSome o (λ p. p.port ≡ Some port)) (sym e) tt
 listens_on port (Some p) i e = subst (λ (o : Option Peers). IfSome o (λ q. q.port ≡ Some port)) (sym e) refl
 
-told_from : (port connections most : ℕ) (all : List Happening) (a : Option (List Tick)) (k : Counter) (p q : Peers) → RefusedTold port connections most all a k (listening_on port p) q → RefusedTold port connections most all a k p q
+pub told_from : (port connections most : ℕ) (all : List Happening) (a : Option (List Tick)) (k : Counter) (p q : Peers) → RefusedTold port connections most all a k (listening_on port p) q → RefusedTold port connections most all a k p q
 told_from port connections most all a k p q told = record {
   port_is = inr (elim told.port_is [ inl same ↦ ap (λ (x : Peers). x.port) same | inr is ↦ is ]);
   rounds = told.rounds;
@@ -168,7 +185,7 @@ told_from port connections most all a k p q told = record {
 }
 
 -- refused while it listened
-pub refused_from : {E R S : Type 0} (takes : List ℕ → Option R) (eval : Eval R) (port connections most : ℕ) (old new : CoreView E R S) (a : Option (List Tick)) (k : Counter) (h i j : Option Peers) → i ≡ option_map (listening_on port) h
+unfoldable pub refused_from : {E R S : Type 0} (takes : List ℕ → Option R) (eval : Eval R) (port connections most : ℕ) (old new : CoreView E R S) (a : Option (List Tick)) (k : Counter) (h i j : Option Peers) → i ≡ option_map (listening_on port) h
     → RefusedRun takes eval port connections most old new a k i j → RefusedRun takes eval port connections most old new a k h j
 refused_from takes eval port connections most old new a k h i j listens run = record {
   all = run.all;
@@ -192,13 +209,14 @@ pub went_all : {E R S : Type 0} (takes : List ℕ → Option R) (eval : Eval R) 
     → Goes takes eval old 0 (run.all ++ run.more) new run.later
 went_all takes eval port connections most old new a k h i run = goes_then takes eval old run.served new 0 run.now run.later run.all run.more run.goes run.went
 
--- what a refused server answers for: its run, and the report of all that happened in it
-abbrev pub Refuses : {E R S : Type 0} → (List ℕ → Option R) → Eval R → (port connections most : ℕ) → CoreView E R S → CoreView E R S → Option (List Tick) → Counter → Option Peers → Option Peers → Type 0
-Refuses takes eval port connections most old new a k h i =
-    (gone : RefusedRun takes eval port connections most old new a k h i) × (IsTold old.store → (may : StoreView) → Possible new.store may
+-- what a refused server answers for: its run, its tape, and the report of all that happened in it
+abbrev pub Refuses : {E R S : Type 0} → (List ℕ → Option R) → Eval R → (port connections most : ℕ) → CoreView E R S → CoreView E R S → Option (List Tick) → Counter → Option Peers → Option Peers → (failed : Type 0) → Option Told → Type 0
+Refuses takes eval port connections most old new a k h i failed tape =
+    (gone : RefusedRun takes eval port connections most old new a k h i) × IfSome tape (Taped failed gone.all gone.more) × (IsTold old.store → (may : StoreView) → Possible new.store may
     → Reports (terms_of takes eval old.store.limit old.store.end) old.store.disk.counter.count new.store.disk.counter.count old.store.history (gone.all ++ gone.more) may)
 
 pub refuses : {E R S : Type 0} (takes : List ℕ → Option R) (eval : Eval R) (port connections most : ℕ) (old new : CoreView E R S) (a : Option (List Tick)) (k : Counter) (h i : Option Peers) → RunLaw R → ReplayLaw R → IsLawful eval → (IsTold old.store → IsHistory old.store.history) → IsAtRest eval old
-    → old.store.undecided ≡ None → RefusedRun takes eval port connections most old new a k h i → Refuses takes eval port connections most old new a k h i
-refuses takes eval port connections most old new a k h i law again lawful history rest decided run =
-    (run, λ told may possible. reports takes eval old new run.later (run.all ++ run.more) law again lawful told (history told) rest decided (went_all takes eval port connections most old new a k h i run) may possible)
+    → old.store.undecided ≡ None → (failed : Type 0) (tape : Option Told) (run : RefusedRun takes eval port connections most old new a k h i) → IfSome tape (Taped failed run.all run.more)
+    → Refuses takes eval port connections most old new a k h i failed tape
+refuses takes eval port connections most old new a k h i law again lawful history rest decided failed tape run taped =
+    (run, taped, λ told may possible. reports takes eval old new run.later (run.all ++ run.more) law again lawful told (history told) rest decided (went_all takes eval port connections most old new a k h i run) may possible)

@@ -16,13 +16,13 @@ abbrev pub RanTo : {E R S : Type 0} → Eval R → Terms R → Moment R → List
 RanTo {R = R} eval terms first all core now = (m : Moment R) → MayBe eval core m → Ran terms first all (clocked m now)
 
 -- The core went by these happenings from one view to another: whatever happened before, this happened behind it; the disk's count
--- of faults rose with the lines that tell a fault; and no stop in it loses what stands.
+-- of faults rose with the lines that tell a fault, and that of a disk that can't fail stays; and no stop in it loses what stands.
 pub record Goes {E R S : Type 0} (takes : List ℕ → Option R) (eval : Eval R) (old : CoreView E R S) (since : ℕ) (all : List Happening) (new : CoreView E R S) (now : ℕ) : Type 0 where
   pub limit : new.store.limit ≡ old.store.limit
   pub ran : IsTold old.store → (end : ℕ) (first : Moment R) (done : List Happening) → RanTo eval (terms_of takes eval old.store.limit end) first done old since → RanTo eval (terms_of takes eval old.store.limit end) first (done ++ all) new now
   pub tells : TellsOn old.store.disk.told new.store.disk.told
   pub counted : AreCounted old.store.disk.counter.count (printed all) new.store.disk.counter.count
-  pub calm : IsFaultless old.store.disk.counter → IsFaultless new.store.disk.counter
+  pub calm : IsFaultless old.store.disk.counter → IsFaultless new.store.disk.counter × (new.store.disk.counter.count ≡ old.store.disk.counter.count)
   pub safe : IsTold old.store → IsSafe old.store.disk.told old.store.history all new.store.disk.told new.store.history
 
 -- it went by something

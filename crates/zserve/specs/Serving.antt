@@ -1,5 +1,5 @@
 -- What the loop over rounds keeps.
-use Rattle.std.specs.Prelude.{◌≡◌, ℕ, List, [], ◌++◌, false, length, map, slice_get, Option, Some, None}
+use Rattle.std.specs.Prelude.{◌≡◌, ℕ, List, [], ◌++◌, false, flat_map, length, map, slice_get, Option, Some, None}
 use Rattle.std.specs.List.{AllByRecursion}
 use Rattle.zbase.specs.Faults.{Counter}
 use Rattle.zdisk.specs.Disk.{Told}
@@ -9,12 +9,14 @@ use Rattle.evaluator.specs.Exec.{Eval}
 use Rattle.http_clients.specs.Arriving.{Tells}
 use Rattle.http_clients.specs.Clients.{Client, held}
 use Rattle.http_clients.specs.Hearing.{message_front}
+use Rattle.schedule.specs.Items.{item_text}
 use Rattle.txn_core.specs.Cores.{CoreView}
 use Rattle.zserve.specs.Happened.{Happening, items}
 use Rattle.zserve.specs.Rounds.{RoundDone, round_of}
 use Rattle.zserve.specs.Stamped.{Stamps}
 use Rattle.zserve.specs.Tapes.{Carries, IsRound, Round, Takes, clients_of, messages, sizes}
-use Rattle.zserve.specs.Taping.{Continues}
+use Rattle.zserve.specs.Going.{Goes}
+use Rattle.zserve.specs.Taping.{Continues, Leaves}
 
 -- what is written on a connection is the reply that is kept for its worker; nothing, where it has none
 abbrev pub AnsweredBy : List (Option (List ℕ)) → Client × Option ℕ → Type 0
@@ -69,3 +71,7 @@ pub record RoundServed {E R S : Type 0} (takes : List ℕ → Option R) (eval : 
   pub taped : RoundTaped takes eval old new ticks counter ticks' counter' tape tape' ms stamp turns replies
   pub many : length ms ≡ answered
   pub told : Tells hub hub' (RoundTold ms stamp turns count)
+
+-- A round was refused: the core went by something, of which the tape has nothing or all, or a torn piece where it failed.
+abbrev pub RoundLost : {E R S : Type 0} → (failed : Type 0) → (List ℕ → Option R) → Eval R → CoreView E R S → ℕ → CoreView E R S → Option Told → Option Told → Type 0
+RoundLost failed takes eval old since new tape tape' = (all : List Happening) × (now : ℕ) × Goes takes eval old since all new now × Leaves failed tape [] (flat_map item_text (items all)) tape'

@@ -1,11 +1,10 @@
-ghost use Rattle.std.specs.Prelude.{◌≡◌, ◌≤◌, ⊤, ℕ, List, [], Option, IfOk, IsErrOf, OnErr, length, is_some};
+ghost use Rattle.std.specs.Prelude.{◌≡◌, ◌≤◌, ⊤, ℕ, List, [], Option, IfErr, IfOk, IsErrOf, length, is_some};
 ghost use Rattle.zbase.specs.Faults.{Counts};
 ghost use Rattle.http_in.specs.Messages.{one_message};
 ghost use Rattle.http_clients.specs.Arriving.{AreMessages, bytes_of};
 ghost use Rattle.http_clients.specs.Ending.{EndsAll, SendsReply, WereOpen};
-ghost use Rattle.zserve.specs.Going.{Went};
 ghost use Rattle.zserve.specs.Happened.{Happening};
-ghost use Rattle.zserve.specs.Serving.{RoundTaped};
+ghost use Rattle.zserve.specs.Serving.{RoundLost, RoundTaped};
 ghost use Rattle.zserve.specs.Sweeping.{Waits};
 ghost use Rattle.zserve.specs.Taping.{IsLong};
 
@@ -38,7 +37,8 @@ fn tape_round<D: Disk + Drop, E: Evaluator<Request = Message>, C: Clock, R: Disk
     ensures done { IfOk result (λ (replies, _). (stamp : ℕ) × (turns : List (List Happening))
         × RoundTaped E.takes E.meaning core.old core.new (C.ticks clock.old) (C.counter clock.old) (C.ticks clock.new) (C.counter clock.new)
         (R.told tape.old) (R.told tape.new) (bytes_of asked.items) stamp turns replies.items) }
-    ensures went { OnErr result ((since : ℕ) → Went E.takes E.meaning core.old since core.new) }
+    ensures lost { IfErr result (λ refusal. (since : ℕ) → RoundLost (refusal ≡ OutsideRefusal.Failed) E.takes E.meaning core.old since core.new
+        (R.told tape.old) (R.told tape.new)) }
     ensures long { IfOk result (λ (_, end). IsLong (R.told tape.new) end) }
     ensures tells { is_some (R.told tape.new) ≡ is_some (R.told tape.old) }
     ensures disk { Counts (R.counter tape.old) (R.counter tape.new) (IsErrOf result OutsideRefusal.Failed) }
@@ -79,7 +79,8 @@ pub(crate) fn answer_round<
         (R.told tape.old) (R.told tape.new) (bytes_of asked.items) stamp turns replies
         × EndsAll (SendsReply replies) numbers.now (H.peers hub.old) (H.peers hub.new)) }
     ensures ended { EndsAll (λ w end. ⊤) numbers.now (H.peers hub.old) (H.peers hub.new) }
-    ensures went { OnErr result ((since : ℕ) → Went E.takes E.meaning core.old since core.new) }
+    ensures lost { IfErr result (λ refusal. (since : ℕ) → RoundLost (refusal ≡ OutsideRefusal.Failed) E.takes E.meaning core.old since core.new
+        (R.told tape.old) (R.told tape.new)) }
     ensures long { IfOk result (λ end. IsLong (R.told tape.new) end) }
     ensures listening { H.listening hub.new ≡ H.listening hub.old }
     ensures tells { is_some (R.told tape.new) ≡ is_some (R.told tape.old) }

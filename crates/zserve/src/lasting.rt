@@ -1,9 +1,10 @@
-ghost use Rattle.std.specs.Prelude.{◌≡◌, ◌⊎◌, ◌≤◌, ◌<◌, ◌+◌, ◌++◌, ℕ, List, [], false, IfOk, IfSome, IsErrOf, OnErr, OnOk, Some, min, is_some};
+ghost use Rattle.std.specs.Prelude.{◌≡◌, ◌⊎◌, ◌≤◌, ◌<◌, ◌+◌, ◌++◌, ℕ, List, [], false, flat_map, IfErr, IfOk, IfSome, IsErrOf, OnOk, Some, min, is_some};
+ghost use Rattle.std.specs.List.{AllByRecursion};
 ghost use Rattle.std.specs.Option.{ForSome};
 ghost use Rattle.zdisk.specs.Crashes.{IsSynced};
 ghost use Rattle.zdisk.specs.Disk.{content};
 ghost use Rattle.http_clients.specs.Arriving.{Tells};
-ghost use Rattle.schedule.specs.Items.{IsSchedule, item_text};
+ghost use Rattle.schedule.specs.Items.{HasLine, IsSchedule, item_text};
 ghost use Rattle.schedule.specs.declared.item.Item2.{Item2};
 ghost use Rattle.fs_store.specs.Stores.{IsTold, StoreView};
 ghost use Rattle.txn_core.specs.Cores.{IsAtRest};
@@ -17,7 +18,7 @@ ghost use Rattle.zbase.specs.Faults.{Counts};
 ghost use Rattle.http_in.specs.Messages.{one_message};
 ghost use Rattle.zserve.specs.Served.{RefusedRun, RoundsGone, RunTold};
 ghost use Rattle.zserve.specs.Sweeping.{Waits};
-ghost use Rattle.zserve.specs.Taping.{Grows, IsLong};
+ghost use Rattle.zserve.specs.Taping.{Grows, IsLong, Leaves, Taped};
 
 use crate::refusal::{of_hub, of_tape};
 use crate::serving::serve_round;
@@ -67,8 +68,9 @@ fn serve_rounds<D: Disk + Drop, E: Evaluator<Request = Message>, H: Hub, C: Cloc
         (C.ticks clock.old) (C.counter clock.old) (C.ticks clock.new) (C.counter clock.new)
         (R.told tape.old) (R.told tape.new) (H.peers hub.old) (H.peers hub.new) left served.replies × (served.connections + left ≡ plan.connections)
         × ((left ≡ 0) ⊎ IfSome (H.peers hub.new) (λ q. q.coming ≡ []))) }
-    ensures refused { OnErr result (RefusedRun E.takes E.meaning plan.port plan.connections plan.clients core.old core.new (C.ticks clock.old)
-        (C.counter clock.old) (H.peers hub.old) (H.peers hub.new)) }
+    ensures refused { IfErr result (λ refusal. (gone : RefusedRun E.takes E.meaning plan.port plan.connections plan.clients core.old core.new
+        (C.ticks clock.old) (C.counter clock.old) (H.peers hub.old) (H.peers hub.new)) × AllByRecursion HasLine (items gone.all)
+        × Leaves (refusal ≡ ServeRefusal.Tape) (R.told tape.old) (flat_map item_text (items gone.all)) (flat_map item_text (items gone.more)) (R.told tape.new)) }
     ensures long { IfOk result (λ (_, end). IsLong (R.told tape.new) end) }
     ensures listening { Counts (H.listening hub.old) (H.listening hub.new) (IsErrOf result ServeRefusal.Hub) }
     ensures tells { is_some (R.told tape.new) ≡ is_some (R.told tape.old) }
@@ -104,6 +106,7 @@ fn serve_rounds<D: Disk + Drop, E: Evaluator<Request = Message>, H: Hub, C: Cloc
 fn put_on_tape<R: Disk>(tape: &mut R, at: u64, text: &[u8]) -> Result<u64, ServeRefusal>
     requires long { IsLong (R.told tape.old) at }
     ensures grows { OnOk result (Grows (R.told tape.old) text.now (R.told tape.new)) }
+    ensures left { IfErr result (λ refusal. Leaves (refusal ≡ ServeRefusal.Tape) (R.told tape.old) [] text.now (R.told tape.new)) }
     ensures long { IfOk result (λ end. IsLong (R.told tape.new) end) }
     ensures cause { IsErrOf result ServeRefusal.Hub → ⊥ }
     ensures tells { is_some (R.told tape.new) ≡ is_some (R.told tape.old) }
@@ -119,6 +122,7 @@ fn put_on_tape<R: Disk>(tape: &mut R, at: u64, text: &[u8]) -> Result<u64, Serve
 fn end_tape<R: Disk>(tape: &mut R, at: u64) -> Result<(), ServeRefusal>
     requires long { IsLong (R.told tape.old) at }
     ensures ended { OnOk result (Grows (R.told tape.old) (item_text Item2.End) (R.told tape.new) × ForSome (R.told tape.new) IsSynced) }
+    ensures left { IfErr result (λ refusal. Leaves (refusal ≡ ServeRefusal.Tape) (R.told tape.old) [] (item_text Item2.End) (R.told tape.new)) }
     ensures cause { IsErrOf result ServeRefusal.Hub → ⊥ }
     ensures tells { is_some (R.told tape.new) ≡ is_some (R.told tape.old) }
     ensures disk { Counts (R.counter tape.old) (R.counter tape.new) (IsErrOf result ServeRefusal.Tape) }
@@ -158,9 +162,10 @@ pub fn serve<D: Disk + Drop, E: Evaluator<Request = Message>, H: Hub, C: Clock, 
         × (IsTold core.old.store → (may : StoreView) → Possible core.new.store may
         → Reports (terms_of E.takes E.meaning core.old.store.limit core.old.store.end) core.old.store.disk.counter.count
         core.new.store.disk.counter.count core.old.store.history all may)) }
-    // Where it is refused, the rounds before are served, and the report has all that happened.
-    ensures refused { OnErr result ((gone : RefusedRun E.takes E.meaning plan.port plan.connections plan.clients core.old core.new
+    // Where it is refused, the rounds before are served, the tape has them, and the report has all that happened.
+    ensures refused { IfErr result (λ refusal. (gone : RefusedRun E.takes E.meaning plan.port plan.connections plan.clients core.old core.new
         (C.ticks clock.old) (C.counter clock.old) (H.peers hub.old) (H.peers hub.new))
+        × IfSome (R.told tape.new) (Taped (refusal ≡ ServeRefusal.Tape) gone.all gone.more)
         × (IsTold core.old.store → (may : StoreView) → Possible core.new.store may
         → Reports (terms_of E.takes E.meaning core.old.store.limit core.old.store.end) core.old.store.disk.counter.count
         core.new.store.disk.counter.count core.old.store.history (gone.all ++ gone.more) may)) }

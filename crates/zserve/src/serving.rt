@@ -1,9 +1,8 @@
-ghost use Rattle.std.specs.Prelude.{◌≡◌, ◌≤◌, ◌<◌, ℕ, List, [], IfErr, IfOk, IfSome, IsErrOf, OnErr, is_some};
+ghost use Rattle.std.specs.Prelude.{◌≡◌, ◌≤◌, ◌<◌, ℕ, List, [], IfErr, IfOk, IfSome, IsErrOf, is_some};
 ghost use Rattle.zbase.specs.Faults.{Counts};
 ghost use Rattle.http_in.specs.Messages.{one_message};
 ghost use Rattle.http_clients.specs.Arriving.{Tells};
-ghost use Rattle.zserve.specs.Going.{Went};
-ghost use Rattle.zserve.specs.Serving.{AllShut, ArrivesNone, RoundServed};
+ghost use Rattle.zserve.specs.Serving.{AllShut, ArrivesNone, RoundLost, RoundServed};
 ghost use Rattle.zserve.specs.Sweeping.{Waits};
 ghost use Rattle.zserve.specs.Taping.{IsLong};
 
@@ -63,7 +62,8 @@ pub(crate) fn serve_round<
     ensures fewer { IfOk result (λ end. end.accepted < most → IfSome (H.peers hub.new) (λ q. q.coming ≡ [])) }
     ensures long { IfOk result (λ end. IsLong (R.told tape.new) end.at) }
     ensures refused { IfErr result (λ _. Tells (H.peers hub.old) (H.peers hub.new) AllShut) }
-    ensures went { OnErr result ((since : ℕ) → Went E.takes E.meaning core.old since core.new) }
+    ensures lost { IfErr result (λ refusal. (since : ℕ) → RoundLost (refusal ≡ ServeRefusal.Tape) E.takes E.meaning core.old since core.new
+        (R.told tape.old) (R.told tape.new)) }
     ensures listening { Counts (H.listening hub.old) (H.listening hub.new) (IsErrOf result ServeRefusal.Hub) }
     ensures tells { is_some (R.told tape.new) ≡ is_some (R.told tape.old) }
     ensures disk { Counts (R.counter tape.old) (R.counter tape.new) (IsErrOf result ServeRefusal.Tape) }

@@ -3,6 +3,7 @@ use Rattle.std.specs.Prelude.{⊤}
 use Rattle.http_in.specs.declared.message.Message.{Message}
 use Rattle.http_clients.specs.Ending.{SendsReply}
 use Rattle.zserve.proofs.Shutting.{each_kept, ends_as}
+use Rattle.zserve.proofs.Tapings.{leaves_grown}
 use Rattle.http_clients.specs.Arriving.{bytes_of}
 use Rattle.zserve.specs.Rounds.{round_of}
 use Rattle.zserve.proofs.answering.answer_round.Goals as goal
@@ -33,5 +34,7 @@ pub returns-else-answer-clause-ended : goal.returns-else-answer-clause-ended
 returns-else-answer-clause-ended g c =
     ends_as (λ w end. c.answer.result ≡ false → SendsReply c.as_slice.result.now w end) (λ w end. ⊤) c.args.numbers.now (g.H.Hub.peers c.args.hub.now) (g.H.Hub.peers c.answer.new.hub) (λ v end some. tt) c.answer.ensures.ended
 
-pub returns-then-answer-clause-went : goal.returns-then-answer-clause-went
-returns-then-answer-clause-went g c = λ since. (let done = c.in-Ok.ensures.done in (round_of (bytes_of c.args.asked.items) done.0 done.1, done.0, (done.2.done since).goes))
+pub returns-then-answer-clause-lost : goal.returns-then-answer-clause-lost
+returns-then-answer-clause-lost g c = λ since.
+    (let done = c.in-Ok.ensures.done in
+    (round_of (bytes_of c.args.asked.items) done.0 done.1, done.0, (done.2.done since).goes, leaves_grown _ (g.R.Disk.told c.args.tape.now) _ (g.R.Disk.told c.tape_round.new.tape) done.2.taped.0))

@@ -1,9 +1,12 @@
-use Rattle.std.proofs.Common.{◌≡◌, ◌≤◌, ◌<◌, ℕ, min, arith, refl, subst, sym, ◌∙◌}
+use Rattle.std.proofs.Common.{◌≡◌, ◌≤◌, ◌<◌, ℕ, flat_map, min, arith, refl, subst, sym, ◌∙◌}
 use Rattle.http_in.specs.declared.message.Message.{Message}
 use Rattle.zserve.specs.declared.refusal.ServeRefusal.{ServeRefusal}
 use Rattle.zserve.proofs.Behind.{counts_ok, fewer_left, gone_next, gone_none, least_left, some_of}
 use Rattle.zserve.proofs.Shutting.{no_counts}
-use Rattle.zserve.proofs.Refusing.{on_err, refused_behind}
+use Rattle.zserve.proofs.Refusing.{RoundsLost, refused_behind}
+use Rattle.zserve.proofs.Tapings.{if_err_from, leaves_behind}
+use Rattle.schedule.specs.Items.{item_text}
+use Rattle.zserve.specs.Happened.{items}
 use Rattle.zserve.proofs.lasting.serve_rounds.Goals as goal
 
 pub serving-init : goal.serving-init
@@ -37,7 +40,13 @@ serving-preserved g c =
     }
 
 pub returns-in_err-round-clause-refused : goal.returns-in_err-round-clause-refused
+unfolding refused_behind
 returns-in_err-round-clause-refused g c =
-    on_err c.from_residual.result _
-    (refused_behind {E = g.row.E.Denot} {R = Message} {S = g.row.E-State.Denot} g.E.Evaluator.takes g.E.Evaluator.meaning c.args.plan.port c.args.plan.connections c.args.plan.clients c.args.core.now c.serving.core c.serve_round.new.core (g.C.Clock.ticks c.args.clock.now) (g.C.Clock.ticks c.serving.clock) (g.C.Clock.counter c.args.clock.now) (g.C.Clock.counter c.serving.clock)
-    (g.R.Disk.told c.args.tape.now) (g.R.Disk.told c.serving.tape) (g.H.Hub.peers c.args.hub.now) (g.H.Hub.peers c.serving.hub) (g.H.Hub.peers c.serve_round.new.hub) c.serving.left c.serving.replies c.requires.listens c.serving.invariant.gone c.in_err-round.ensures.refused c.in_err-round.ensures.went)
+    let gone = c.serving.invariant.gone in
+    let lost = c.in_err-round.ensures.lost in
+    let took = lost gone.now in
+    let run = refused_behind {E = g.row.E.Denot} {R = Message} {S = g.row.E-State.Denot} g.E.Evaluator.takes g.E.Evaluator.meaning c.args.plan.port c.args.plan.connections c.args.plan.clients c.args.core.now c.serving.core c.serve_round.new.core (g.C.Clock.ticks c.args.clock.now) (g.C.Clock.ticks c.serving.clock) (g.C.Clock.counter c.args.clock.now) (g.C.Clock.counter c.serving.clock)
+    (g.R.Disk.told c.args.tape.now) (g.R.Disk.told c.serving.tape) (g.H.Hub.peers c.args.hub.now) (g.H.Hub.peers c.serving.hub) (g.H.Hub.peers c.serve_round.new.hub) c.serving.left c.serving.replies c.requires.listens gone c.in_err-round.ensures.refused (λ since. (let l = lost since in (l.0, l.1, l.2))) in
+    if_err_from c.from_residual.result c.in_err-round.field-0.0 (λ refusal. RoundsLost {E = g.row.E.Denot} {R = Message} {S = g.row.E-State.Denot} (refusal ≡ ServeRefusal.Tape) g.E.Evaluator.takes g.E.Evaluator.meaning c.args.plan.port c.args.plan.connections c.args.plan.clients c.args.core.now c.serve_round.new.core (g.C.Clock.ticks c.args.clock.now) (g.C.Clock.counter c.args.clock.now)
+    (g.H.Hub.peers c.args.hub.now) (g.H.Hub.peers c.serve_round.new.hub) (g.R.Disk.told c.args.tape.now) (g.R.Disk.told c.serve_round.new.tape)) c.from_residual.ensures.1
+    (run, gone.taped.1, leaves_behind _ (g.R.Disk.told c.args.tape.now) (g.R.Disk.told c.serving.tape) (g.R.Disk.told c.serve_round.new.tape) (flat_map item_text (items gone.all)) (flat_map item_text (items took.0)) gone.taped.0 took.3)

@@ -1,11 +1,12 @@
-use Rattle.std.proofs.Common.{ℕ, List, arith, refl, subst}
+use Rattle.std.proofs.Common.{ℕ, List, ap, arith, refl, subst, ◌∙◌}
 use Rattle.std.specs.Prelude.{⊤}
 use Rattle.http_clients.specs.Arriving.{bytes_of}
 use Rattle.http_clients.specs.Ending.{EndsAll, SendsReply}
 use Rattle.http_in.specs.declared.message.Message.{Message}
 use Rattle.zserve.proofs.Handing.{length_bytes}
 use Rattle.zserve.proofs.Shutting.{counts_hub, counts_no_hub, counts_no_tape, counts_tape, ended_still, round_shut, round_shut_but, rounds_told}
-use Rattle.zserve.proofs.Refusing.{went_none}
+use Rattle.zserve.specs.Refusals.{of_tape}
+use Rattle.zserve.proofs.Refusing.{lost_as, lost_none}
 use Rattle.zserve.proofs.serving.serve_round.Goals as goal
 
 pub returns-in-Err-clause-refused : goal.returns-in-Err-clause-refused
@@ -56,5 +57,9 @@ pub returns-clause-disk : goal.returns-clause-disk
 returns-clause-disk g c =
     counts_tape (g.R.Disk.counter c.args.tape.now) (g.R.Disk.counter c.answer_round.new.tape) c.in-Err-answer_round.refusal c.of_tape.result c.of_tape.ensures c.in-Err-answer_round.ensures.disk
 
-pub returns-in-Err-clause-went : goal.returns-in-Err-clause-went
-returns-in-Err-clause-went g c = λ since. went_none {E = g.row.E.Denot} {R = Message} {S = g.row.E-State.Denot} g.E.Evaluator.takes g.E.Evaluator.meaning c.args.core.now since
+pub returns-in-Err-clause-lost : goal.returns-in-Err-clause-lost
+returns-in-Err-clause-lost g c = lost_none {E = g.row.E.Denot} {R = Message} {S = g.row.E-State.Denot} _ g.E.Evaluator.takes g.E.Evaluator.meaning c.args.core.now (g.R.Disk.told c.args.tape.now) (g.R.Disk.told c.args.tape.now) refl
+
+pub returns-clause-lost : goal.returns-clause-lost
+returns-clause-lost g c =
+    lost_as {E = g.row.E.Denot} {R = Message} {S = g.row.E-State.Denot} (λ f. c.of_tape.ensures ∙ ap of_tape f) g.E.Evaluator.takes g.E.Evaluator.meaning c.args.core.now c.answer_round.new.core (g.R.Disk.told c.args.tape.now) (g.R.Disk.told c.answer_round.new.tape) c.in-Err-answer_round.ensures.lost
