@@ -16,3 +16,6 @@ none most bs big h = (elim (all_ascii_digits bs) as (λ d. all_ascii_digits bs �
   | true ↦ λ d. let no : (0 < length bs) × (digits_value 10 bs < 2 ^ 64) → ⊥ = λ p. h (d, p.0, p.1) in grind (arith, nat_tests)
   | false ↦ λ d. grind (arith, nat_tests)
 ]) refl
+
+pub within : (most : ℕ) (bs : List ℕ) (n : ℕ) → Some n ≡ number_of most bs → n ≤ most
+within most bs n is = grind (arith, nat_tests, is)

@@ -3,6 +3,7 @@ use Rattle.std.specs.Prelude.{ℕ, ◌&&◌, ◌==◌, List, Option, Some, None,
 use Rattle.std.specs.Str.{bytes_eq, all_ascii_digits}
 use Rattle.std.specs.Str.Parse.{digits_value}
 use Rattle.clap.specs.Words.{Row, Text, subcommand_of, fault_of, first_of}
+use Rattle.zbase.specs.Limits.{greatest_number}
 use Rattle.fs_store.specs.Stores.{most_length}
 use Rattle.words.specs.CommandLine.{zope}
 
@@ -18,6 +19,7 @@ number_of most text = if (nat_lt 0 (length text) && nat_le (length text) 20) && 
 pub data Asked : Type 0 where
   Init : Text → Text → Text → Asked
   Replay : Text → ℕ → Asked
+  Serve : Text → ℕ → ℕ → ℕ → Text → Asked
   Check : Text → Asked
   Dump : Text → Asked
 
@@ -36,6 +38,28 @@ limit_of rows = limit_in (first_of (codes "limit") rows)
 abbrev pub replay_of : List Row → Option Asked
 replay_of rows = option_and_then (λ file. option_map (Replay file) (limit_of rows)) (first_of (codes "FILE") rows)
 
+-- a port has 16 bits, and a number of connections 64
+abbrev pub port_of : List Row → Option ℕ
+port_of rows = option_and_then (number_of 65535) (first_of (codes "port") rows)
+
+abbrev pub connections_of : List Row → Option ℕ
+connections_of rows = option_and_then (number_of greatest_number) (first_of (codes "connections") rows)
+
+abbrev pub above_zero : ℕ → Option ℕ
+above_zero n = if nat_lt 0 n then Some n else None
+
+-- one client where no number is given, and sixteen at most
+abbrev pub clients_in : Option Text → Option ℕ
+clients_in None = Some 1
+clients_in (Some text) = option_and_then above_zero (number_of 16 text)
+
+abbrev pub clients_of : List Row → Option ℕ
+clients_of rows = clients_in (first_of (codes "clients") rows)
+
+abbrev pub serve_of : List Row → Option Asked
+serve_of rows = option_and_then (λ file. option_and_then (λ port. option_and_then (λ connections. option_and_then (λ clients. option_map (λ record_. Serve file port connections clients record_)
+    (first_of (codes "record") rows)) (clients_of rows)) (connections_of rows)) (port_of rows)) (first_of (codes "FILE") rows)
+
 abbrev pub check_of : List Row → Option Asked
 check_of rows = option_map Check (first_of (codes "FILE") rows)
 
@@ -46,8 +70,9 @@ abbrev pub by_name : Text → List Row → Option Asked
 by_name name rows =
     if bytes_eq name (codes "init") then init_of rows
     else (if bytes_eq name (codes "replay") then replay_of rows
+    else (if bytes_eq name (codes "serve") then serve_of rows
     else (if bytes_eq name (codes "check") then check_of rows
-    else (if bytes_eq name (codes "dump") then dump_of rows else None)))
+    else (if bytes_eq name (codes "dump") then dump_of rows else None))))
 
 abbrev pub by_subcommand : Option (Text × List Row) → Option Asked
 by_subcommand found = option_and_then (λ p. by_name p.0 p.1) found

@@ -11,6 +11,10 @@ positional id = record (new_rule id) { required = true; action = Some Set }
 abbrev pub option : Text → Rule
 option id = record (new_rule id) { long = Some id; action = Some Set }
 
+-- `--ID VALUE`, which must stand
+abbrev pub needed : Text → Rule
+needed id = record (option id) { required = true }
+
 -- a subcommand over a file, with nothing else
 abbrev pub over_file : Text → App
 over_file name = with_rule (new_app name) (positional (codes "FILE"))
@@ -21,6 +25,9 @@ init = with_rule (with_rule (over_file (codes "init")) (positional (codes "NAME"
 abbrev pub replay : App
 replay = with_rule (over_file (codes "replay")) (option (codes "limit"))
 
+abbrev pub serve : App
+serve = with_rule (with_rule (with_rule (with_rule (over_file (codes "serve")) (needed (codes "port"))) (needed (codes "connections"))) (option (codes "clients"))) (needed (codes "record"))
+
 -- no help words, no version words, and no word for the program
 abbrev pub bare : App
 bare = record (new_app (codes "zope")) {
@@ -28,4 +35,4 @@ bare = record (new_app (codes "zope")) {
 }
 
 abbrev pub zope : App
-zope = with_subcommand (with_subcommand (with_subcommand (with_subcommand bare init.top) replay.top) (over_file (codes "check")).top) (over_file (codes "dump")).top
+zope = with_subcommand (with_subcommand (with_subcommand (with_subcommand (with_subcommand bare init.top) replay.top) serve.top) (over_file (codes "check")).top) (over_file (codes "dump")).top

@@ -1,10 +1,11 @@
 -- What the words ask for, without where it lies in memory.
 use Rattle.words.specs.Asking as asking
 use Rattle.words.specs.declared.asking.Asked.{Asked}
-use Rattle.words.specs.declared.asking.Asked.TheVariants.{Check, Dump, Init, Replay}
+use Rattle.words.specs.declared.asking.Asked.TheVariants.{Check, Dump, Init, Replay, Serve}
 
 abbrev pub view : Asked → asking.Asked
 view (Init file name password) = asking.Init file.now name.now password.now
 view (Replay file limit) = asking.Replay file.now limit
+view (Serve file port connections clients record_) = asking.Serve file.now port connections clients record_.now
 view (Check file) = asking.Check file.now
 view (Dump file) = asking.Dump file.now

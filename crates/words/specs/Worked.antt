@@ -1,7 +1,7 @@
 -- Command lines, by computing.
 use Rattle.std.specs.Prelude.{◌≡◌, List, [], ◌∷◌, Option, Some, None, codes, refl}
 use Rattle.clap.proofs.OnLiterals.{clap_on_literals}
-use Rattle.words.specs.Asking.{Asked, Init, Replay, Check, Dump, asked_of}
+use Rattle.words.specs.Asking.{Asked, Init, Replay, Serve, Check, Dump, asked_of}
 
 init_is : asked_of (codes "init" ∷ codes "f" ∷ codes "admin" ∷ codes "secret" ∷ []) ≡ Some (Init (codes "f") (codes "admin") (codes "secret"))
 unfolding clap_on_literals
@@ -26,3 +26,23 @@ help_is_no_word = refl
 no_word : asked_of [] ≡ None
 unfolding clap_on_literals
 no_word = refl
+
+serve_is : asked_of (codes "serve" ∷ codes "f" ∷ codes "--port" ∷ codes "8080" ∷ codes "--connections" ∷ codes "3" ∷ codes "--record" ∷ codes "t" ∷ []) ≡ Some (Serve (codes "f") 8080 3 1 (codes "t"))
+unfolding clap_on_literals
+serve_is = refl
+
+seventeen_clients : asked_of (codes "serve" ∷ codes "f" ∷ codes "--port=8080" ∷ codes "--connections=3" ∷ codes "--clients=17" ∷ codes "--record=t" ∷ []) ≡ None
+unfolding clap_on_literals
+seventeen_clients = refl
+
+no_clients : asked_of (codes "serve" ∷ codes "f" ∷ codes "--port=8080" ∷ codes "--connections=3" ∷ codes "--clients=0" ∷ codes "--record=t" ∷ []) ≡ None
+unfolding clap_on_literals
+no_clients = refl
+
+no_port : asked_of (codes "serve" ∷ codes "f" ∷ codes "--connections=3" ∷ codes "--record=t" ∷ []) ≡ None
+unfolding clap_on_literals
+no_port = refl
+
+port_too_great : asked_of (codes "serve" ∷ codes "f" ∷ codes "--port=65536" ∷ codes "--connections=3" ∷ codes "--record=t" ∷ []) ≡ None
+unfolding clap_on_literals
+port_too_great = refl

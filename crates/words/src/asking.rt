@@ -4,11 +4,14 @@ ghost use Rattle.words.specs.Asking as asking;
 ghost use Rattle.words.specs.Views.{view};
 
 use crate::command_line::zope;
-use crate::numbers::number_of;
+use crate::numbers::{number_of, short_number_of};
 use clap::ArgMatches;
 use clap::error::ErrorKind;
 use fs_record::MAX_LENGTH;
 use std::alloc::Global;
+
+/// How many clients may share a round of a server.
+const MOST_CLIENTS: u16 = 16;
 
 /// Why words ask for nothing.
 #[derive(Debug, Drop)]
@@ -32,6 +35,15 @@ pub enum Asked<'a> {
     Replay {
         file: &'a str,
         limit: u64,
+    },
+    /// A server of the site in the file, on a port, for so many connections, of which `clients` may share a round; what
+    /// happens is recorded in a new file of the name `record`.
+    Serve {
+        file: &'a str,
+        port: u16,
+        connections: u64,
+        clients: u32,
+        record: &'a str,
     },
     /// The numbers of the file.
     Check {
@@ -81,6 +93,52 @@ fn replay_of<'a>(matches: &ArgMatches<'a>) -> Option<Asked<'a>>
     Some(Asked::Replay { file, limit })
 }
 
+fn port_of(matches: &ArgMatches) -> Option<u16>
+    ensures { result ≡ asking.port_of (rows_of (found_of matches.now)) }
+{
+    let text = word_of(matches, "port")?;
+    short_number_of(u16::MAX, text)
+}
+
+fn connections_of(matches: &ArgMatches) -> Option<u64>
+    ensures { result ≡ asking.connections_of (rows_of (found_of matches.now)) }
+{
+    let text = word_of(matches, "connections")?;
+    number_of(u64::MAX, text)
+}
+
+// How many clients may share a round, where a number that is given keeps its rule.
+fn clients_of(matches: &ArgMatches) -> Option<u32>
+    ensures { result ≡ asking.clients_of (rows_of (found_of matches.now)) }
+{
+    let Some(text) = word_of(matches, "clients") else {
+        return Some(1);
+    };
+    let clients = short_number_of(MOST_CLIENTS, text)?;
+    if clients > 0 {
+        Some(clients as u32)
+    } else {
+        None
+    }
+}
+
+fn serve_of<'a>(matches: &ArgMatches<'a>) -> Option<Asked<'a>>
+    ensures { option_map view result ≡ asking.serve_of (rows_of (found_of matches.now)) }
+{
+    let file = word_of(matches, "FILE")?;
+    let port = port_of(matches)?;
+    let connections = connections_of(matches)?;
+    let clients = clients_of(matches)?;
+    let record = word_of(matches, "record")?;
+    Some(Asked::Serve {
+        file,
+        port,
+        connections,
+        clients,
+        record,
+    })
+}
+
 fn check_of<'a>(matches: &ArgMatches<'a>) -> Option<Asked<'a>>
     ensures { option_map view result ≡ asking.check_of (rows_of (found_of matches.now)) }
 {
@@ -104,6 +162,8 @@ fn asked_of<'a>(matches: &ArgMatches<'a>) -> Option<Asked<'a>>
         init_of(within)
     } else if name == "replay" {
         replay_of(within)
+    } else if name == "serve" {
+        serve_of(within)
     } else if name == "check" {
         check_of(within)
     } else if name == "dump" {

@@ -22,6 +22,14 @@ fn option<'a>(alloc: Global, id: &'a str) -> Arg<'a>
     Arg::new(alloc, id).long(id).action(ArgAction::Set)
 }
 
+// `--ID VALUE`, which must stand.
+fn needed<'a>(alloc: Global, id: &'a str) -> Arg<'a>
+    ensures rule { rule_of result ≡ lines.needed id.entry.now }
+    ensures global { result.global ≡ false }
+{
+    option(alloc, id).required(true)
+}
+
 // A subcommand over a file, with nothing else.
 fn over_file<'a>(alloc: Global, name: &'a str) -> Result<Command<'a>, AllocError>
     ensures app { IfOk result (λ c. app_of c ≡ lines.over_file name.entry.now) }
@@ -49,6 +57,17 @@ fn replay<'a>(alloc: Global) -> Result<Command<'a>, AllocError>
         .arg(option(alloc, "limit"))
 }
 
+fn serve<'a>(alloc: Global) -> Result<Command<'a>, AllocError>
+    ensures app { IfOk result (λ c. app_of c ≡ lines.serve) }
+    ensures globals { IfOk result (λ c. (fields_of c).has_globals ≡ false) }
+{
+    over_file(alloc, "serve")?
+        .arg(needed(alloc, "port"))?
+        .arg(needed(alloc, "connections"))?
+        .arg(option(alloc, "clients"))?
+        .arg(needed(alloc, "record"))
+}
+
 // The program's words, none of which is its name.
 fn bare<'a>(alloc: Global) -> Command<'a>
     ensures { app_of result ≡ lines.bare }
@@ -68,6 +87,7 @@ pub(crate) fn zope<'a>(alloc: Global) -> Result<Command<'a>, AllocError>
     bare(alloc)
         .subcommand(init(alloc)?)?
         .subcommand(replay(alloc)?)?
+        .subcommand(serve(alloc)?)?
         .subcommand(over_file(alloc, "check")?)?
         .subcommand(over_file(alloc, "dump")?)
 }

@@ -15,3 +15,15 @@ pub(crate) fn number_of(most: u64, text: &str) -> Option<u64>
         Err(_) => None,
     }
 }
+
+/// The same, where the most has 16 bits.
+pub(crate) fn short_number_of(most: u16, text: &str) -> Option<u16>
+    ensures { result ≡ number_of most text.now }
+{
+    let n = number_of(most as u64, text)?;
+    if n <= most as u64 {
+        Some(n as u16)
+    } else {
+        None
+    }
+}

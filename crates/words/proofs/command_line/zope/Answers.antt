@@ -7,5 +7,6 @@ pub returns : goal.returns
 returns c =
     let e1 = c.in_ok-subcommand.ensures.shape c.in_ok-init.ensures.globals ∙ ap₂ with_subcommand c.bare.ensures (ap (λ (a : App). a.top) c.in_ok-init.ensures.app) in
     let e2 = c.in_ok-subcommand-2.ensures.shape c.in_ok-replay.ensures.globals ∙ ap₂ with_subcommand e1 (ap (λ (a : App). a.top) c.in_ok-replay.ensures.app) in
-    let e3 = c.in_ok-subcommand-3.ensures.shape c.in_ok-over_file.ensures.globals ∙ ap₂ with_subcommand e2 (ap (λ (a : App). a.top) c.in_ok-over_file.ensures.app) in
-    IfOk-weaker c.subcommand-4.result _ _ (λ r a. a.shape c.in_ok-over_file-2.ensures.globals ∙ ap₂ with_subcommand e3 (ap (λ (a : App). a.top) c.in_ok-over_file-2.ensures.app)) c.subcommand-4.ensures
+    let e3 = c.in_ok-subcommand-3.ensures.shape c.in_ok-serve.ensures.globals ∙ ap₂ with_subcommand e2 (ap (λ (a : App). a.top) c.in_ok-serve.ensures.app) in
+    let e4 = c.in_ok-subcommand-4.ensures.shape c.in_ok-over_file.ensures.globals ∙ ap₂ with_subcommand e3 (ap (λ (a : App). a.top) c.in_ok-over_file.ensures.app) in
+    IfOk-weaker c.subcommand-5.result _ _ (λ r a. a.shape c.in_ok-over_file-2.ensures.globals ∙ ap₂ with_subcommand e4 (ap (λ (a : App). a.top) c.in_ok-over_file-2.ensures.app)) c.subcommand-5.ensures
