@@ -2,3 +2,11 @@ mod Closing
 mod Open
 mod Joining
 mod Causes
+mod Replacing
+mod Turning
+mod Filling
+mod Planning
+mod Backing
+mod Trying
+mod NewPiece
+mod ReadFile

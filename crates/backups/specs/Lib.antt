@@ -4,3 +4,5 @@ pub mod Opened
 pub mod Calls
 pub mod Restored
 pub mod Refusals
+pub mod BackedUp
+pub mod Putting

@@ -1,8 +1,10 @@
 ghost use Rattle.std.specs.Prelude.{◌≡◌};
 ghost use Rattle.backups.specs.Refusals.{of_unread};
+ghost use Rattle.backups.specs.declared.refusal.BackupRefusal.TheVariants as backup;
 ghost use Rattle.backups.specs.declared.refusal.RestoreRefusal.TheVariants as restore;
 
 use crate::indexes::Unread;
+use fs_record::Damage;
 use zbase::{Memory, Text};
 
 /// Why a file isn't made again.
@@ -40,5 +42,30 @@ impl From<Unread> for RestoreRefusal {
             Unread::Failed => RestoreRefusal::Disk,
             Unread::Memory => RestoreRefusal::Memory,
         }
+    }
+}
+
+/// Why a file isn't backed up.
+#[derive(Clone, Copy, Debug, PartialEq, Eq)]
+pub enum BackupRefusal {
+    /// The shelf has no such file.
+    Missing,
+    /// The file has so many bytes, which no file may have.
+    TooLong(u64),
+    /// The file has this damage, in the transaction at that place.
+    Damaged(Damage, u64),
+    /// The shelf has all names already that a new piece, or a new index, may have.
+    NamesSpent,
+    /// The shelf or a disk failed.
+    Disk,
+    /// Want of memory.
+    Memory,
+}
+
+impl From<Memory> for BackupRefusal {
+    ghost from_gives = { λ _ refusal. refusal ≡ backup.Memory };
+
+    fn from(_: Memory) -> BackupRefusal {
+        BackupRefusal::Memory
     }
 }
