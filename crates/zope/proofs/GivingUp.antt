@@ -1,12 +1,14 @@
 -- A run that writes nothing, where nothing is a cause, is one for which memory was wanting.
-use Rattle.std.proofs.Common.{◌≡◌, ℕ, [], ◌∷◌, Some, refl, sym, inl, inr, ◌∙◌, ap, arith}
+use Rattle.std.proofs.Common.{◌≡◌, ℕ, [], ◌∷◌, Option, Some, refl, subst, inl, inr, ◌∙◌, ap, arith}
 use Rattle.std.specs.Prelude.{codes}
 use Rattle.clap.proofs.OnLiterals.{clap_on_literals}
-use Rattle.words.specs.Asking.{Check, asked_of}
+use Rattle.words.specs.Asking.{Asked, Check, asked_of}
 use Rattle.fs_record.specs.File.{front_of, magic}
 use Rattle.fs_record.specs.Opening.{Cut, is_end}
-use Rattle.zope.specs.Causes.{NoCause}
+use Rattle.zope.specs.Causes.{DidAs, NoCause}
 use Rattle.zope.specs.Ends.{Ends, status_of}
+use Rattle.zope.specs.Numbers.{NumbersPrinted}
+use Rattle.zope.specs.Outside.{told}
 use Rattle.zope.specs.Worked.{calm, checking, untouched}
 use Rattle.zope.proofs.NoCauses.{NotBoth, NotDamaged, OneSchedule, only_memory}
 
@@ -19,9 +21,9 @@ unfolding clap_on_literals
 asks = refl
 
 sound : NoCause checking untouched untouched
-sound = inr (inl (
-  codes "a",
-  inl asks,
+sound = (
+  Check (codes "a"),
+  asks,
   record {
     entries = (codes "a", magic) ∷ [];
     shelf = refl;
@@ -37,13 +39,19 @@ sound = inr (inl (
       | inr unsound ↦ unsound tt
     ];
   },
-))
+)
+
+-- nothing was printed
+unprinted : NumbersPrinted (codes "a") untouched.files untouched.written untouched.written → ⊥
+unprinted did = let printed = did.printed in cc
+
+asks_one : (o : Option Asked) (a b : Asked) → o ≡ Some a → o ≡ Some b → a ≡ b
+asks_one o a b p q = cc
 
 pub only_want_of_memory : OneSchedule → NotBoth → NotDamaged → (status : ℕ) → Ends checking untouched untouched status → status ≡ 7
-only_want_of_memory one both law status (inl (zero, inl (name, limit, is, did))) = (let other = sym asks ∙ is in absurd cc)
-only_want_of_memory one both law status (inl (zero, inr (inl (name, is, did)))) = (let printed = did.printed in absurd cc)
-only_want_of_memory one both law status (inl (zero, inr (inr (inl (name, is, did))))) = (let other = sym asks ∙ is in absurd cc)
-only_want_of_memory one both law status (inl (zero, inr (inr (inr (file, name, password, is, did))))) = (let other = sym asks ∙ is in absurd cc)
-only_want_of_memory one both law status (inr (inl (e, is, comes))) = is ∙ ap status_of (only_memory checking untouched untouched comes.0 (Some []) calm e one both law (omega arith) comes.1 sound)
+only_want_of_memory one both law status (inl (zero, (asked, is, did))) =
+    absurd (unprinted (subst (λ (a : Asked). DidAs a untouched untouched) (asks_one (asked_of checking) asked (Check (codes "a")) is asks) did))
+only_want_of_memory one both law status (inr (inl (e, is, comes))) =
+    is ∙ ap status_of (only_memory checking untouched (told untouched comes.0 comes.1) (Some []) calm e one both law comes.2 comes.3 sound)
 only_want_of_memory one both law status (inr (inr (inl six))) = absurd (omega (arith, six.1))
 only_want_of_memory one both law status (inr (inr (inr seven))) = seven

@@ -1,6 +1,6 @@
 -- Where a command meets no cause, it ends well or for want of memory.
-use Rattle.std.proofs.Common.{◌≡◌, ℕ, ◌≤◌, ◌<◌, List, length, Option, None, Some, refl, sym, ap, subst, arith, inl, inr}
-use Rattle.std.specs.Prelude.{IfSome}
+use Rattle.std.proofs.Common.{◌≡◌, ◌∙◌, ℕ, ◌≤◌, ◌<◌, List, length, Option, None, Some, refl, sym, ap, subst, arith, inl, inr}
+use Rattle.std.specs.Prelude.{◌⊎◌, IfSome}
 use Rattle.std.specs.Option.{option_map}
 use Rattle.zbase.specs.Faults.{Counter, Rose}
 use Rattle.zio.specs.Shelves.{Entry, file_at}
@@ -12,16 +12,20 @@ use Rattle.schedule.specs.BadLines.{IsBadAt}
 use Rattle.schedule.specs.Items.{IsSchedule}
 use Rattle.zope.specs.declared.refusal.Refusal.{Refusal}
 use Rattle.fs_store.specs.Stores.{most_length}
-use Rattle.zope.specs.Causes.{Cause, NoCause, WordsCause}
+use Rattle.file_server.specs.Kept as Serving
+use Rattle.file_server.specs.Shelved.{IsThere}
+use Rattle.file_server.specs.declared.refusal.FileRefusal.{FileRefusal}
+use Rattle.zope.specs.Causes.{Cause, CauseOf, NoCause, NoCauseOf, WordsCause}
 use Rattle.zope.specs.MakeCauses.{LegibleCause, MakeCause, NewCause, NoMakeCause}
-use Rattle.words.specs.Asking.{Asked, Check, Dump, Init, Replay, asked_of}
-use Rattle.zope.specs.Outside.{DiskFailed, OutsideView, SinkFailed, SourceFailed, outside}
+use Rattle.words.specs.Asking.{Asked, Check, Dump, Init, Replay, Serve, asked_of}
+use Rattle.zope.specs.Outside.{DiskFailed, HubFailed, OutsideView, ShelfFailed, SinkFailed, SourceFailed, told}
+use Rattle.zope.specs.ServeCauses.{NoServeCause, of_served}
 use Rattle.zope.specs.CheckCauses.{CheckCause, PrintCause, ScanCause}
 use Rattle.zope.specs.DumpCauses.{DumpCause}
 use Rattle.zope.specs.Given.{IfKept, IsSound, most_file, most_input}
 use Rattle.zope.specs.ReplayCauses.{Broke, FileCause, InputCause, NoReplayCause, ReplayCause, RunCause}
 use Rattle.zope.specs.Shelved.{HasFile, IsLength, IsMissing, IsPresent}
-use Rattle.zope.specs.Words.{IsCheckOf, IsCommand, IsDumpOf, IsInitOf, IsReplayWith}
+use Rattle.zope.specs.Words.{IsCommand}
 
 abbrev pub OneSchedule : Type 0
 OneSchedule = (text : List ℕ) (a b : List Item2) → IsSchedule text a → IsSchedule text b → a ≡ b
@@ -216,91 +220,56 @@ of_words words Refusal.InputTooLarge is cause = absurd cause
 of_words words (Refusal.FileTooLarge n) is cause = absurd cause
 of_words words (Refusal.TooLong n) is cause = absurd cause
 
+-- ---- a server
+
+of_served_file : (files : Option (List Entry)) (file record_ : List ℕ) (hub sink shelf disks : Type 0) → NoServeCause file record_ files hub sink (shelf ⊎ disks) → NotDamaged → (refusal : FileRefusal) → Serving.FileCause file record_ files hub shelf disks refusal → of_served refusal ≡ Refusal.Memory
+of_served_file files file record_ hub sink shelf disks meets law FileRefusal.Memory cause = refl
+of_served_file files file record_ hub sink shelf disks meets law FileRefusal.Missing cause = absurd (not_none (file_at meets.entries file) meets.bytes meets.there (subst (λ f. IfSome f (λ all. file_at all file ≡ None)) meets.shelf cause))
+of_served_file files file record_ hub sink shelf disks meets law FileRefusal.Exists cause = absurd ((subst (λ f. IfSome f (λ all. IsThere all file × IsThere all record_)) meets.shelf cause).1 meets.absent)
+of_served_file files file record_ hub sink shelf disks meets law (FileRefusal.TooLong n) cause =
+    let long = subst (λ f. IfSome f (λ all. (file_at all record_ ≡ None) × (option_map length (file_at all file) ≡ Some n))) meets.shelf cause.1 in
+    let same : length meets.bytes ≡ n = same_bytes (option_map length (file_at meets.entries file)) (length meets.bytes) n (ap (option_map length) meets.there) long.1 in
+    absurd (omega (arith, cause.0, same, meets.fits))
+of_served_file files file record_ hub sink shelf disks meets law (FileRefusal.Damaged kind place) cause =
+    let kept = subst (λ f. IfSome f (λ all. (file_at all record_ ≡ None) × (bytes : List ℕ) × (file_at all file ≡ Some bytes) × (length bytes ≤ most_length) × Damaged bytes place kind)) meets.shelf cause in
+    absurd (law meets.bytes meets.front meets.end place kind meets.opens (subst (λ (b : List ℕ). Damaged b place kind) (sym (same_bytes (file_at meets.entries file) meets.bytes kept.1 meets.there kept.2)) kept.4))
+of_served_file files file record_ hub sink shelf disks meets law FileRefusal.Disk cause = absurd (elim cause.1 [ inl failed ↦ meets.disk_calm (inl failed) | inr unsound ↦ meets.disk_calm (inr unsound.0) ])
+of_served_file files file record_ hub sink shelf disks meets law FileRefusal.Hub cause = absurd (meets.hub_calm cause.0)
+
 -- ---- words ask for one thing
 
 asks_one : (o : Option Asked) (a b : Asked) → o ≡ Some a → o ≡ Some b → a ≡ b
 asks_one o a b p q = cc
 
--- what is asked for, as a number
-abbrev kind : Asked → ℕ
-kind (Init file name password) = 0
-kind (Replay file limit) = 1
-kind (Check file) = 2
-kind (Dump file) = 3
-
-one_kind : (o : Option Asked) (a b : Asked) → o ≡ Some a → o ≡ Some b → kind a ≡ kind b
-one_kind o a b p q = ap kind (asks_one o a b p q)
-
-same_replay : (a b : List ℕ) (k l : ℕ) → Replay a k ≡ Replay b l → (a ≡ b) × (k ≡ l)
-same_replay a b k l e = (cc, cc)
-
-same_check : (a b : List ℕ) → Check a ≡ Check b → a ≡ b
-same_check a b e = cc
-
-same_dump : (a b : List ℕ) → Dump a ≡ Dump b → a ≡ b
-same_dump a b e = cc
-
-same_init : (a b c d e f : List ℕ) → Init a b c ≡ Init d e f → (a ≡ d) × (b ≡ e) × (c ≡ f)
-same_init a b c d e f is = (cc, cc, cc)
-
-is_command : (words : List (List ℕ)) (old new : OutsideView) → NoCause words old new → IsCommand words
-is_command words old new (inl meets) = (meets.0, inl (meets.1, meets.2))
-is_command words old new (inr (inl (name, inl checks, sound))) = (name, inr (inl checks))
-is_command words old new (inr (inl (name, inr dumps, sound))) = (name, inr (inr (inl dumps)))
-is_command words old new (inr (inr (file, name, password, is, meets))) = (file, inr (inr (inr (name, password, is))))
-
--- a moment after which a last line was written
-abbrev pub told : OutsideView → Option (List ℕ) → Counter → OutsideView
-told at written sink = outside at.files at.sound_disks at.shelf at.input at.source written sink at.ticks at.clock
-
 rose_after : (a b c : Counter) → b.count ≤ c.count → Rose a b → Rose a c
 rose_after a b c le rose = omega (arith, rose)
 
--- a replay was refused, a check, a dump, or the making of a site: no cause of its own is left
-module _ (words : List (List ℕ)) (old mid : OutsideView) (written line : Option (List ℕ)) (sink : Counter) (e : Refusal) (one : OneSchedule) (both : NotBoth) (law : NotDamaged) (later : mid.sink.count ≤ sink.count) where
-  replay_left : (name : List ℕ) (limit : ℕ) → IsReplayWith words name limit → ReplayCause name limit old.files old.input (SourceFailed old mid) (SinkFailed old mid) (DiskFailed old mid) old.written written e → NoCause words old (told mid line sink) → e ≡ Refusal.Memory
-  replay_left name limit is cause (inl (other, most, asks, meets)) =
-      let same = same_replay name other limit most (asks_one (asked_of words) (Replay name limit) (Replay other most) is asks) in
-      let Of : List ℕ → ℕ → Type 0 = λ n l. ReplayCause n l old.files old.input (SourceFailed old mid) (SinkFailed old mid) (DiskFailed old mid) old.written written e in
-      replay_memory other most old.files old.input (SourceFailed old mid) (SinkFailed old mid) (Rose old.sink sink) (DiskFailed old mid) old.written written e one both law (rose_after old.sink mid.sink sink later) (subst (Of other) same.1 (subst (λ (n : List ℕ). Of n limit) same.0 cause)) meets
-  replay_left name limit is cause (inr (inl (other, inl checks, meets))) = absurd (omega (arith, one_kind (asked_of words) (Replay name limit) (Check other) is checks))
-  replay_left name limit is cause (inr (inl (other, inr dumps, meets))) = absurd (omega (arith, one_kind (asked_of words) (Replay name limit) (Dump other) is dumps))
-  replay_left name limit is cause (inr (inr (file, other, password, asks, meets))) = absurd (omega (arith, one_kind (asked_of words) (Replay name limit) (Init file other password) is asks))
+-- a command was refused that meets no cause
+of_command : (asked : Asked) (old mid : OutsideView) (line : Option (List ℕ)) (sink : Counter) (e : Refusal) → OneSchedule → NotBoth → NotDamaged → mid.sink.count ≤ sink.count → CauseOf asked old mid e → NoCauseOf asked old (told mid line sink) → e ≡ Refusal.Memory
+of_command (Init file name password) old mid line sink e one both law later cause meets =
+    make_memory file name password old.files (SinkFailed old mid) (Rose old.sink sink) (DiskFailed old mid) old.written mid.written e (rose_after old.sink mid.sink sink later) cause meets
+of_command (Replay file limit) old mid line sink e one both law later cause meets =
+    replay_memory file limit old.files old.input (SourceFailed old mid) (SinkFailed old mid) (Rose old.sink sink) (DiskFailed old mid) old.written mid.written e one both law (rose_after old.sink mid.sink sink later) cause meets
+of_command (Serve file port connections clients record_) old mid line sink e one both law later (inl c) meets =
+    c.0.is ∙ of_served_file old.files file record_ (HubFailed old mid) (Rose old.sink sink) (ShelfFailed old mid) (old.sound_disks → ⊥) meets law c.0.refusal c.0.cause
+of_command (Serve file port connections clients record_) old mid line sink e one both law later (inr c) meets =
+    of_print (SinkFailed old mid) _ old.written mid.written (λ rose. meets.sink_calm (rose_after old.sink mid.sink sink later rose)) e c.printed
+of_command (Check file) old mid line sink e one both law later cause meets =
+    check_memory file old.files (SinkFailed old mid) (Rose old.sink sink) (DiskFailed old mid) old.written mid.written e law (rose_after old.sink mid.sink sink later) cause meets
+of_command (Dump file) old mid line sink e one both law later cause meets =
+    dump_memory file old.files (SinkFailed old mid) (Rose old.sink sink) (DiskFailed old mid) old.written mid.written e law (rose_after old.sink mid.sink sink later) cause meets
 
-  check_left : (name : List ℕ) → IsCheckOf words name → CheckCause name old.files (SinkFailed old mid) (DiskFailed old mid) old.written written e → NoCause words old (told mid line sink) → e ≡ Refusal.Memory
-  check_left name is cause (inl (other, most, asks, meets)) = absurd (omega (arith, one_kind (asked_of words) (Check name) (Replay other most) is asks))
-  check_left name is cause (inr (inl (other, inl checks, meets))) =
-      let Of : List ℕ → Type 0 = λ n. CheckCause n old.files (SinkFailed old mid) (DiskFailed old mid) old.written written e in
-      check_memory other old.files (SinkFailed old mid) (Rose old.sink sink) (DiskFailed old mid) old.written written e law (rose_after old.sink mid.sink sink later) (subst Of (same_check name other (asks_one (asked_of words) (Check name) (Check other) is checks)) cause) meets
-  check_left name is cause (inr (inl (other, inr dumps, meets))) = absurd (omega (arith, one_kind (asked_of words) (Check name) (Dump other) is dumps))
-  check_left name is cause (inr (inr (file, other, password, asks, meets))) = absurd (omega (arith, one_kind (asked_of words) (Check name) (Init file other password) is asks))
+pub only_memory : (words : List (List ℕ)) (old mid : OutsideView) (line : Option (List ℕ)) (sink : Counter) (e : Refusal) → OneSchedule → NotBoth → NotDamaged → mid.sink.count ≤ sink.count → Cause words old mid e → NoCause words old (told mid line sink) → e ≡ Refusal.Memory
+only_memory words old mid line sink e one both law later (inl c) meets = of_words words e (meets.0, meets.1) c.0
+only_memory words old mid line sink e one both law later (inr c) meets =
+    of_command meets.0 old mid line sink e one both law later (subst (λ (a : Asked). CauseOf a old mid e) (asks_one (asked_of words) c.0 meets.0 c.1 meets.1) c.2) meets.2
 
-  dump_left : (name : List ℕ) → IsDumpOf words name → DumpCause name old.files (SinkFailed old mid) (DiskFailed old mid) old.written written e → NoCause words old (told mid line sink) → e ≡ Refusal.Memory
-  dump_left name is cause (inl (other, most, asks, meets)) = absurd (omega (arith, one_kind (asked_of words) (Dump name) (Replay other most) is asks))
-  dump_left name is cause (inr (inl (other, inl checks, meets))) = absurd (omega (arith, one_kind (asked_of words) (Dump name) (Check other) is checks))
-  dump_left name is cause (inr (inl (other, inr dumps, meets))) =
-      let Of : List ℕ → Type 0 = λ n. DumpCause n old.files (SinkFailed old mid) (DiskFailed old mid) old.written written e in
-      dump_memory other old.files (SinkFailed old mid) (Rose old.sink sink) (DiskFailed old mid) old.written written e law (rose_after old.sink mid.sink sink later) (subst Of (same_dump name other (asks_one (asked_of words) (Dump name) (Dump other) is dumps)) cause) meets
-  dump_left name is cause (inr (inr (file, other, password, asks, meets))) = absurd (omega (arith, one_kind (asked_of words) (Dump name) (Init file other password) is asks))
-
-  make_left : (file name password : List ℕ) → IsInitOf words file name password → MakeCause file name password old.files (SinkFailed old mid) (DiskFailed old mid) old.written written e → NoCause words old (told mid line sink) → e ≡ Refusal.Memory
-  make_left file name password is cause (inl (other, most, asks, meets)) = absurd (omega (arith, one_kind (asked_of words) (Init file name password) (Replay other most) is asks))
-  make_left file name password is cause (inr (inl (other, inl checks, meets))) = absurd (omega (arith, one_kind (asked_of words) (Init file name password) (Check other) is checks))
-  make_left file name password is cause (inr (inl (other, inr dumps, meets))) = absurd (omega (arith, one_kind (asked_of words) (Init file name password) (Dump other) is dumps))
-  make_left file name password is cause (inr (inr (f, n, p, asks, meets))) =
-      let same = same_init file name password f n p (asks_one (asked_of words) (Init file name password) (Init f n p) is asks) in
-      let Of : List ℕ → List ℕ → List ℕ → Type 0 = λ x y z. MakeCause x y z old.files (SinkFailed old mid) (DiskFailed old mid) old.written written e in
-      let cause_of : Of f n p = subst (Of f n) same.2 (subst (λ (y : List ℕ). Of f y password) same.1 (subst (λ (x : List ℕ). Of x name password) same.0 cause)) in
-      make_memory f n p old.files (SinkFailed old mid) (Rose old.sink sink) (DiskFailed old mid) old.written written e (rose_after old.sink mid.sink sink later) cause_of meets
-
-pub only_memory : (words : List (List ℕ)) (old mid : OutsideView) (written line : Option (List ℕ)) (sink : Counter) (e : Refusal) → OneSchedule → NotBoth → NotDamaged → mid.sink.count ≤ sink.count → Cause words old mid written e → NoCause words old (told mid line sink) → e ≡ Refusal.Memory
-only_memory words old mid written line sink e one both law later (inl c) meets = of_words words e (is_command words old (told mid line sink) meets) c.0
-only_memory words old mid written line sink e one both law later (inr (inl c)) meets = replay_left words old mid written line sink e one both law later c.0 c.1 c.2 c.3 meets
-only_memory words old mid written line sink e one both law later (inr (inr (inl c))) meets = check_left words old mid written line sink e one both law later c.0 c.1 c.2 meets
-only_memory words old mid written line sink e one both law later (inr (inr (inr (inl c)))) meets = dump_left words old mid written line sink e one both law later c.0 c.1 c.2 meets
-only_memory words old mid written line sink e one both law later (inr (inr (inr (inr c)))) meets = make_left words old mid written line sink e one both law later c.0 c.1 c.2 c.3 c.4 meets
+calm_sink : (asked : Asked) (old new : OutsideView) → NoCauseOf asked old new → SinkFailed old new → ⊥
+calm_sink (Init file name password) old new meets = meets.sink_calm
+calm_sink (Replay file limit) old new meets = meets.sink_calm
+calm_sink (Serve file port connections clients record_) old new meets = meets.sink_calm
+calm_sink (Check file) old new meets = meets.sink_calm
+calm_sink (Dump file) old new meets = meets.sink_calm
 
 pub sink_is_calm : (words : List (List ℕ)) (old new : OutsideView) → NoCause words old new → SinkFailed old new → ⊥
-sink_is_calm words old new (inl meets) = meets.3.sink_calm
-sink_is_calm words old new (inr (inl meets)) = meets.2.sink_calm
-sink_is_calm words old new (inr (inr meets)) = meets.4.sink_calm
+sink_is_calm words old new meets = calm_sink meets.0 old new meets.2

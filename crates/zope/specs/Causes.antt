@@ -1,31 +1,43 @@
 -- What a command did, or why it did not end well, and its last line.
-use Rattle.std.specs.Prelude.{◌≡◌, ◌⊎◌, ℕ, List, [], ◌∷◌, ◌++◌, Option, codes, decimal}
+use Rattle.std.specs.Prelude.{◌≡◌, ◌⊎◌, ◌≤◌, ℕ, List, [], ◌∷◌, ◌++◌, Option, Some, codes, decimal}
 use Rattle.std.specs.Io.KnownBytes.{append_known}
+use Rattle.zbase.specs.Faults.{Counter}
 use Rattle.zio.specs.Shelves.{Entry}
 use Rattle.fs_record.specs.Damages.{kind_number}
+use Rattle.words.specs.Asking.{Asked, Check, Dump, Init, Replay, Serve, asked_of}
 use Rattle.zope.specs.declared.refusal.Refusal.{Refusal}
 use Rattle.zope.specs.CheckCauses.{CheckCause}
 use Rattle.zope.specs.DumpCauses.{DumpCause, Dumped}
 use Rattle.zope.specs.Given.{IsSound, most_input}
 use Rattle.zope.specs.MakeCauses.{LeavesNew, Made, MakeCause, NoMakeCause}
 use Rattle.zope.specs.Numbers.{NumbersPrinted}
-use Rattle.zope.specs.Outside.{DiskFailed, OutsideView, SinkFailed, SourceFailed}
+use Rattle.zope.specs.Outside.{DiskFailed, HubFailed, OutsideView, ShelfFailed, SinkFailed, SourceFailed, told}
 use Rattle.zope.specs.ReplayCauses.{NoReplayCause, ReplayCause}
 use Rattle.zope.specs.Replayed.{Replayed}
-use Rattle.zope.specs.Words.{IsCheckOf, IsCommand, IsDumpOf, IsInitOf, IsOf, IsReplayWith}
+use Rattle.zope.specs.ServeCauses.{LeavesServed, NoServeCause, ServeCause, SiteServed}
+use Rattle.zope.specs.Words.{IsCommand, IsNamed}
 
 -- what a command that ended well did
-abbrev pub Did : List (List ℕ) → OutsideView → OutsideView → Type 0
-Did words old new =
-    ((name : List ℕ) × (limit : ℕ) × IsReplayWith words name limit × Replayed name limit old.files old.input old.written new.written)
-    ⊎ (((name : List ℕ) × IsCheckOf words name × NumbersPrinted name old.files old.written new.written)
-    ⊎ (((name : List ℕ) × IsDumpOf words name × Dumped name old.files old.written new.written)
-    ⊎ ((file : List ℕ) × (name : List ℕ) × (password : List ℕ) × IsInitOf words file name password × Made file name password old.files new.files old.ticks old.clock new.clock old.written new.written)))
+abbrev pub DidAs : Asked → OutsideView → OutsideView → Type 0
+DidAs (Init file name password) old new = Made file name password old.files new.files old.ticks old.clock new.clock old.written new.written
+DidAs (Replay file limit) old new = Replayed file limit old.files old.input old.written new.written
+DidAs (Serve file port connections clients record_) old new =
+    SiteServed old.sound_disks file record_ port connections clients old.files new.files old.ticks old.clock new.ticks new.clock old.peers new.peers old.written new.written
+DidAs (Check file) old new = NumbersPrinted file old.files old.written new.written
+DidAs (Dump file) old new = Dumped file old.files old.written new.written
 
--- What a run leaves in the files, however it ends, where the shelf tells: each that was there, as it was, and nothing else,
--- but for the file that the words ask a new site in.
+abbrev pub Did : List (List ℕ) → OutsideView → OutsideView → Type 0
+Did words old new = (asked : Asked) × (asked_of words ≡ Some asked) × DidAs asked old new
+
+-- What a command leaves in the files, however it ends, where the shelf tells: each that was there, as it was, and nothing else, but for
+-- the new site that was asked for, or the site that was served and its record.
+abbrev pub LeavesBy : Asked → Option (List Entry) → Option (List Entry) → Type 0
+LeavesBy (Init file name password) old new = LeavesNew file name password old new
+LeavesBy (Serve file port connections clients record_) old new = LeavesServed file record_ old new
+LeavesBy _ old new = new ≡ old
+
 abbrev pub LeavesFiles : List (List ℕ) → Option (List Entry) → Option (List Entry) → Type 0
-LeavesFiles words old new = (new ≡ old) ⊎ ((file : List ℕ) × (name : List ℕ) × (password : List ℕ) × IsInitOf words file name password × LeavesNew file name password old new)
+LeavesFiles words old new = (new ≡ old) ⊎ ((asked : Asked) × (asked_of words ≡ Some asked) × LeavesBy asked old new)
 
 -- what the words are refused for
 abbrev pub WordsCause : List (List ℕ) → Refusal → Type 0
@@ -33,14 +45,18 @@ WordsCause words Refusal.Usage = IsCommand words → ⊥
 WordsCause words Refusal.Memory = Unit {0}
 WordsCause words _ = ⊥
 
--- the cause of a refusal, which the last line doesn't name yet: of the words, or of the command that they name
-abbrev pub Cause : List (List ℕ) → OutsideView → OutsideView → Option (List ℕ) → Refusal → Type 0
-Cause words old new written e =
-    (WordsCause words e × (written ≡ old.written))
-    ⊎ (((name : List ℕ) × (limit : ℕ) × IsReplayWith words name limit × ReplayCause name limit old.files old.input (SourceFailed old new) (SinkFailed old new) (DiskFailed old new) old.written written e)
-    ⊎ (((name : List ℕ) × IsCheckOf words name × CheckCause name old.files (SinkFailed old new) (DiskFailed old new) old.written written e)
-    ⊎ (((name : List ℕ) × IsDumpOf words name × DumpCause name old.files (SinkFailed old new) (DiskFailed old new) old.written written e)
-    ⊎ ((file : List ℕ) × (name : List ℕ) × (password : List ℕ) × IsInitOf words file name password × MakeCause file name password old.files (SinkFailed old new) (DiskFailed old new) old.written written e))))
+-- the cause of a refusal of a command
+abbrev pub CauseOf : Asked → OutsideView → OutsideView → Refusal → Type 0
+CauseOf (Init file name password) old new e = MakeCause file name password old.files (SinkFailed old new) (DiskFailed old new) old.written new.written e
+CauseOf (Replay file limit) old new e = ReplayCause file limit old.files old.input (SourceFailed old new) (SinkFailed old new) (DiskFailed old new) old.written new.written e
+CauseOf (Serve file port connections clients record_) old new e =
+    ServeCause old.sound_disks file record_ port connections clients old.files new.files old.ticks old.clock new.ticks new.clock old.peers new.peers (HubFailed old new) (SinkFailed old new) (ShelfFailed old new) old.written new.written e
+CauseOf (Check file) old new e = CheckCause file old.files (SinkFailed old new) (DiskFailed old new) old.written new.written e
+CauseOf (Dump file) old new e = DumpCause file old.files (SinkFailed old new) (DiskFailed old new) old.written new.written e
+
+-- the cause of a refusal, at the moment before the last line: of the words, or of what they ask for
+abbrev pub Cause : List (List ℕ) → OutsideView → OutsideView → Refusal → Type 0
+Cause words old new e = (WordsCause words e × (new.written ≡ old.written)) ⊎ ((asked : Asked) × (asked_of words ≡ Some asked) × CauseOf asked old new e)
 
 -- the last line, which names the cause
 abbrev pub last_line : List ℕ → Refusal → List ℕ
@@ -58,17 +74,21 @@ last_line name Refusal.InputTooLarge = codes "too large " ++ decimal most_input 
 last_line name (Refusal.FileTooLarge n) = codes "too large " ++ decimal n ++ 10 ∷ []
 last_line name (Refusal.TooLong n) = codes "too long " ++ decimal n ++ 10 ∷ []
 
--- the last line was written; only `missing` and `exists` name the file
+-- the last line was written; only `missing` and `exists` name a file
 abbrev pub Names : List (List ℕ) → Refusal → Option (List ℕ) → Option (List ℕ) → Type 0
-Names words e mid new = (name : List ℕ) × (IsOf words name ⊎ (IsCommand words → ⊥)) × (new ≡ append_known mid (last_line name e))
+Names words e mid new = (name : List ℕ) × (IsNamed words e name ⊎ (IsCommand words → ⊥)) × (new ≡ append_known mid (last_line name e))
 
--- the refusal has its cause, and was named in the last line
+-- the refusal has its cause, at the moment before the last line, and was named in that line
 abbrev pub Comes : List (List ℕ) → OutsideView → OutsideView → Refusal → Type 0
-Comes words old new e = (written : Option (List ℕ)) × Cause words old new written e × Names words e written new.written
+Comes words old new e = (written : Option (List ℕ)) × (sink : Counter) × (sink.count ≤ new.sink.count) × Cause words old (told new written sink) e × Names words e written new.written
 
 -- nothing that the command looks at is a cause, and no count rose
+abbrev pub NoCauseOf : Asked → OutsideView → OutsideView → Type 0
+NoCauseOf (Init file name password) old new = NoMakeCause file name password old.files (SinkFailed old new) (DiskFailed old new)
+NoCauseOf (Replay file limit) old new = NoReplayCause file limit old.files old.input (SourceFailed old new) (SinkFailed old new) (DiskFailed old new)
+NoCauseOf (Serve file port connections clients record_) old new = NoServeCause file record_ old.files (HubFailed old new) (SinkFailed old new) (DiskFailed old new)
+NoCauseOf (Check file) old new = IsSound file old.files (SinkFailed old new) (DiskFailed old new)
+NoCauseOf (Dump file) old new = IsSound file old.files (SinkFailed old new) (DiskFailed old new)
+
 abbrev pub NoCause : List (List ℕ) → OutsideView → OutsideView → Type 0
-NoCause words old new =
-    ((name : List ℕ) × (limit : ℕ) × IsReplayWith words name limit × NoReplayCause name limit old.files old.input (SourceFailed old new) (SinkFailed old new) (DiskFailed old new))
-    ⊎ (((name : List ℕ) × (IsCheckOf words name ⊎ IsDumpOf words name) × IsSound name old.files (SinkFailed old new) (DiskFailed old new))
-    ⊎ ((file : List ℕ) × (name : List ℕ) × (password : List ℕ) × IsInitOf words file name password × NoMakeCause file name password old.files (SinkFailed old new) (DiskFailed old new)))
+NoCause words old new = (asked : Asked) × (asked_of words ≡ Some asked) × NoCauseOf asked old new

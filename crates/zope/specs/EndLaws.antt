@@ -3,14 +3,11 @@ use Rattle.std.proofs.Common.{◌≡◌, ◌⊎◌, ◌≤◌, ℕ, List, Option
 use Rattle.zope.specs.declared.refusal.Refusal.{Refusal}
 use Rattle.zope.specs.Causes.{Cause, Did, WordsCause}
 use Rattle.zope.specs.Ends.{Ends, IsStatus, status_of}
-use Rattle.zope.specs.Outside.{OutsideView}
+use Rattle.zope.specs.Outside.{OutsideView, told}
 use Rattle.zope.specs.Words.{IsCommand}
 
 is_command : (words : List (List ℕ)) (old new : OutsideView) → Did words old new → IsCommand words
-is_command words old new (inl did) = (did.0, inl (did.1, did.2))
-is_command words old new (inr (inl did)) = (did.0, inr (inl did.1))
-is_command words old new (inr (inr (inl did))) = (did.0, inr (inr (inl did.1)))
-is_command words old new (inr (inr (inr did))) = (did.0, inr (inr (inr (did.1, did.2, did.3))))
+is_command words old new did = (did.0, did.1)
 
 of_words : (words : List (List ℕ)) (e : Refusal) → WordsCause words e → (e ≡ Refusal.Usage) ⊎ (e ≡ Refusal.Memory)
 of_words words Refusal.Usage cause = inl refl
@@ -28,18 +25,15 @@ of_words words (Refusal.FileTooLarge n) cause = absurd cause
 of_words words (Refusal.TooLong n) cause = absurd cause
 
 -- words that name no command are refused for that alone, but for want of memory
-only_usage : (words : List (List ℕ)) (old new : OutsideView) (written : Option (List ℕ)) (e : Refusal) → Cause words old new written e → (IsCommand words → ⊥) → (e ≡ Refusal.Usage) ⊎ (e ≡ Refusal.Memory)
-only_usage words old new written e (inl usage) other = of_words words e usage.0
-only_usage words old new written e (inr (inl c)) other = absurd (other (c.0, inl (c.1, c.2)))
-only_usage words old new written e (inr (inr (inl c))) other = absurd (other (c.0, inr (inl c.1)))
-only_usage words old new written e (inr (inr (inr (inl c)))) other = absurd (other (c.0, inr (inr (inl c.1))))
-only_usage words old new written e (inr (inr (inr (inr c)))) other = absurd (other (c.0, inr (inr (inr (c.1, c.2, c.3)))))
+only_usage : (words : List (List ℕ)) (old new : OutsideView) (e : Refusal) → Cause words old new e → (IsCommand words → ⊥) → (e ≡ Refusal.Usage) ⊎ (e ≡ Refusal.Memory)
+only_usage words old new e (inl usage) other = of_words words e usage.0
+only_usage words old new e (inr c) other = absurd (other (c.0, c.1))
 
 -- where the words are none of the program's, the status says so, but for a fault of the sink and want of memory
 pub used : (words : List (List ℕ)) (old new : OutsideView) (status : ℕ) → Ends words old new status → (IsCommand words → ⊥) → (status ≡ 2) ⊎ (status ≡ 6) ⊎ (status ≡ 7)
 used words old new status (inl did) other = absurd (other (is_command words old new did.1))
 used words old new status (inr (inl (e, is, comes))) other =
-    elim (only_usage words old new comes.0 e comes.1 other) [
+    elim (only_usage words old (told new comes.0 comes.1) e comes.3 other) [
       | inl usage ↦ inl (is ∙ ap status_of usage)
       | inr memory ↦ inr (inr (is ∙ ap status_of memory))
     ]

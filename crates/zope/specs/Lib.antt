@@ -8,6 +8,7 @@ pub mod CheckCauses
 pub mod DumpCauses
 pub mod MakeCauses
 pub mod Outside
+pub mod ServeCauses
 pub mod Causes
 pub mod Ends
 pub mod Worked

@@ -3,6 +3,7 @@ ghost use Rattle.zbase.specs.History.{History};
 ghost use Rattle.http_in.specs.Messages.{one_message};
 ghost use Rattle.schedule.specs.declared.item.Item2.{Item2};
 ghost use Rattle.schedule.specs.declared.line.Line.{Line};
+ghost use Rattle.schedule.specs.Counted.{ExplainedByCount};
 ghost use Rattle.schedule.specs.Explained.{Explained};
 ghost use Rattle.publisher.specs.Site.{site};
 ghost use Rattle.replay.specs.Printed.{terms_of};
@@ -35,6 +36,19 @@ pub fn replays_keep_access()
         (it : Explained (terms_of one_message site limit end) h items report) → AllShowRightly it.end.standing it.trace }
     ensures changed { (limit end : ℕ) (h : History) (items : List Item2) (report : List Line)
         (it : Explained (terms_of one_message site limit end) h items report) → AllGrowRightly it.end.standing it.trace }
+{
+    pages_show_rightly();
+    changes_are_granted();
+}
+
+/// The same of the report of what a server did, whose lines of faults its disk's count licenses. What such a report shows to a
+/// user hangs on no contents that he may not view (`publisher`'s `contents_stay_apart`), since each reading reply in it is that
+/// of an evaluation over a part of its history.
+pub fn servers_keep_access()
+    ensures shown { (limit end old new : ℕ) (h : History) (items : List Item2) (report : List Line)
+        (it : ExplainedByCount (terms_of one_message site limit end) old new h items report) → AllShowRightly it.end.standing it.trace }
+    ensures changed { (limit end old new : ℕ) (h : History) (items : List Item2) (report : List Line)
+        (it : ExplainedByCount (terms_of one_message site limit end) old new h items report) → AllGrowRightly it.end.standing it.trace }
 {
     pages_show_rightly();
     changes_are_granted();

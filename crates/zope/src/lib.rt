@@ -10,7 +10,8 @@ mod laws;
 mod making;
 mod refusal;
 mod replaying;
+mod serving;
 mod top;
 
-pub use laws::{giving_up_is_refuted, replays_keep_access};
+pub use laws::{giving_up_is_refuted, replays_keep_access, servers_keep_access};
 pub use top::{Status, run};

@@ -3,10 +3,12 @@ ghost use Rattle.zope.specs.CheckCauses.{of_scan};
 ghost use Rattle.zope.specs.DumpCauses.{of_dump};
 ghost use Rattle.zope.specs.MakeCauses.{of_make};
 ghost use Rattle.zope.specs.ReplayCauses.{of_file, of_input, of_run, of_schedule};
+ghost use Rattle.zope.specs.ServeCauses.{of_served};
 ghost use Rattle.zope.specs.declared.refusal.FileRefusal.TheVariants.{Memory as FileMemory};
 ghost use Rattle.zope.specs.declared.refusal.InputRefusal.TheVariants.{Memory as InputMemory};
 ghost use Rattle.zope.specs.declared.refusal.Refusal.TheVariants.{Memory as RefusedMemory};
 
+use file_server::FileRefusal as ServedRefusal;
 use fs_record::Damage;
 use fs_scan::ScanRefusal;
 use new_site::MakeRefusal;
@@ -28,7 +30,7 @@ pub enum Refusal {
     BadLine(u64),
     /// The shelf or a disk failed.
     Disk,
-    /// The source failed.
+    /// The source failed, or the hub failed to listen or to accept a connection.
     Input,
     /// The sink failed.
     Output,
@@ -155,6 +157,22 @@ impl From<RunRefusal> for Refusal {
             RunRefusal::BadLine(line) => Refusal::BadLine(line),
             RunRefusal::Output => Refusal::Output,
             RunRefusal::Memory => Refusal::Memory,
+        }
+    }
+}
+
+impl From<ServedRefusal> for Refusal {
+    ghost from_gives = { λ refusal e. e ≡ of_served refusal };
+
+    fn from(refusal: ServedRefusal) -> Refusal {
+        match refusal {
+            ServedRefusal::Missing => Refusal::Missing,
+            ServedRefusal::Exists => Refusal::Exists,
+            ServedRefusal::TooLong(size) => Refusal::TooLong(size),
+            ServedRefusal::Damaged(kind, place) => Refusal::Damaged(kind, place),
+            ServedRefusal::Disk => Refusal::Disk,
+            ServedRefusal::Hub => Refusal::Input,
+            ServedRefusal::Memory => Refusal::Memory,
         }
     }
 }

@@ -4,9 +4,9 @@ ghost use Rattle.zbase.specs.Faults.{Rose};
 ghost use Rattle.zope.specs.Causes.{LeavesFiles, NoCause, last_line};
 ghost use Rattle.zope.specs.Ends.{Ends, IsStatus, status_of};
 ghost use Rattle.zope.specs.Outside.{outside};
-ghost use Rattle.zope.specs.Words.{IsCommand, IsInit, IsReplay};
+ghost use Rattle.zope.specs.Words.{IsCommand, IsInit, IsReplay, IsServe};
 
-use crate::command::{file_of, run_command};
+use crate::command::{names_of, run_command};
 use crate::last_lines::put_last_line;
 use crate::refusal::Refusal;
 use fs_record::one_opening;
@@ -71,29 +71,37 @@ pub fn run<F: Shelf, S: Source, K: Sink, H: Hub, C: Clock>(
     files: &mut F,
     input: &mut S,
     out: &mut K,
-    _hub: &mut H,
+    hub: &mut H,
     clock: &mut C,
 ) -> Status
-    // With 0 the words' command did what it says: a replay wrote a report that explains the schedule, a check the file's
-    // numbers, a dump its history, a new site its file. Each other status is that of a refusal with its cause, which the last line names.
+where
+    F::D: Drop,
+    // With 0 the words' command did what it says: a replay wrote a report that explains the schedule, a server gave each connection
+    // the reply of the report that its tape's items have, a check wrote the file's numbers, a dump its history, a new site its file.
+    // Each other status is that of a refusal with its cause, which the last line names.
     ensures ends { let old = outside (F.files files.old) (F.sound_disks files.old) (F.counter files.old)
-        (S.left input.old) (S.counter input.old) (K.written out.old) (K.counter out.old) (C.ticks clock.old) (C.counter clock.old) in
+        (S.left input.old) (S.counter input.old) (K.written out.old) (K.counter out.old)
+        (H.peers hub.old) (H.listening hub.old) (C.ticks clock.old) (C.counter clock.old) in
         let new = outside (F.files files.new) (F.sound_disks files.new) (F.counter files.new)
-        (S.left input.new) (S.counter input.new) (K.written out.new) (K.counter out.new) (C.ticks clock.new) (C.counter clock.new) in
+        (S.left input.new) (S.counter input.new) (K.written out.new) (K.counter out.new)
+        (H.peers hub.new) (H.listening hub.new) (C.ticks clock.new) (C.counter clock.new) in
         Ends (map string_bytes words.now) old new result.0 }
     // 6 comes whenever the sink failed, also in a last line.
     ensures sink_failed { (K.counter out.old).count < (K.counter out.new).count → result.0 ≡ 6 }
     // Where there is no cause, the run ends well, or for want of memory.
     ensures complete { let old = outside (F.files files.old) (F.sound_disks files.old) (F.counter files.old)
-        (S.left input.old) (S.counter input.old) (K.written out.old) (K.counter out.old) (C.ticks clock.old) (C.counter clock.old) in
+        (S.left input.old) (S.counter input.old) (K.written out.old) (K.counter out.old)
+        (H.peers hub.old) (H.listening hub.old) (C.ticks clock.old) (C.counter clock.old) in
         let new = outside (F.files files.new) (F.sound_disks files.new) (F.counter files.new)
-        (S.left input.new) (S.counter input.new) (K.written out.new) (K.counter out.new) (C.ticks clock.new) (C.counter clock.new) in
+        (S.left input.new) (S.counter input.new) (K.written out.new) (K.counter out.new)
+        (H.peers hub.new) (H.listening hub.new) (C.ticks clock.new) (C.counter clock.new) in
         NoCause (map string_bytes words.now) old new → (result.0 ≡ 0) ⊎ (result.0 ≡ 7) }
-    // Whatever the status, each file that was there stays as it was, and the only new one is that of a new site, or what there
-    // is of it where its making broke off.
+    // Whatever the status, each file that was there stays as it was, but for the site that is served, and the only new one is that of
+    // a new site, or what there is of it where its making broke off, or a server's record.
     ensures files { LeavesFiles (map string_bytes words.now) (F.files files.old) (F.files files.new) }
-    // No command of today asks a hub, only a replay reads its input, and only a new site asks the clock.
-    ensures alone { (_hub.new ≡ _hub.old) × (((file : List ℕ) → IsInit (map string_bytes words.now) file → ⊥) → clock.new ≡ clock.old)
+    // Only a server asks the hub, only a replay reads its input, and only a new site and a server ask the clock.
+    ensures alone { ((IsServe (map string_bytes words.now) → ⊥) → hub.new ≡ hub.old)
+        × ((IsInit (map string_bytes words.now) → ⊥) → (IsServe (map string_bytes words.now) → ⊥) → clock.new ≡ clock.old)
         × ((IsReplay (map string_bytes words.now) → ⊥) → input.new ≡ input.old) }
 {
     one_schedule();
@@ -101,10 +109,10 @@ pub fn run<F: Shelf, S: Source, K: Sink, H: Hub, C: Clock>(
     one_opening();
     match read_words(alloc, words) {
         Ok(asked) => {
-            let name = file_of(&asked);
-            match run_command(alloc, asked, files, input, out, clock) {
+            let names = names_of(&asked);
+            match run_command(alloc, asked, files, input, out, hub, clock) {
                 Ok(()) => Status(0),
-                Err(refusal) => refuse(alloc, refusal, name, out),
+                Err(refusal) => refuse(alloc, refusal, names.of(refusal), out),
             }
         }
         Err(WordsRefusal::Usage) => refuse(alloc, Refusal::Usage, "", out),

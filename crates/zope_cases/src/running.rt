@@ -1,4 +1,6 @@
-ghost use Rattle.std.specs.Prelude.{◌<◌, IfOk};
+ghost use Rattle.std.specs.Prelude.{◌<◌, IfOk, IsTrue};
+ghost use Rattle.std.specs.List.{list_all};
+ghost use Rattle.zio.specs.Clocks.{is_tick};
 
 use cases::{Case, CasesRefusal, Part, Runner, add_bytes, add_number};
 use std::alloc::Global;
@@ -6,10 +8,11 @@ use zbase::{Bytes, FaultPlan, Text};
 use zio::{MemoryClock, MemoryFile, MemoryHub, MemoryShelf, MemorySink, MemorySource};
 use zope::{Status, run};
 
-/// The program: `words`, each `file NAME` with its bytes, `input`, `clock SECONDS NANOSECONDS` since 1970 (else its first
-/// moment), and `failing KIND NUMBER`, where a kind is `opening` (also of a new file), `disk` and `new` (the disks of files
-/// that are there, and of new ones; one number each at most), `input`, `output` or `clock`; `status NUMBER`, `output` and
-/// `left NAME` with what stands in each file come of it.
+/// The program: `words`, each `file NAME` with its bytes, `input`, `connection` with the bytes of one that comes to the hub, `clock
+/// SECONDS NANOSECONDS` since 1970, one for each question (behind the last one the first moment), and `failing KIND NUMBER`, where a
+/// kind is `opening` (also of a new file), `disk` and `new` (the disks of files that are there, and of new ones; one number each at
+/// most), `input`, `output`, `hub` or `clock`; `status NUMBER`, `output`, `left NAME` with what stands in each file, and `written`
+/// with what was written on each connection that was accepted come of it.
 #[derive(Drop)]
 pub struct Program;
 
@@ -63,28 +66,49 @@ fn moment_of(part: &Part) -> Result<(i64, u32), CasesRefusal>
     Ok((seconds, nanos as u32))
 }
 
+// The moments that the case's clock tells.
+fn moments_of(alloc: Global, case: &Case) -> Result<Vec<(i64, u32)>, CasesRefusal>
+    ensures { IfOk result (λ moments. IsTrue (list_all is_tick moments.items)) }
+{
+    let mut moments = Vec::new(alloc);
+    for part in &case.parts {
+        if part.key() == "clock" {
+            moments.push(moment_of(part)?)?;
+        }
+    }
+    Ok(moments)
+}
+
 // The case's clock.
 fn clock_of(alloc: Global, case: &Case) -> Result<MemoryClock, CasesRefusal> {
     let plan = FaultPlan::new(case.failing(alloc, "clock")?);
-    let mut ticks = Vec::new(alloc);
-    if let Some(part) = case.part("clock") {
-        ticks.push(moment_of(part)?)?;
-    }
-    Ok(MemoryClock::new(ticks, plan))
+    Ok(MemoryClock::new(moments_of(alloc, case)?, plan))
 }
 
-// The status and the output of the program with these words over these files.
+// The hub to which the case's connections come.
+fn hub_of(alloc: Global, case: &Case) -> Result<MemoryHub, CasesRefusal> {
+    let plan = FaultPlan::new(case.failing(alloc, "hub")?);
+    let mut coming = Vec::new(alloc);
+    for part in &case.parts {
+        if part.key() == "connection" {
+            coming.push(part.bytes.copy()?)?;
+        }
+    }
+    Ok(MemoryHub::new(alloc, coming, plan))
+}
+
+// The status, the output and the connections of the program with these words over these files.
 fn ran(
     alloc: Global,
     case: &Case,
     words: &[String],
     shelf: &mut MemoryShelf,
-) -> Result<(Status, MemorySink), CasesRefusal> {
+) -> Result<(Status, MemorySink, MemoryHub), CasesRefusal> {
     let plan = FaultPlan::new(case.failing(alloc, "input")?);
     let mut input = MemorySource::new(case.bytes(alloc, "input")?, plan);
     let mut output = MemorySink::new(alloc, FaultPlan::new(case.failing(alloc, "output")?));
     let mut clock = clock_of(alloc, case)?;
-    let mut hub = MemoryHub::new(alloc, Vec::new(alloc), FaultPlan::none(alloc));
+    let mut hub = hub_of(alloc, case)?;
     let status = run(
         alloc,
         words,
@@ -94,13 +118,29 @@ fn ran(
         &mut hub,
         &mut clock,
     );
-    Ok((status, output))
+    Ok((status, output, hub))
 }
 
 // What a run left in a file.
 fn left_of(alloc: Global, file: &MemoryFile) -> Result<Part, CasesRefusal> {
     let key = format!(in alloc; "left {}", file.name.as_str())?;
     Ok(Part::with(alloc, key.as_str(), file.bytes.copy()?)?)
+}
+
+// Adds what was written on each connection that was accepted, of so many that came.
+fn add_written(
+    alloc: Global,
+    parts: &mut Vec<Part>,
+    hub: &MemoryHub,
+    coming: usize,
+) -> Result<(), CasesRefusal> {
+    for number in 0..coming {
+        let Some(connection) = hub.connection(number) else {
+            break;
+        };
+        add_bytes(alloc, parts, "written", connection.written.copy()?)?;
+    }
+    Ok(())
 }
 
 // The parts that come of a run.
@@ -122,13 +162,18 @@ fn parts_of(
 
 impl Runner for Program {
     fn knows(&self, key: &str) -> bool {
-        matches!(key, "words" | "file" | "input" | "clock" | "failing")
+        matches!(
+            key,
+            "words" | "file" | "input" | "connection" | "clock" | "failing"
+        )
     }
 
     fn run(&self, alloc: Global, case: &Case) -> Result<Vec<Part>, CasesRefusal> {
         let words = case.words(alloc, "words")?;
         let mut shelf = shelf_of(alloc, case)?;
-        let (status, output) = ran(alloc, case, words.as_slice(), &mut shelf)?;
-        parts_of(alloc, status.0, &output, &shelf)
+        let (status, output, hub) = ran(alloc, case, words.as_slice(), &mut shelf)?;
+        let mut parts = parts_of(alloc, status.0, &output, &shelf)?;
+        add_written(alloc, &mut parts, &hub, case.parts.len())?;
+        Ok(parts)
     }
 }

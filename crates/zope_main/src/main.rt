@@ -1,11 +1,11 @@
-//! The program: its words, the folder that it runs in, its input and its output, handed to `run`.
+//! The program: its words, the folder that it runs in, its input, its output and the machine's sockets, handed to `run`.
 #![tactic(auto)]
 
+use net_hub::NetHub;
 use std::env;
 use std::io::ErrorKind;
 use std::process::ExitCode;
-use zbase::FaultPlan;
-use zio::{Folder, MemoryHub, OutsideRefusal, ReaderSource, Sink, SystemClock, WriterSink};
+use zio::{Folder, OutsideRefusal, ReaderSource, Sink, SystemClock, WriterSink};
 use zope::{Status, run};
 
 // The words of the command line. Words that aren't UTF-8 are none of the program's.
@@ -43,7 +43,7 @@ fn main(rt: HostRuntime) -> std::io::Result<ExitCode> {
     let mut files = Folder::new(&rt);
     let mut input = ReaderSource::new(rt.stdin());
     let mut out = WriterSink::new(rt.stdout());
-    let mut hub = MemoryHub::new(alloc, Vec::new(alloc), FaultPlan::none(alloc));
+    let mut hub = NetHub::new(alloc, &rt);
     let mut clock = SystemClock::new(&rt);
     let status = match words_of(&rt, env::args(&rt)) {
         Ok(words) => run(
@@ -57,5 +57,6 @@ fn main(rt: HostRuntime) -> std::io::Result<ExitCode> {
         ),
         Err(_) => starve(&mut out),
     };
+    hub.finish();
     Ok(ExitCode::from(status.0))
 }
