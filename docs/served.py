@@ -1,7 +1,9 @@
 #!/usr/bin/env python3
-"""Writes the cases of a server: data/rounds.cases, data/messages.cases, data/faults.cases and data/differing.cases of serve_cases.
+"""Writes the cases of a server: data/rounds.cases, data/messages.cases, data/faults.cases and data/differing.cases of serve_cases, and
+data/served.cases of zope_cases.
 
     python3 docs/served.py rounds > crates/serve_cases/data/rounds.cases
+    python3 docs/served.py served > crates/zope_cases/data/served.cases
 
 What must come is worked out by a small model of a server: what a file, a disk and a request come to is that of
 `stopped_runs.py`, and beside it stand the rules of rounds:
@@ -630,6 +632,127 @@ def disk_faults():
         yield Case(f"calls {first} and {second} of the disk fail", connections, plan, ticks=minutes(2), disk=arms)
 
 
+# ---- the command
+
+
+class Command:
+    """A server by its words: the site's file, its tape, and what is printed."""
+
+    def __init__(self, title, connections, plan, words=None, file=True, tape_there=False, opening=None, output=None, **failing):
+        self.title, self.plan, self.connections = title, plan, connections
+        self.words = words or "serve site.fs --port {} --connections {} --clients {} --record site.tape".format(*plan)
+        self.file, self.tape_there, self.opening, self.output, self.failing = file, tape_there, opening, output, failing
+        self.ticks = failing.pop("ticks", ())
+
+    def case(self, limit=2**48 - 1):
+        """The run behind the opening, whose calls of the disk count before it."""
+        disk, tape, hub = (self.failing.get(kind) for kind in ("disk", "new", "hub"))
+        calls = opening_calls()
+        return Case("", self.connections, self.plan, ticks=self.ticks, hub=(hub,) if hub else (), clock=self.failing.get("clock", ()),
+                    disk=((disk - calls, False, 0),) if disk and disk > calls else (), tape=((tape, False, 0),) if tape else (), limit=limit)
+
+    def given(self):
+        parts = [(f"words {self.words}", [])]
+        if self.file:
+            parts.append(("file site.fs", [site_text()]))
+        if self.tape_there:
+            parts.append(("file site.tape", [b"kept\n"]))
+        parts += [("clock {} {}".format(*tick), []) for tick in self.ticks]
+        if self.opening:
+            parts.append((f"failing opening {self.opening}", []))
+        if self.output:
+            parts.append((f"failing output {self.output}", []))
+        for kind in ("disk", "new", "hub"):
+            if kind in self.failing:
+                parts.append((f"failing {kind} {self.failing[kind]}", []))
+        parts += [(f"failing clock {n}", []) for n in self.failing.get("clock", ())]
+        return parts + [("connection", [message_text(held)]) for held in self.connections]
+
+    def ended(self, status, line, site=True, tape=None, written=()):
+        parts = [(f"status {status}", []), ("output", [line.encode() + b"\n"] if line else [])]
+        if site:
+            parts.append(("left site.fs", site if isinstance(site, list) else [site_text()]))
+        if tape is not None:
+            parts.append(("left site.tape", tape))
+        return self.title, self.given() + parts + [("written", [reply_text(came)] if came else []) for came in written]
+
+    def row(self):
+        if not self.file:
+            return self.ended(8, "missing site.fs", site=False)
+        if self.opening == 1:
+            return self.ended(5, "disk fault")
+        if self.tape_there:
+            return self.ended(11, "exists site.tape", tape=[b"kept\n"])
+        if self.opening == 2:
+            return self.ended(5, "disk fault")
+        disk = self.failing.get("disk")
+        if disk and disk <= opening_calls():
+            return self.ended(5, "disk fault", tape=[])
+        case = self.case()
+        server = case.server
+        tape, rest = fronted(server.tape.content, server.pieces)
+        status, line = {"refused hub": (6, "input fault"), "refused tape": (5, "disk fault")}.get(case.answer, (0, case.answer))
+        if self.output and not status:
+            status, line = 6, ""
+        return self.ended(status, line, file_text(server.core.disk.content), tape + [rest] if rest else tape, server.written)
+
+
+def opening_calls():
+    return Core(SITE, pages, 2**48 - 1).disk.calls
+
+
+def commands():
+    plan = (8080, 2, 2)
+    pair = [EDITS[0], PAGE]
+    yield Command("an edit and a page share a round, and both have their replies", pair, plan).row()
+    yield Command("the same with a tape that fails at the round", pair, plan, new=2).row()
+    yield Command("one client a round where none is said", pair, (8080, 2, 1), words="serve site.fs --port 8080 --connections 2 --record site.tape").row()
+    yield Command("a read fails behind 10 bytes, and the next connection has its reply", [PAGE[:10], PAGE], (8080, 2, 1), hub=4).row()
+    yield Command("a read fails at once, and the next connection has its reply", [EDITS[0], PAGE], (8080, 2, 1), hub=3).row()
+    yield Command("no connection is to be served", [PAGE], (0, 0, 1)).row()
+    yield Command("fewer connections come than are to be served", pair, (65535, 2**64 - 1, 16)).row()
+    yield Command("moments of a clock, of which one fails", EDITS[1:4], (80, 3, 1), ticks=minutes(3), clock=(2,)).row()
+    yield Command("words in another order, with signs of equality", pair, plan, words="serve --record=site.tape --clients=2 --connections=2 --port=8080 -- site.fs").row()
+    yield Command("the file isn't there, and no record is made", pair, plan, file=False).row()
+    yield Command("the record is there, and the file isn't touched", pair, plan, tape_there=True).row()
+    yield Command("neither is the file there nor is the record missing", pair, plan, file=False, tape_there=True).row()
+    yield Command("the record is the file itself", pair, plan, words="serve site.fs --port 1 --connections 1 --record site.fs").ended(11, "exists site.fs")
+    yield Command("the shelf fails when the file is opened", pair, plan, opening=1).row()
+    yield Command("the shelf fails when the record is made", pair, plan, opening=2).row()
+    yield Command("the output fails", pair, plan, output=1).row()
+    whole = Command("", pair, plan).case()
+    for call in range(1, opening_calls() + whole.server.core.disk.calls - whole.server.opening + 1):
+        yield Command(f"call {call} of the file's disk fails", pair, plan, disk=call).row()
+    for call in range(1, whole.server.tape.calls + 1):
+        yield Command(f"call {call} of the record's disk fails", pair, plan, new=call).row()
+    for call in range(1, whole.server.hub.calls + 1):
+        yield Command(f"call {call} of the hub fails", pair, plan, hub=call).row()
+
+
+def served_words():
+    """Words that are none of the program's; damage, and files that aren't sites' alone."""
+    good = {"--port": "8080", "--connections": "1", "--clients": "1", "--record": "site.tape"}
+
+    def words(**changes):
+        options = {**good, **{f"--{key}": value for key, value in changes.items()}}
+        return " ".join(["serve", "site.fs", *(f"{key} {value}" for key, value in options.items() if value is not None)])
+
+    wrong = [
+        words(port=None), words(connections=None), words(record=None), words(port="65536"), words(port="-1"), words(port="+80"), words(port="x"),
+        words(connections=str(2**64)), words(connections="0" * 21), words(clients="0"), words(clients="17"), words(clients="1.5"), words(limit="5"),
+        words() + " --port 80", words() + " more", "serve", "serve --port 80 --connections 1 --record site.tape",
+    ]
+    for text in wrong:
+        yield Command(f"usage: {text}", [PAGE], (8080, 1, 1), words=text).ended(2, "usage")
+    for text in (words(port="0", clients="16"), words(port="65535", connections=str(2**64 - 1)), words(port="00000000000000000080", clients="01"), words(clients=None)):
+        command = Command(f"words: {text}", [PAGE], (8080, 1, 1), words=text)
+        yield command.row()
+    for title, damage, line in (("no Data.fs", b"not a file", "damaged 9 at 0"), ("a length that differs", SITE[:-1] + b"\x01", "damaged 7 at 4")):
+        command = Command(f"a file with damage: {title}", [PAGE], (8080, 1, 1))
+        name, parts = command.ended(3, line, site=[damage], tape=[])
+        yield name, [(key, [damage]) if key == "file site.fs" else (key, value) for key, value in parts]
+
+
 def differing():
     case = Case("", [EDITS[0], PAGE], ticks=minutes(1))
     given, came = len(case.given()), case.come()
@@ -650,6 +773,8 @@ def main(what):
         put_cases("Messages that are cut, in pieces, refused, or followed by others.", table(messages()))
     elif what == "faults":
         put_cases("Calls of the hub, of the tape and of the site's disk that fail.", table([*hub_faults(), *tape_faults(), *disk_faults()]))
+    elif what == "served":
+        put_cases("A server by the command line: rows, words, what is looked at first, and each call that fails.", [*commands(), *served_words()])
     elif what == "differing":
         put_cases("What a case compares: each of these differs.", list(differing()))
     else:
