@@ -1,5 +1,5 @@
 -- By when a refusal comes.
-use Rattle.std.proofs.Common.{◌≡◌, ◌⊎◌, inl, inr, refl}
+use Rattle.std.proofs.Common.{◌⊎◌, inl, inr}
 use Rattle.fs_store.specs.declared.opening.OpenRefusal.{OpenRefusal}
 use Rattle.zio.specs.declared.refusal.ShelfRefusal.{ShelfRefusal}
 use Rattle.zserve.specs.declared.refusal.ServeRefusal.{ServeRefusal}

@@ -1,11 +1,10 @@
 -- What a server over a core did, once its core is closed.
-use Rattle.std.proofs.Common.{◌≡◌, ◌⊎◌, ◌∙◌, ◌<◌, ◌≤◌, ◌+◌, ◌++◌, ℕ, List, [], map, append-nil, Option, None, Some, Result, Ok, Err, IfErr, IfOk, IfSome, is_some, IsSome, inl, inr, refl, sym, ap, subst, arith}
+use Rattle.std.proofs.Common.{◌≡◌, ◌∙◌, ◌++◌, ℕ, List, [], map, append-nil, Option, None, Some, Result, Ok, Err, IfErr, IfOk, IfSome, is_some, IsSome, inr, refl, sym, ap, subst}
 use Rattle.zbase.specs.Faults.{Counter, Counts, IsFaultless}
-use Rattle.zbase.specs.Limits.{greatest_number}
 use Rattle.zdisk.specs.Crashes.{IsSynced}
 use Rattle.zdisk.specs.Disk.{Told, content}
 use Rattle.zio.specs.Clocks.{Tick}
-use Rattle.zio.specs.Hubs.{Connection, Peers}
+use Rattle.zio.specs.Hubs.{Peers}
 use Rattle.evaluator.specs.Exec.{Eval}
 use Rattle.http_clients.specs.Arriving.{Tells}
 use Rattle.http_clients.specs.Clients.{Client, held}

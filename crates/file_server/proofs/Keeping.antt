@@ -1,8 +1,8 @@
 -- A server of a file of a shelf: what it leaves, and its causes.
-use Rattle.std.proofs.Common.{◌≡◌, ◌⊎◌, ◌++◌, ◌∙◌, ◌<◌, ◌≤◌, ℕ, Bool, true, List, [], ◌∷◌, length, append-nil, Option, None, Some, Result, Ok, Err, IfErr, IfOk, IfSome, MatchOption, is_some, inl, inr, refl, sym, ap, subst}
-use Rattle.std.specs.Prelude.{⊤, IsErrOf}
+use Rattle.std.proofs.Common.{◌≡◌, ◌++◌, ◌∙◌, ℕ, true, List, [], ◌∷◌, append-nil, Option, None, Some, Result, Ok, Err, IfErr, IfOk, IfSome, MatchOption, is_some, inl, inr, refl, sym, ap, subst}
+use Rattle.std.specs.Prelude.{⊤}
 use Rattle.std.specs.Option.{option_map}
-use Rattle.zbase.specs.Faults.{Counter, IsFaultless}
+use Rattle.zbase.specs.Faults.{Counter}
 use Rattle.zdisk.specs.Crashes.{IsSynced}
 use Rattle.zdisk.specs.Disk.{Held, Told, content, synced}
 use Rattle.zdisk.specs.Images.{IsImage}
@@ -10,19 +10,17 @@ use Rattle.zio.specs.Clocks.{Tick}
 use Rattle.zio.specs.Hubs.{Peers}
 use Rattle.zio.specs.Shelves.{Entry, file_at}
 use Rattle.evaluator.specs.Exec.{Eval}
-use Rattle.http_clients.specs.Arriving.{Tells}
 use Rattle.schedule.specs.Items.{IsSchedule}
 use Rattle.fs_store.specs.Opened.{WhereTold}
 use Rattle.zserve.specs.Happened.{Happening, items}
-use Rattle.zserve.specs.Served.{RefusedTold}
 use Rattle.zserve.specs.Taping.{Taped}
 use Rattle.zserve.specs.declared.plan.Served.{Served}
-use Rattle.file_server.specs.Kept.{FileCause, FileRefused, FileServed, KeepsPart, KeepsRun, KeepsUnopened, LeavesRun, LosesRun, NotFinished, NotOpened, Untouched}
+use Rattle.file_server.specs.Kept.{FileRefused, FileServed, KeepsPart, KeepsRun, KeepsUnopened, LeavesRun, LosesRun, NotFinished, NotOpened, Untouched}
 use Rattle.file_server.specs.Opening.{LeavesFile, OpeningRefused}
 use Rattle.file_server.specs.Refusals.{Comes}
 use Rattle.file_server.specs.Returned.{BackRefused, BackServed, IsBack}
 use Rattle.file_server.specs.Running.{DiskRefused, DiskServed, NotRun, RunRefused, Runs}
-use Rattle.file_server.specs.Shelved.{Holds, IsThere, KeepsBeside, Lends, TakesBoth, TakesOne}
+use Rattle.file_server.specs.Shelved.{Holds, KeepsBeside, Lends, TakesBoth, TakesOne}
 use Rattle.file_server.specs.declared.refusal.FileRefusal.{FileRefusal}
 use Rattle.file_server.proofs.Coming.{comes_as, comes_last}
 use Rattle.file_server.proofs.Unopened.{IsOwn, leaves_file, leaves_history}

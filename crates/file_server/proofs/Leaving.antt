@@ -1,9 +1,9 @@
 -- What a disk holds once its store or its core is closed.
-use Rattle.std.proofs.Common.{◌≡◌, ◌⊎◌, ◌+◌, ℕ, Bool, true, false, List, Option, None, Some, IfSome, inl, inr, refl, sym, subst}
+use Rattle.std.proofs.Common.{◌≡◌, ◌+◌, ℕ, Bool, true, false, List, Option, None, Some, IfSome, inl, inr, refl, subst}
 use Rattle.zdisk.specs.Disk.{Held, Told, content}
 use Rattle.zdisk.specs.Images.{IsImage}
 use Rattle.fs_store.specs.Moments.{OpensAsKnown}
-use Rattle.fs_store.specs.Stores.{Out, StoreView, settled, staled, voting}
+use Rattle.fs_store.specs.Stores.{StoreView, settled, staled, voting}
 use Rattle.txn_core.specs.Slots.{Closes}
 use Rattle.file_server.specs.Ending.{MayHold}
 

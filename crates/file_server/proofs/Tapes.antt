@@ -1,5 +1,5 @@
 -- What a tape has where a server is refused.
-use Rattle.std.proofs.Common.{◌≡◌, ◌⊎◌, ◌∙◌, ◌++◌, ℕ, List, [], append_assoc, flat_map, inl, inr, refl, sym}
+use Rattle.std.proofs.Common.{◌∙◌, ℕ, List, [], append_assoc, flat_map, inl, inr, refl, sym}
 use Rattle.zdisk.specs.Disk.{Told, content}
 use Rattle.schedule.specs.Items.{IsSchedule, first_line, item_text}
 use Rattle.schedule.specs.declared.item.Item2.{Item2}

@@ -1,7 +1,6 @@
 -- What is left of a file that wasn't opened.
 use Rattle.std.proofs.Common.{◌≡◌, ◌⊎◌, ◌∙◌, ◌≤◌, ℕ, List, [], Option, None, Some, IfSome, is_some, length, inl, inr, refl, sym, ap, subst, arith}
 use Rattle.zbase.specs.Faults.{Counter, Counts, IsFaultless}
-use Rattle.zbase.specs.History.{History}
 use Rattle.zdisk.specs.Calls.{AnyImage, Follows}
 use Rattle.zdisk.specs.Disk.{Held, Told, content, synced}
 use Rattle.zdisk.specs.Images.{IsImage}
@@ -9,7 +8,7 @@ use Rattle.fs_record.specs.File.{Front}
 use Rattle.fs_record.specs.Opening.{Cut}
 use Rattle.fs_store.specs.declared.opening.OpenRefusal.{OpenRefusal}
 use Rattle.fs_store.specs.Moments.{KeepsGiven, OpensTo}
-use Rattle.fs_store.specs.Opened.{Brings, BringsNot, CutFailed, CutOffFailed, IsRefusedFor, LeavesDisk, Opens, OpensAs, Readies, Synced, SyncFailed, TornStayed, WhereTold}
+use Rattle.fs_store.specs.Opened.{Brings, BringsNot, CutOffFailed, IsRefusedFor, LeavesDisk, Opens, OpensAs, Readies, Synced, TornStayed, WhereTold}
 use Rattle.fs_store.specs.Stores.{StoreView, most_length}
 use Rattle.file_server.specs.Opening.{KeepsHistory, LeavesFile, MayRead, OpeningRefused}
 use Rattle.file_server.specs.Refusals.{Comes, of_open}

@@ -1,5 +1,5 @@
 -- What a server leaves of the disk of its site, and what it did, over a store that was opened.
-use Rattle.std.specs.Prelude.{◌≡◌, ◌⊎◌, ◌++◌, ℕ, List, IfSome, Option}
+use Rattle.std.specs.Prelude.{◌≡◌, ◌++◌, ℕ, List, IfSome, Option}
 use Rattle.zbase.specs.Faults.{Counter, IsFaultless}
 use Rattle.zdisk.specs.Crashes.{IsSynced}
 use Rattle.zdisk.specs.Disk.{Told, content}

@@ -1,5 +1,5 @@
 -- What a server of the file on a disk did, and what it leaves.
-use Rattle.std.specs.Prelude.{◌≡◌, ◌⊎◌, ◌++◌, ◌<◌, ⊤, ℕ, List, [], IfSome, Option}
+use Rattle.std.specs.Prelude.{◌≡◌, ◌++◌, ◌<◌, ℕ, List, [], IfSome, Option}
 use Rattle.zbase.specs.Faults.{Counter}
 use Rattle.zbase.specs.History.{History}
 use Rattle.zbase.specs.Limits.{greatest_number}
