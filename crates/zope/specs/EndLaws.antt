@@ -1,5 +1,5 @@
 -- What follows of how a run ends, for every run.
-use Rattle.std.proofs.Common.{◌≡◌, ◌⊎◌, ◌≤◌, ℕ, List, Option, inl, inr, refl, arith, ◌∙◌, ap}
+use Rattle.std.proofs.Common.{◌≡◌, ◌⊎◌, ◌≤◌, ℕ, List, inl, inr, refl, arith, ◌∙◌, ap}
 use Rattle.zope.specs.declared.refusal.Refusal.{Refusal}
 use Rattle.zope.specs.Causes.{Cause, Did, WordsCause}
 use Rattle.zope.specs.Ends.{Ends, IsStatus, status_of}

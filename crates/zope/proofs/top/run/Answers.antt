@@ -1,4 +1,4 @@
-use Rattle.std.proofs.Common.{◌≡◌, [], Err, Result, arith, inl, inr, refl, subst, sym}
+use Rattle.std.proofs.Common.{◌≡◌, [], Err, Result, arith, inl, inr, refl}
 use Rattle.zope.specs.declared.refusal.Refusal.{Refusal}
 use Rattle.zope.specs.Outside.{OutsideView, outside}
 use Rattle.zope.specs.Words.{IsNamed}
