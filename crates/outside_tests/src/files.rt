@@ -164,6 +164,23 @@ const CALLS: [(&str, &str, Result<u64, ShelfRefusal>); 11] = [
     ("replace", "b", Ok(0)),
 ];
 
+/// How long a file is once this was changed on its disk, and the disk was given back.
+fn changed<S: Shelf>(
+    shelf: &mut S,
+    name: &str,
+    disk: S::D,
+    change: Change,
+) -> Result<u64, ShelfRefusal> {
+    let mut disk = disk;
+    let changed = make_change(&mut disk, change);
+    shelf.close(name, disk)?;
+    match changed {
+        Ok(()) => length_of(shelf, name),
+        Err(Unchanged::Memory) => Err(ShelfRefusal::Memory),
+        Err(_) => Err(ShelfRefusal::Failed),
+    }
+}
+
 /// What that call about a file comes to, where `main` is the file that is replaced.
 fn called<S: Shelf>(
     shelf: &mut S,
@@ -178,14 +195,8 @@ fn called<S: Shelf>(
     if call == "open" {
         return length_of(shelf, name);
     }
-    let mut disk = shelf.create(name)?;
-    let changed = make_change(&mut disk, Change::Write(0, b"12"));
-    shelf.close(name, disk)?;
-    match changed {
-        Ok(()) => length_of(shelf, name),
-        Err(Unchanged::Memory) => Err(ShelfRefusal::Memory),
-        Err(_) => Err(ShelfRefusal::Failed),
-    }
+    let disk = shelf.create(name)?;
+    changed(shelf, name, disk, Change::Write(0, b"12"))
 }
 
 /// How many of the calls answer what they should, where this stands before each name.
@@ -198,6 +209,24 @@ fn calls_answered<S: Shelf>(alloc: Global, shelf: &mut S, before: &str) -> Resul
         answered = answered.saturating_add(usize::from(came == wanted));
     }
     Ok(answered)
+}
+
+#[test]
+fn a_file_of_a_folder_is_changed_in_place(rt: HostRuntime) -> Result<(), Fail> {
+    let path = own_path(&rt, "zio-changed", process::id(rt.process()))?;
+    let name = path.as_path().to_str().expect(&rt, "a path that is text");
+    fs::write(&rt, path.as_path(), b"1234".as_slice())?;
+    let mut folder = Folder::new(&rt);
+    for (change, length) in [(Change::Write(4, b"56"), 6), (Change::Cut(1), 1)] {
+        let disk = match folder.open(name) {
+            Ok(disk) => disk,
+            Err(_) => break,
+        };
+        assert_eq!(rt; changed(&mut folder, name, disk, change), Ok(length));
+    }
+    assert_eq!(rt; length_of(&mut folder, name), Ok(1));
+    fs::remove_file(&rt, path.as_path())?;
+    Ok(())
 }
 
 #[test]

@@ -12,6 +12,7 @@ use zdisk::FileDisk;
 ///
 /// `Missing` is the answer where the system says that there is no such file, and `Exists` where it says that there is one
 /// already; any other error is a fault. Behind a call that gave a file its name, the folder that has the name is synced too.
+/// A file is opened for writing too, unless the system allows reading alone: then each write to its disk is a fault.
 #[derive(Drop)]
 pub struct Folder<R> {
     rt: R,
@@ -40,7 +41,7 @@ impl<R: Files> Shelf for Folder<R> {
     ghost sound_disks = { λ _. ⊥ };
 
     fn open(&mut self, name: &str) -> Result<FileDisk<R::File>, ShelfRefusal> {
-        match fs::open(&self.rt, name) {
+        match open_file(&self.rt, name) {
             Ok(file) => Ok(FileDisk::new(file)),
             Err(error) if error.kind() == ErrorKind::NotFound => Err(ShelfRefusal::Missing),
             Err(_) => Err(self.faults.fault().into()),
@@ -81,6 +82,14 @@ fn folder_of(path: &str) -> &str {
 // Brings the names in the folder of a file to the device.
 fn sync_folder<R: Files>(rt: &R, path: &str) -> io::Result<()> {
     fs::open(rt, folder_of(path))?.sync_all()
+}
+
+// The file of that name, for reading and writing; for reading alone where the system allows no more.
+fn open_file<R: Files>(rt: &R, path: &str) -> io::Result<R::File> {
+    match OpenOptions::new().read(true).write(true).open(rt, path) {
+        Ok(file) => Ok(file),
+        Err(_) => fs::open(rt, path),
+    }
 }
 
 // A new file, under its name on the device.
