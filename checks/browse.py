@@ -33,7 +33,7 @@ def with_curl(serving):
         return int(status), body
 
     status, body = curl(site + "/")
-    assert status == 200 and b"Hello" in body, (status, body)
+    assert status == 200 and b"Zope" in body, (status, body)
     came = subprocess.run(["curl", "-sS", "-I", site + "/"], check=True, capture_output=True).stdout
     assert came.startswith(b"HTTP/1.1 200 OK\r\n"), came
     edit = [site + "/index_html/manage_edit", "--data-urlencode", "data=" + CHANGED % "curl", "--data-urlencode", "title=t"]
@@ -120,7 +120,7 @@ def with_chromium(serving, pictures):
     site, browser = f"127.0.0.1:{serving.entry}", Browser()
     try:
         browser.open(f"http://{site}/")
-        assert "Hello" in browser.run("return document.body.innerText")
+        assert "Zope" in browser.run("return document.body.innerText")
         browser.picture(pictures / "page.png")
         # the log-in's dialogue is answered by what the address says; without it the call is refused
         browser.open(f"http://{site}/index_html/manage_edit?data=x&title=t")

@@ -28,7 +28,7 @@ def body_of(reply):
 TABLE = [
     ("a chunked message", b"POST / HTTP/1.1\r\nTransfer-Encoding: chunked\r\n\r\n1\r\na\r\n0\r\n\r\n", 411, b"length required"),
     ("65 header lines", b"GET / HTTP/1.1\r\n" + b"a: b\r\n" * 65 + b"\r\n", 431, b"head too large"),
-    ("64 header lines", b"GET / HTTP/1.1\r\n" + b"a: b\r\n" * 64 + b"\r\n", 200, b"Hello"),
+    ("64 header lines", b"GET / HTTP/1.1\r\n" + b"a: b\r\n" * 64 + b"\r\n", 200, b"Zope"),
     ("a Content-Length of 19 digits", b"POST / HTTP/1.1\r\nContent-Length: 1000000000000000000\r\n\r\n", 400, b"bad head"),
     ("two that differ", b"POST / HTTP/1.1\r\nContent-Length: 1\r\nContent-Length: 2\r\n\r\nab", 400, b"bad head"),
     ("%ff in a path", b"GET /%ff HTTP/1.1\r\n\r\n", 400, b"bad head"),
@@ -39,7 +39,7 @@ TABLE = [
     ("an Authorization that isn't base64", message("GET", "/", None, "Authorization: Basic *"), 400, b"bad header"),
     ("a number past 64 bits", message("GET", "/?x:int=9223372036854775808"), 400, b"number"),
     ("no message", b"hello\r\n\r\n", 400, b"bad head"),
-    ("two messages, of which the second has no reply", message("GET", "/") * 2, 200, b"Hello"),
+    ("two messages, of which the second has no reply", message("GET", "/") * 2, 200, b"Zope"),
 ]
 
 # templates that would run away, and the words of the refusal

@@ -5,6 +5,7 @@ connection, so that what clients got can be compared with what a replay of the t
 left of the plan, without a message, and waits for the server.
 """
 
+import atexit
 import collections
 import contextlib
 import pathlib
@@ -146,6 +147,7 @@ class Serving:
             [PROGRAM, "serve", file.name, "--port", str(self.port), "--connections", str(connections), "--clients", str(clients),
              "--record", self.tape.name],
             cwd=file.parent, stdout=subprocess.PIPE, stdin=subprocess.DEVNULL)
+        atexit.register(self.process.kill)
         wait_for(lambda: self.process.poll() is not None or listens(self.port))
         assert self.process.poll() is None, f"the server ended: {self.process.stdout.read()}"
         self.tap = Tap(self.port) if tapped else None
