@@ -6,6 +6,7 @@ left of the plan, without a message, and waits for the server.
 """
 
 import atexit
+import base64
 import collections
 import contextlib
 import pathlib
@@ -64,8 +65,6 @@ def replies_in(report):
 
 def message(verb, path, body=None, *headers, user=None):
     """The bytes of a message with a form's body."""
-    import base64
-
     lines = [f"{verb} {path} HTTP/1.1", "Host: localhost", *headers]
     if user:
         lines.append("Authorization: Basic " + base64.b64encode(user.encode()).decode())

@@ -132,7 +132,7 @@ class Document:
                 number += 1
                 moved = re.match(r"cd (\S+)$", line)
                 folder = HOME / moved.group(1) if moved else folder
-                for word in re.findall(r"(?<![\w/.-])(?:\./)?[\w.-]+/[\w./-]+|\./\w+", line):
+                for word in re.findall(r"(?<![\w/.-])(?:\./)?[\w.-]+/[\w./-]+|\./\w+", re.sub(r"https?://\S*", "", line)):
                     if "NAME" not in word:
                         self.look(number, word, (HOME / word if moved else folder / word).exists())
 
