@@ -138,7 +138,7 @@ class Tap:
 class Serving:
     """A server over a file, which it changes; a copy of the file as it was stands beside it."""
 
-    def __init__(self, file, connections=1000, clients=16, tapped=True):
+    def __init__(self, file, connections=1000, clients=16, tapped=True, seconds=20.0):
         self.file, self.before, self.tape = file, file.with_suffix(".before"), file.with_suffix(".tape")
         shutil.copyfile(file, self.before)
         self.port, self.connections = free_port(), connections
@@ -147,7 +147,7 @@ class Serving:
              "--record", self.tape.name],
             cwd=file.parent, stdout=subprocess.PIPE, stdin=subprocess.DEVNULL)
         atexit.register(self.process.kill)
-        wait_for(lambda: self.process.poll() is not None or listens(self.port))
+        wait_for(lambda: self.process.poll() is not None or listens(self.port), seconds)
         assert self.process.poll() is None, f"the server ended: {self.process.stdout.read()}"
         self.tap = Tap(self.port) if tapped else None
         self.entry = self.tap.entry if tapped else self.port
