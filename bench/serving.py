@@ -17,7 +17,6 @@ import socket
 import subprocess
 import sys
 import tempfile
-import threading
 import time
 
 HERE = pathlib.Path(__file__).resolve().parent
@@ -90,21 +89,15 @@ def slow(port):
         client.close()
 
 
-def edits_by(port, clients):
-    """Edits a second of so many clients, each of a document of its own."""
-    counts, ends = [0] * clients, time.monotonic() + SECONDS
-
-    def work(number):
-        while time.monotonic() < ends:
-            assert ask(port, edit(f"/d{number}", b"text+%d" % counts[number])).endswith(b"done\n")
-            counts[number] += 1
-
-    workers = [threading.Thread(target=work, args=(n,)) for n in range(clients)]
-    for one in workers:
-        one.start()
-    for one in workers:
-        one.join()
-    return sum(counts) / SECONDS
+def edits_by(port, clients, count, body):
+    """Edits a second of so many clients, each an ab that edits a document of its own so often."""
+    words = ["ab", "-q", "-n", str(count), "-c", "1", "-p", str(body), "-T", "application/x-www-form-urlencoded", "-A", ADMIN]
+    began = time.monotonic()
+    runs = [subprocess.Popen([*words, f"http://127.0.0.1:{port}/d{n}/manage_edit"], stdout=subprocess.PIPE, text=True) for n in range(clients)]
+    outputs = [run.communicate()[0] for run in runs]
+    took = time.monotonic() - began
+    assert all("Failed requests:        0" in it and "Non-2xx" not in it for it in outputs), outputs
+    return clients * count / took
 
 
 def bare(folder, size):
@@ -131,8 +124,11 @@ def edits(folder):
     before = file.stat().st_size
     assert ask(serving.port, edit("/d0", b"text+0")).endswith(b"done\n")
     size = file.stat().st_size - before
+    body = folder / "body"
+    body.write_bytes(b"title=t&data=text+0")
     for clients in (1, 8):
-        rates = [(edits_by(serving.port, clients), bare(folder, size)) for _ in range(3)]
+        count = int(edits_by(serving.port, clients, 500, body) * SECONDS / clients)
+        rates = [(edits_by(serving.port, clients, count, body), bare(folder, size)) for _ in range(3)]
         ours, theirs = max(rates, key=lambda pair: pair[0] / pair[1])
         print(f"| edits, {clients} at once | {ours:.0f} | write and sync, twice {theirs:.0f} | {ours / theirs:.2f} | 0.90 | |", flush=True)
     serving.kill()

@@ -39,9 +39,13 @@ class Client(threading.Thread):
                 came = ask(self.port, message("POST", f"/d{self.number}/manage_edit", f"title=t&data={text.replace(' ', '+')}".encode(), user=ADMIN))
             except OSError:
                 return
-            if came.endswith(b"\r\n\r\ndone\n"):
-                self.answered = text
-                self.replies.append(came)
+            if not came.endswith(b"\r\n\r\ndone\n"):
+                assert not came or b" 503 " in came, came
+                if not came:
+                    return
+                continue
+            self.answered = text
+            self.replies.append(came)
 
 
 def whole_rounds(tape):
@@ -66,7 +70,7 @@ def once(folder, times, rng):
     file = new_site(folder)
     setup = Serving(file, CLIENTS, tapped=False)
     for n in range(CLIENTS):
-        came = ask(setup.port, message("POST", "/manage_addDTMLDocument", f"id=d{n}&title=t&data=none".encode(), user=ADMIN))
+        came = ask(setup.port, message("POST", "/manage_addDTMLDocument", f"id=d{n}&title=t".encode(), user=ADMIN))
         assert came.endswith(b"done\n"), came
     setup.end()
     setup.tape.unlink()
@@ -89,7 +93,7 @@ def once(folder, times, rng):
         lines.append(b"request %d %d\n%s\n" % (n, len(asked), asked) + b"step %d\n" % n * 6)
     shown = list(replies_in(zope("replay", file.name, cwd=folder, input=b"".join(lines) + b"end\n")))
     for client in clients:
-        texts = {(client.answered or "none").encode(), (client.sent or "none").encode()}
+        texts = {(client.answered or "").encode(), (client.sent or "").encode()}
         assert any(reply.endswith(b"\r\n\r\n" + text) for reply in shown for text in texts), (client.number, texts, shown)
     replayed = replies_in(zope("replay", serving.before.name, cwd=folder, input=whole_rounds(serving.tape.read_bytes())))
     for client in clients:

@@ -19,7 +19,10 @@ pub(crate) fn ran<F: Shelf, S: Source>(
     words: &[&str],
     files: &mut F,
     input: &mut S,
-) -> Result<(Status, MemorySink), Memory> {
+) -> Result<(Status, MemorySink), Memory>
+where
+    F::D: Drop,
+{
     let words = words_of(alloc, words)?;
     let mut clock = MemoryClock::new(vec![in alloc; (946_684_800, 0); 1]?, FaultPlan::none(alloc));
     let mut sink = MemorySink::new(alloc, FaultPlan::none(alloc));
