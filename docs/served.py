@@ -445,8 +445,8 @@ def file_text(content):
 class Pieces:
     """What stands more than once has a name."""
 
-    def __init__(self, cases):
-        self.uses, self.names = {}, {}
+    def __init__(self, cases, prefix):
+        self.uses, self.names, self.prefix = {}, {}, prefix
         for case in cases:
             for _, value in case:
                 for text in value:
@@ -467,6 +467,7 @@ class Pieces:
             if name in ("reply", "transaction"):
                 numbers[name] = numbers.get(name, 0) + 1
                 name = f"{name}_{numbers[name]}"
+            name = self.prefix + name
             assert name not in self.names.values()
             print(f"piece {name}")
             self.put_value(text.parts)
@@ -506,10 +507,10 @@ def put_plain(content):
             put_hex(part)
 
 
-def put_cases(head, cases):
+def put_cases(head, cases, prefix=""):
     print(f"# {head} `docs/served.py` has written these cases from the rules.\n")
     print("piece letter\n  | a\\\n")
-    pieces = Pieces([parts for _, parts in cases])
+    pieces = Pieces([parts for _, parts in cases], prefix)
     pieces.put()
     for title, parts in cases:
         pieces.put_case(title, parts)
@@ -774,7 +775,7 @@ def main(what):
     elif what == "faults":
         put_cases("Calls of the hub, of the tape and of the site's disk that fail.", table([*hub_faults(), *tape_faults(), *disk_faults()]))
     elif what == "served":
-        put_cases("A server by the command line: rows, words, what is looked at first, and each call that fails.", [*commands(), *served_words()])
+        put_cases("A server by the command line: rows, words, what is looked at first, and each call that fails.", [*commands(), *served_words()], "served_")
     elif what == "differing":
         put_cases("What a case compares: each of these differs.", list(differing()))
     else:
