@@ -16,6 +16,7 @@ import subprocess
 import sys
 import tempfile
 import time
+import urllib.parse
 import urllib.request
 
 from served import PASSWORD, USER, Serving, free_port, new_site, wait_for
@@ -127,7 +128,7 @@ def with_chromium(serving, pictures):
         shown = browser.run("return document.body.innerText")
         assert "Changed" not in shown and "done" not in shown, shown
         browser.picture(pictures / "refused.png")
-        form = (CHANGED % "Chromium").replace("'", "%27").replace("<", "%3C").replace(">", "%3E").replace(" ", "+").replace("=", "%3D").replace("/", "%2F").replace("#", "%23")
+        form = urllib.parse.quote_plus(CHANGED % "Chromium")
         browser.open(f"http://{USER}:{PASSWORD}@{site}/index_html/manage_edit?title=t&data={form}")
         assert browser.run("return document.body.innerText").strip() == "done"
         browser.open(f"http://{site}/")

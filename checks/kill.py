@@ -66,7 +66,7 @@ def whole_rounds(tape):
         good = at
 
 
-def once(folder, times, rng):
+def once(folder, rng):
     file = new_site(folder)
     setup = Serving(file, CLIENTS, tapped=False)
     for n in range(CLIENTS):
@@ -76,14 +76,12 @@ def once(folder, times, rng):
     setup.tape.unlink()
     serving = Serving(file, 100_000, tapped=False)
     clients = [Client(n, serving.port, EDITS // CLIENTS) for n in range(CLIENTS)]
-    began = time.monotonic()
     for client in clients:
         client.start()
     time.sleep(rng.uniform(0, 0.35))
     serving.kill()
     for client in clients:
         client.join()
-    took = time.monotonic() - began
     check = subprocess.run([PROGRAM, "check", file.name], cwd=folder, capture_output=True, check=False)
     assert check.returncode == 0, check.stdout
     # what the documents show now, by a schedule of one page each
@@ -99,7 +97,7 @@ def once(folder, times, rng):
     for client in clients:
         for reply in client.replies:
             assert replayed[reply], "an answered edit isn't on the tape"
-    return sum(len(client.replies) for client in clients), took
+    return sum(len(client.replies) for client in clients)
 
 
 def main():
@@ -107,7 +105,7 @@ def main():
     edits = []
     for _ in range(times):
         with tempfile.TemporaryDirectory() as folder:
-            edits.append(once(pathlib.Path(folder), times, rng)[0])
+            edits.append(once(pathlib.Path(folder), rng))
     print(f"kill: {times} times, behind {min(edits)} to {max(edits)} answered edits; each file opened and had every one of {sum(edits)}")
 
 
