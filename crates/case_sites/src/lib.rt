@@ -21,7 +21,7 @@ mod words;
 mod wrappers;
 
 pub use asking::{Asking, answers};
-pub use sites::known_of;
+pub use sites::{known_of, known_of_these};
 pub use words::{
     bytes_text, oid_in, permission_at, roles_in, split_named, split_three, texts_from, word_at,
 };

@@ -8,10 +8,20 @@ use zobject::{CodecRefusal, Object};
 
 /// What is known of the objects of a case's site.
 pub fn known_of(alloc: Global, case: &Case) -> Result<Known, CasesRefusal> {
+    known_among(alloc, case, None)
+}
+
+/// What is known where only these objects of a case's site are.
+pub fn known_of_these(alloc: Global, case: &Case, oids: &[Oid]) -> Result<Known, CasesRefusal> {
+    known_among(alloc, case, Some(oids))
+}
+
+// What is known of the objects of a case's site: of these alone, where they are said.
+fn known_among(alloc: Global, case: &Case, among: Option<&[Oid]>) -> Result<Known, CasesRefusal> {
     let mut known = Known::new(alloc);
     for part in &case.parts {
         if part.key() == "site" {
-            add_site(alloc, &mut known, case, part)?;
+            add_site(alloc, &mut known, case, part, among)?;
         }
     }
     Ok(known)
@@ -23,18 +33,27 @@ fn add_site(
     known: &mut Known,
     case: &Case,
     part: &Part,
+    among: Option<&[Oid]>,
 ) -> Result<(), CasesRefusal> {
     let rows = rows_of(alloc, part)?;
     for row in &rows {
         if is_object(row.key()) {
             let oid = Oid(row.number(1)?);
-            let fact = fact_of(alloc, case, row, rows.as_slice())?;
-            known.add(oid, fact)?;
+            if is_wanted(among, oid) {
+                known.add(oid, fact_of(alloc, case, row, rows.as_slice())?)?;
+            }
         } else if !tells_more(row.key()) {
             return Err(CasesRefusal::BadPart(row.line));
         }
     }
     Ok(())
+}
+
+fn is_wanted(among: Option<&[Oid]>, oid: Oid) -> bool {
+    match among {
+        Some(oids) => oids.iter().any(|one| one.0 == oid.0),
+        None => true,
+    }
 }
 
 // What the object's fact came to.

@@ -4,3 +4,16 @@ mod PageLaws
 mod Seeing
 mod Steps
 mod PlainLaws
+mod SpotLaws
+mod Children
+mod Stepping
+mod WorthLaws
+mod Standing
+mod NodeLaws
+mod OpeningLaws
+mod Paging
+mod Passing
+mod Arguments
+mod Looping
+mod Walking
+mod Worthy

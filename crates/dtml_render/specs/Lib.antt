@@ -2,6 +2,9 @@ pub mod Plain
 pub mod Rendering
 pub mod Access
 pub mod Worked
-pub mod Told
 pub mod Resuming
 pub mod ResumeLaws
+pub mod Spots
+pub mod Loops
+pub mod Worths
+pub mod Frames

@@ -44,21 +44,21 @@ take_twice zero layers = refl
 take_twice (suc n) [] = refl
 take_twice (suc n) (l ∷ ls) = ap (λ (rest : List Layer). l ∷ rest) (take_twice n ls)
 
-cut_twice : (depth : ℕ) (scope : Scope) → cut depth (cut depth scope) ≡ cut depth scope
+pub cut_twice : (depth : ℕ) (scope : Scope) → cut depth (cut depth scope) ≡ cut depth scope
 cut_twice depth scope = ap (λ (layers : List Layer). record scope { layers = layers }) (take_twice depth scope.layers)
 
 take_all : (layers : List Layer) → take (length layers) layers ≡ layers
 take_all [] = refl
 take_all (l ∷ ls) = ap (λ (rest : List Layer). l ∷ rest) (take_all ls)
 
-whole_cut : (scope : Scope) → cut (length scope.layers) scope ≡ scope
+pub whole_cut : (scope : Scope) → cut (length scope.layers) scope ≡ scope
 whole_cut scope = ap (λ (layers : List Layer). record scope { layers = layers }) (take_all scope.layers)
 
 cut_under : (depth : ℕ) (layers : List Layer) (scope : Scope) → depth ≤ length scope.layers → cut depth (under layers scope) ≡ cut depth scope
 cut_under depth layers scope le = ap (λ (layers : List Layer). record scope { layers = layers }) (take-append-le depth scope.layers layers le)
 
 -- a scope that is cut has so many layers
-cut_deep : (depth : ℕ) (scope : Scope) → depth ≤ length scope.layers → depth ≤ length (cut depth scope).layers
+pub cut_deep : (depth : ℕ) (scope : Scope) → depth ≤ length scope.layers → depth ≤ length (cut depth scope).layers
 cut_deep depth scope le = let long : length (take depth scope.layers) ≡ depth = length-take-le depth scope.layers le in omega (arith, long)
 
 -- ---- a node, and the value of an argument, come to what they open
@@ -113,7 +113,7 @@ module _ (renders : ℕ) (scope : Scope) where
       at false = ap (λ (many : ℕ). each (block_of renders block) scope skip many 0 (turned reversed items) s) (turned_length reversed items)
 
   -- the value of an argument
-  answered_is : (waiting : Waiting) (out : List ℕ) (x : Option Val × Left) → (opening waiting out x >>= opened renders scope) ≡ answered (source_text renders) scope waiting out x
+  pub answered_is : (waiting : Waiting) (out : List ℕ) (x : Option Val × Left) → (opening waiting out x >>= opened renders scope) ≡ answered (source_text renders) scope waiting out x
   unfolding opening answered opened
   answered_is (ToShow at arg marks) out x = then_then (put_value at arg marks out x) ended (opened renders scope) ∙ then_done (put_value at arg marks out x)
   answered_is (ToLeave arg) out x = then_then (must_be arg x) (λ (v : Val × Left). Done (Ended (state out v.1))) (opened renders scope)
@@ -153,7 +153,7 @@ module _ (renders : ℕ) (scope : Scope) where
       ∙ sym (then_then (argument (source_text renders) scope at arg t.left) (must_be arg) (next t.out))
 
   -- a node
-  item_is : (item : Item) (s : State) → (item_opening item s >>= opened renders scope) ≡ item_text (source_text renders) scope item s
+  pub item_is : (item : Item) (s : State) → (item_opening item s >>= opened renders scope) ≡ item_text (source_text renders) scope item s
   unfolding item_opening item_text opened answered var_text call_text unless_text loop_text with_text let_text
   item_is (trees.Plain t) s = then_then (put t s) ended (opened renders scope) ∙ then_done (put t s)
   item_is (trees.Var at arg marks) s =
@@ -178,7 +178,7 @@ module _ (renders : ℕ) (scope : Scope) where
 -- ---- frames
 
 -- what is still to come below is the same where more layers stand above
-stands : (frames : List Frame) (renders : ℕ) (layers : List Layer) (scope : Scope) (s : State) → StandsIn frames scope → after frames renders (under layers scope) s ≡ after frames renders scope s
+pub stands : (frames : List Frame) (renders : ℕ) (layers : List Layer) (scope : Scope) (s : State) → StandsIn frames scope → after frames renders (under layers scope) s ≡ after frames renders scope s
 unfolding after
 stands [] renders layers scope s le = refl
 stands (Rest depth items ∷ frames) renders layers scope s le = ap (λ (c : Scope). block_of renders items c s >>= λ s. after frames renders c s) (cut_under depth layers scope le)
@@ -190,7 +190,7 @@ stands (Value depth acting waiting out ∷ frames) renders layers scope s le =
     ap (λ (c : Scope). answered (source_text (suc renders)) (act acting c) waiting out (Some (text s.out), s.left) >>= λ s. after frames (suc renders) (act acting c) s) (cut_under depth layers scope le)
 
 -- what is opened is the innermost frame
-opening_is : (o : Opening) (frames : List Frame) (renders : ℕ) (scope : Scope) → StandsIn frames scope → (opened renders scope o >>= λ s. after frames renders scope s) ≡ after_opening o frames renders scope
+pub opening_is : (o : Opening) (frames : List Frame) (renders : ℕ) (scope : Scope) → StandsIn frames scope → (opened renders scope o >>= λ s. after frames renders scope s) ≡ after_opening o frames renders scope
 unfolding opened after_opening after
 opening_is (Ended s) frames renders scope le = refl
 opening_is (Within layers block s) frames renders scope le =
@@ -240,7 +240,7 @@ module _ (k : ℕ → Option (Seen Object)) (renders depth : ℕ) (frames : List
       ∙ ap (looked later mid) (opening_is o (Rest depth rest ∷ frames) renders here (cut_deep depth scope le))
 
 -- the value of an argument opens something
-answer_goes : (k : ℕ → Option (Seen Object)) (renders : ℕ) (frames : List Frame) (scope : Scope) (waiting : Waiting) (out : List ℕ) (x : Option Val × Left) (shown mid : List Shown) (o : Opening) → StandsIn frames scope → looked k shown (opening waiting out x) ≡ Ok (o, mid) →
+pub answer_goes : (k : ℕ → Option (Seen Object)) (renders : ℕ) (frames : List Frame) (scope : Scope) (waiting : Waiting) (out : List ℕ) (x : Option Val × Left) (shown mid : List Shown) (o : Opening) → StandsIn frames scope → looked k shown (opening waiting out x) ≡ Ok (o, mid) →
     GoesOn k shown (answered (source_text renders) scope waiting out x >>= λ s. after frames renders scope s) mid (after_opening o frames renders scope)
 answer_goes k renders frames scope waiting out x shown mid o le e = λ later grows.
     ap (looked later shown) (
@@ -407,7 +407,7 @@ module _ (k : ℕ → Option (Seen Object)) (renders depth : ℕ) (frames : List
 -- ---- an item's turn
 
 -- a turn is whether the item has it, and then its block
-turn_is : (block : Block) (scope : Scope) (skip : Bool) (many i : ℕ) (item : Single) (s : State) →
+pub turn_is : (block : Block) (scope : Scope) (skip : Bool) (many i : ℕ) (item : Single) (s : State) →
     (may_turn scope skip item s.left >>= λ x. turn_text block scope many i item (state s.out x.1) x.0) ≡ counted_turn block scope skip many i item s
 unfolding may_turn turn
 turn_is block scope skip many i item s =

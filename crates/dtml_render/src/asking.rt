@@ -1,33 +1,25 @@
-ghost use Rattle.std.specs.Prelude.{◌≡◌, ◌≤◌, ℕ, List, length, take, IfSome, Ok, Some};
+ghost use Rattle.std.specs.Prelude.{◌≡◌, ◌≤◌, ℕ, List, length, take, IfSome, OnErr, Ok, Some};
 ghost use Rattle.evaluator.specs.declared.reply.Shown.{Shown};
 ghost use Rattle.zobject.specs.Shapes.{form_of};
 ghost use Rattle.zknown.specs.Seen.{objects};
 ghost use Rattle.namespace.specs.Looks.{looked};
 ghost use Rattle.namespace.specs.Names as names;
 ghost use Rattle.namespace.specs.Told.{Begins, Shows};
-ghost use Rattle.dtml_parse.specs.Views.{arg_view};
+ghost use Rattle.dtml_parse.specs.Trees as trees;
+ghost use Rattle.dtml_parse.specs.Views.{arg_view, marks_view, node_view};
 ghost use Rattle.dtml_values.specs.Values.{Left};
 ghost use Rattle.dtml_values.specs.Told.{told};
+ghost use Rattle.dtml_render.specs.Frames as view;
 ghost use Rattle.dtml_render.specs.Rendering as rendering;
 
+use crate::spots::Tag;
 use acquisition::{Wrapped, here};
-use dtml_parse::Arg;
+use dtml_parse::{Arg, Node, VarTag};
 use dtml_values::RenderRefusal;
 use namespace::{Single, Stack, Val};
 use zbase::{Oid, Text};
 use zknown::Known;
 use zobject::{Object, Part2};
-
-/// The value of a name in the stack.
-pub(crate) fn find(name: &Text, stack: &mut Stack<'_>) -> Result<Option<Val>, RenderRefusal>
-    ensures is { Shows told (λ v. v) stack.new.shown result (looked (objects stack.old.known) stack.old.shown (names.named stack.old.scope name.now)) }
-    ensures known { stack.new.known ≡ stack.old.known }
-    ensures scope { stack.new.scope ≡ stack.old.scope }
-    ensures shown { Begins stack.old.shown stack.new.shown }
-{
-    let found = stack.find(name.as_str())?;
-    Ok(found)
-}
 
 /// The object with its contents, which the user must be granted to view; it is then shown.
 pub(crate) fn open<'k>(oid: Oid, stack: &mut Stack<'k>) -> Result<&'k Object, RenderRefusal>
@@ -66,6 +58,7 @@ fn object_turn(skip: bool, object: &Wrapped, stack: &mut Stack<'_>) -> Result<bo
     ensures known { stack.new.known ≡ stack.old.known }
     ensures scope { stack.new.scope ≡ stack.old.scope }
     ensures shown { Begins stack.old.shown stack.new.shown }
+    ensures stays { OnErr result (stack.new.shown ≡ stack.old.shown) }
 {
     if skip {
         let granted = stack.offer(object.oid())?;
@@ -86,6 +79,7 @@ pub(crate) fn has_turn(
     ensures known { stack.new.known ≡ stack.old.known }
     ensures scope { stack.new.scope ≡ stack.old.scope }
     ensures shown { Begins stack.old.shown stack.new.shown }
+    ensures stays { OnErr result (stack.new.shown ≡ stack.old.shown) }
 {
     match item {
         Single::Obj(object) => object_turn(skip, object, stack),
@@ -105,9 +99,9 @@ pub(crate) fn cut(depth: usize, stack: &mut Stack<'_>)
     }
 }
 
-/// The text that the object that was viewed last lends to a tag. Takes no memory.
+// The text that the object that was viewed last lends to a tag.
 #[tactic(auto, unfolding(crate::specs::Rendering::argument, crate::specs::Rendering::rendered_if))]
-pub(crate) fn lent<'k>(arg: &Arg, stack: &Stack<'k>) -> Option<&'k Text>
+fn lent<'k>(arg: &Arg, stack: &Stack<'k>) -> Option<&'k Text>
     ensures { IfSome result (λ t. (inside : rendering.Inside) (at : ℕ) (left : Left)
         → looked (objects stack.now.known) stack.now.shown (rendering.argument inside stack.now.scope at (arg_view arg.now) left)
         ≡ Ok ((Some (names.text t.now), left), stack.now.shown)) }
@@ -116,4 +110,32 @@ pub(crate) fn lent<'k>(arg: &Arg, stack: &Stack<'k>) -> Option<&'k Text>
         Arg::Name(name) => stack.lent(name.as_str()),
         Arg::Expression(_) => None,
     }
+}
+
+// The text that is lent to a node that shows it.
+fn lent_to<'a, 'k>(node: &'a Node, stack: &Stack<'k>) -> Option<(u32, &'a VarTag, &'k Text)>
+    ensures var { IfSome result (λ x. node_view node.now ≡ trees.Var x.0 (arg_view x.1.now.arg) (marks_view x.1.now)) }
+    ensures text { IfSome result (λ x. (inside : rendering.Inside) (at : ℕ) (left : Left)
+        → looked (objects stack.now.known) stack.now.shown (rendering.argument inside stack.now.scope at (arg_view x.1.now.arg) left)
+        ≡ Ok ((Some (names.text x.2.now), left), stack.now.shown)) }
+{
+    let Node::Var(at, tag) = node else {
+        return None;
+    };
+    let text = lent(&tag.arg, stack)?;
+    Some((*at, tag, text))
+}
+
+/// The same of a tag, with the place and the marks by which it is shown. Takes no memory.
+pub(crate) fn lent_under<'a, 'k>(
+    tag: &'a Tag<'_>,
+    stack: &Stack<'k>,
+) -> Option<(u32, &'a VarTag, &'k Text)>
+    ensures var { IfSome result (λ x. view.node_view tag.now ≡ Some (trees.Var x.0 (arg_view x.1.now.arg) (marks_view x.1.now))) }
+    ensures text { IfSome result (λ x. (inside : rendering.Inside) (at : ℕ) (left : Left)
+        → looked (objects stack.now.known) stack.now.shown (rendering.argument inside stack.now.scope at (arg_view x.1.now.arg) left)
+        ≡ Ok ((Some (names.text x.2.now), left), stack.now.shown)) }
+{
+    let node = tag.node()?;
+    lent_to(node, stack)
 }

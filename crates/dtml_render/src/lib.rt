@@ -5,15 +5,25 @@
 #![tactic(auto)]
 
 mod asking;
+mod frames;
 mod items;
 mod laws;
+mod openings;
+mod page;
+mod reaching;
 mod reading;
 mod rendering;
 mod showing;
+mod sources;
+mod spots;
+mod turns;
+mod worths;
 
 pub use dtml_values::{Budget, Limit, RenderRefusal};
 pub use laws::{
     pages_are_for_their_users, pages_are_their_users_own, pages_go_on, pages_show_what_is_granted,
 };
+pub use page::Page;
 pub use reading::{read_source, source_of};
 pub use rendering::render;
+pub use spots::Source;

@@ -24,7 +24,9 @@ use Rattle.namespace.specs.declared.word.Word.{Word}
 use Rattle.namespace.specs.declared.word.Word.TheVariants as word
 use Rattle.namespace.specs.Looks.{Looks, Done, looked, taken, ◌>>=◌}
 use Rattle.namespace.specs.LookLaws.{looked_goes}
-use Rattle.namespace.specs.Names.{text, title_or_id, word_of, value_of, property_value, seeing, viewing, by_word, in_one, searched, in_object, title_in, title_or_id_in, property_in, property_or_child, in_layer, in_layers, in_base, named_for}
+use Rattle.namespace.specs.declared.hit.Hit.TheVariants as code
+use Rattle.namespace.specs.Locating.{Found, all_of, given_of, leading, located_among, located_by_word, located_for, located_in, located_in_base, located_in_layer, located_in_layers, located_in_one, located_is}
+use Rattle.namespace.specs.Names.{text, title_or_id, word_of, value_of, property_value, seeing, viewing, by_word, title_in, title_or_id_in, property_in, property_or_child, named_for}
 use Rattle.namespace.specs.Told.{Begins}
 use Rattle.namespace.specs.Viewing.{IsViewed, IsRemembered, lent, lent_as, lent_property, lent_value}
 use Rattle.namespace.proofs.Loops.{hit_ends, search_hits, layer_hits}
@@ -63,20 +65,38 @@ module _ (rows : List (ℕ × Kept)) (who : Who) (name whole : List ℕ) (o : �
   of_word word.ObjectValues e = absurd (let bad = e in cc)
   of_word word.Other e = of_property (find (λ (p : Property). bytes_eq p.name name) object.properties) refl e
 
+  -- so the word leads to that text
+  led : (w : Word) → looked (objects rows) shown (by_word who w name whole o (shape_of object)) ≡ Ok (Some (text t), shown) → looked (objects rows) shown (leading (by_word who w name whole o (shape_of object))) ≡ Ok (Some (Found (text t)), shown)
+  led w e = looked_goes (objects rows) shown (by_word who w name whole o (shape_of object)) given_of (Some (text t), shown) e
+
+  led_by_word : (w : Word) → lent_as w name object ≡ Some t → looked (objects rows) shown (located_by_word who w name whole o (shape_of object)) ≡ Ok (Some (Found (text t)), shown)
+  unfolding located_by_word
+  led_by_word word.Id e = led word.Id (of_word word.Id e)
+  led_by_word word.Title e = led word.Title (of_word word.Title e)
+  led_by_word word.TitleOrId e = led word.TitleOrId (of_word word.TitleOrId e)
+  led_by_word word.ObjectIds e = led word.ObjectIds (of_word word.ObjectIds e)
+  led_by_word word.ObjectValues e = absurd (let bad = e in cc)
+  led_by_word word.Other e = led word.Other (of_word word.Other e)
+
   module _ (is_lent : lent object name ≡ Some t) where
-    in_itself : looked (objects rows) shown (in_one who name whole o) ≡ Ok (Some (text t), shown)
-    unfolding in_one lent
-    in_itself = looked_goes (objects rows) shown (seeing o) (λ shape. by_word who (word_of name) name whole o shape) (shape_of object, shown) (sees rows o (shape_of object) shown viewed.3) ∙ of_word (word_of name) is_lent
+    in_itself : looked (objects rows) shown (located_in_one who name whole o) ≡ Ok (Some (Found (text t)), shown)
+    unfolding located_in_one lent
+    in_itself = looked_goes (objects rows) shown (seeing o) (λ shape. located_by_word who (word_of name) name whole o shape) (shape_of object, shown) (sees rows o (shape_of object) shown viewed.3) ∙ led_by_word (word_of name) is_lent
 
     module _ (others : List ℕ) (is_first : whole ≡ o ∷ others) (is_open : begins_with (codes "_") name ≡ false) where
-      in_whole : looked (objects rows) shown (in_object who whole name) ≡ Ok (Some (text t), shown)
-      unfolding in_object
-      in_whole = ap (λ b. looked (objects rows) shown (if b then Done None else searched who name whole whole)) is_open ∙ search_hits (objects rows) shown who name whole whole others o _ is_first refl shown (Some (text t)) in_itself refl
+      in_whole : looked (objects rows) shown (located_in who whole name) ≡ Ok (Some (Found (text t)), shown)
+      unfolding located_in
+      in_whole = ap (λ b. looked (objects rows) shown (if b then Done None else located_among who name whole whole)) is_open ∙ search_hits (objects rows) shown who name whole whole others o _ is_first refl shown (Some (code.Found (text t))) in_itself refl
+
+      located_so : (layers older : List Layer) (client : List ℕ) (request : List Named) → layers ≡ older ++ layer.Object whole ∷ [] → looked (objects rows) shown (located_for who name layers client request) ≡ Ok (Some (Found (text t)), shown)
+      unfolding located_for located_in_layer
+      located_so layers older client request is =
+          hit_ends (objects rows) shown shown (located_in_layers who name (reverse layers)) (located_in_base who name client request) (Some (code.Found (text t))) (layer_hits (objects rows) shown who name layers older (layer.Object whole) _ is refl shown (Some (code.Found (text t))) in_whole refl) refl
 
       pub lent_so : (layers older : List Layer) (client : List ℕ) (request : List Named) → layers ≡ older ++ layer.Object whole ∷ [] → looked (objects rows) shown (named_for who name layers client request) ≡ Ok (Some (text t), shown)
-      unfolding named_for in_layer
       lent_so layers older client request is =
-          hit_ends (objects rows) shown shown (in_layers who name (reverse layers)) (in_base who name client request) (Some (text t)) (layer_hits (objects rows) shown who name layers older (layer.Object whole) _ is refl shown (Some (text t)) in_whole refl) refl
+          ap (looked (objects rows) shown) (sym (located_is (record { user = who; acting = None; layers = layers; client = client; request = request }) name))
+          ∙ looked_goes (objects rows) shown (located_for who name layers client request) all_of (Some (Found (text t)), shown) (located_so layers older client request is)
 
 pub if_some : {A : Type 0} (r : Option A) (P Q : A → Type 0) → ((x : A) → P x → Q x) → IfSome r P → IfSome r Q
 if_some None P Q so is = tt

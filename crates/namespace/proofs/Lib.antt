@@ -1,3 +1,4 @@
+mod Onces
 mod Steps
 mod Properties
 mod Loops

@@ -1,4 +1,5 @@
 pub mod Labels
+pub mod Once
 pub mod Looks
 pub mod LookLaws
 pub mod Joining
@@ -7,6 +8,7 @@ pub mod Told
 pub mod Names
 pub mod NameLaws
 pub mod Locating
+pub mod Hits
 pub mod Requests
 pub mod Worked
 pub mod Viewing

@@ -29,6 +29,9 @@ found_of (Some v) = Some (Found v)
 abbrev pub given_of : Option Val → Looks (Option Hit)
 given_of v = Done (found_of v)
 
+abbrev pub leading : Looks (Option Val) → Looks (Option Hit)
+leading q = q >>= given_of
+
 -- the value of what was found
 abbrev pub all_of : Option Hit → Looks (Option Val)
 all_of None = Done None
@@ -70,9 +73,12 @@ located_in_layers who name (l ∷ ls) = located_in_layer who name l >>= λ hit. 
 unfoldable pub located_in_base : Who → List ℕ → List ℕ → List Named → Looks (Option Hit)
 located_in_base who name client request = located_in who client name >>= λ hit. or_on hit (Done (found_of (value_in name request)))
 
--- what a name leads to
-unfoldable pub located : Scope → List ℕ → Looks (Option Hit)
-located scope name = located_in_layers (whose scope) name (reverse scope.layers) >>= λ hit. or_on hit (located_in_base (whose scope) name scope.client scope.request)
+-- what a name leads to: in the layers from the newest, then in the client, then among the request's values
+unfoldable pub located_for : Who → List ℕ → List Layer → List ℕ → List Named → Looks (Option Hit)
+located_for who name layers client request = located_in_layers who name (reverse layers) >>= λ hit. or_on hit (located_in_base who name client request)
+
+abbrev pub located : Scope → List ℕ → Looks (Option Hit)
+located scope name = located_for (whose scope) name scope.layers scope.client scope.request
 
 -- ---- the value of a name is the value of what it leads to
 
@@ -123,7 +129,8 @@ unfolding located_among searched
 among_is who name whole [] = refl
 among_is who name whole (o ∷ os) = first_is (located_in_one who name whole o) (in_one who name whole o) (located_among who name whole os) (searched who name whole os) (one_is who name whole o) (among_is who name whole os)
 
-in_is : (who : Who) (whole name : List ℕ) → (located_in who whole name >>= all_of) ≡ in_object who whole name
+-- so in an object
+pub in_is : (who : Who) (whole name : List ℕ) → (located_in who whole name >>= all_of) ≡ in_object who whole name
 unfolding located_in in_object
 in_is who whole name = at (begins_with (codes "_") name)
   where
@@ -147,5 +154,5 @@ base_is who name client request = first_is (located_in who client name) (in_obje
 
 -- the value of a name is that of what it leads to
 pub located_is : (scope : Scope) (name : List ℕ) → (located scope name >>= all_of) ≡ named scope name
-unfolding located named_for
+unfolding located_for named_for
 located_is scope name = first_is (located_in_layers (whose scope) name (reverse scope.layers)) (in_layers (whose scope) name (reverse scope.layers)) (located_in_base (whose scope) name scope.client scope.request) (in_base (whose scope) name scope.client scope.request) (layers_is (whose scope) name (reverse scope.layers)) (base_is (whose scope) name scope.client scope.request)

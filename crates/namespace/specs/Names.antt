@@ -183,6 +183,11 @@ pub record Space : Type 0 where
   pub scope : Scope
   pub shown : List Shown
 
+-- the same without what is known
+pub record Rested : Type 0 where
+  pub scope : Scope
+  pub shown : List Shown
+
 abbrev pub value_in : List ℕ → List Named → Option Val
 value_in name names = option_map (λ (n : Named). n.val) (find (λ (n : Named). bytes_eq n.name name) names)
 

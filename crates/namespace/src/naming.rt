@@ -1,16 +1,21 @@
-ghost use Rattle.std.specs.Prelude.{◌≡◌, ℕ, List, [], IfOk, Ok, Some, option_map};
+ghost use Rattle.std.specs.Prelude.{◌≡◌, ℕ, List, [], IfOk, Ok, Option, Some, option_map};
 ghost use Rattle.std.specs.List.{find};
 ghost use Rattle.std.specs.Str.{bytes_eq};
 ghost use Rattle.zbase.specs.Query.{run};
 ghost use Rattle.zobject.specs.declared.object.Object.{Object as ObjectValue};
 ghost use Rattle.zobject.specs.Shapes.{form_of, shape_of};
-ghost use Rattle.zknown.specs.Seen.{objects};
+ghost use Rattle.zknown.specs.Seen.{Seen, objects};
 ghost use Rattle.evaluator.specs.declared.reply.Shown.{Shown as ShownObject};
 ghost use Rattle.acquisition.specs.Acquiring.{here};
-ghost use Rattle.namespace.specs.Looks.{looked};
+ghost use Rattle.namespace.specs.Hits.{hits, OnlyFinds};
+ghost use Rattle.namespace.specs.Locating as locating;
+ghost use Rattle.namespace.specs.Looks.{Looks, looked};
 ghost use Rattle.namespace.specs.Names as spec;
+ghost use Rattle.namespace.specs.declared.refusal.NameRefusal.{NameRefusal as Refusal};
+ghost use Rattle.namespace.specs.declared.val.Val.{Val as Value};
 ghost use Rattle.namespace.specs.Told.{told, OnlyHits, Shows};
 
+use crate::hit::Hit;
 use crate::looks::{enter, reach, see, view_role};
 use crate::refusal::NameRefusal;
 use crate::showing::Showing;
@@ -43,7 +48,7 @@ pub(crate) fn title_or_id(object: &Object) -> &Text
 
 // A text of an object, which needs a view.
 fn viewed_text(
-    viewer: &Viewer<'_>,
+    viewer: &Viewer<'_, '_>,
     shown: &mut Showing,
     oid: Oid,
     object: &Object,
@@ -122,23 +127,22 @@ fn all_reached(
     Ok(Some(Val::Seq(all)))
 }
 
-// A folder's children, whose list the user must be granted.
-#[tactic(auto, using(crate::proofs::Steps::goes_so, crate::proofs::Steps::stops), unfolding(crate::specs::Names::values_in))]
-fn object_values(
-    alloc: Global,
-    known: &Known,
-    who: &Who,
+// The children of a folder, whose list the user must be granted.
+#[tactic(auto, using(crate::proofs::Steps::goes, crate::proofs::Steps::stops), unfolding(crate::specs::Locating::children_in))]
+fn children_in<'k>(
+    viewer: &Viewer<'_, 'k>,
     whole: &Wrapped,
     oid: Oid,
-    part: &Part2,
-) -> Result<Option<Val>, NameRefusal>
-    ensures { (shown : List ShownObject) → Shows told (λ v. v) shown result
-        (looked (objects known.now) shown (spec.values_in who.now whole.now oid (form_of part.now))) }
+    part: &'k Part2,
+) -> Result<Option<Hit<'k>>, NameRefusal>
+    ensures { (shown : List ShownObject) → Shows told hits shown result
+        (looked (objects viewer.now.known.now) shown (locating.children_in viewer.now.who.now whole.now oid (form_of part.now))) }
 {
     match part {
         Part2::Folder(children) => {
-            enter(alloc, known, who, oid)?;
-            all_reached(alloc, known, whole, children.as_slice())
+            enter(viewer.alloc, viewer.known, viewer.who, oid)?;
+            let whole = whole.copy()?;
+            Ok(Some(Hit::Children(whole, children.as_slice())))
         }
         Part2::Method { .. } | Part2::Document { .. } | Part2::UserFolder(_) => Ok(None),
     }
@@ -176,7 +180,7 @@ pub(crate) fn property_of<'a>(name: &str, properties: &'a [Property]) -> Option<
 // The value of a property, which needs a view.
 #[tactic(auto, unfolding(crate::specs::Names::property_in))]
 fn viewed_property(
-    viewer: &Viewer<'_>,
+    viewer: &Viewer<'_, '_>,
     shown: &mut Showing,
     name: &str,
     oid: Oid,
@@ -209,7 +213,7 @@ fn child_at(known: &Known, whole: &Wrapped, child: Option<Oid>) -> Result<Option
 // A property comes before a child of its name.
 #[tactic(auto, unfolding(crate::specs::Names::property_or_child, zobject::specs::Shapes::shape_of))]
 fn property_or_child(
-    viewer: &Viewer<'_>,
+    viewer: &Viewer<'_, '_>,
     shown: &mut Showing,
     name: &str,
     whole: &Wrapped,
@@ -227,66 +231,89 @@ fn property_or_child(
     }
 }
 
-#[tactic(auto, unfolding(crate::specs::Names::by_word, zobject::specs::Shapes::shape_of))]
-fn by_word(
-    viewer: &Viewer<'_>,
+/// A value leads to itself. Takes no memory.
+pub(crate) fn found_of<'k>(value: Option<Val>) -> Option<Hit<'k>>
+    ensures is { hits result ≡ locating.found_of value }
+    ensures shown { (former present : List ShownObject)
+        → OnlyHits {E = Refusal} former present (Ok value) → OnlyFinds {E = Refusal} former present (Ok result) }
+{
+    match value {
+        Some(value) => Some(Hit::Found(value)),
+        None => None,
+    }
+}
+
+// So does a value that was looked for.
+fn given<'k>(value: Result<Option<Val>, NameRefusal>) -> Result<Option<Hit<'k>>, NameRefusal>
+    ensures is { (k : ℕ → Option (Seen ObjectValue)) (former present : List ShownObject) (q : Looks (Option Value))
+        → Shows told (λ v. v) present value (looked k former q) → Shows told hits present result (looked k former (locating.leading q)) }
+    ensures shown { (former present : List ShownObject) → OnlyHits former present value → OnlyFinds former present result }
+{
+    match value {
+        Ok(value) => Ok(found_of(value)),
+        Err(refusal) => Err(refusal),
+    }
+}
+
+#[tactic(auto, unfolding(crate::specs::Locating::located_by_word, crate::specs::Names::by_word, zobject::specs::Shapes::shape_of))]
+fn by_word<'k>(
+    viewer: &Viewer<'_, 'k>,
     shown: &mut Showing,
     name: &str,
     whole: &Wrapped,
     oid: Oid,
-    object: &Object,
-) -> Result<Option<Val>, NameRefusal>
+    object: &'k Object,
+) -> Result<Option<Hit<'k>>, NameRefusal>
     requires { run (objects viewer.now.known.now) (here oid) ≡ Ok object.now }
-    ensures is { Shows told (λ v. v) shown.new result
+    ensures is { Shows told hits shown.new result
         (looked (objects viewer.now.known.now) shown.old
-        (spec.by_word viewer.now.who.now (spec.word_of name.now) name.now whole.now oid (shape_of object.now))) }
-    ensures shown { OnlyHits shown.old shown.new result }
+        (locating.located_by_word viewer.now.who.now (spec.word_of name.now) name.now whole.now oid (shape_of object.now))) }
+    ensures shown { OnlyFinds shown.old shown.new result }
 {
     match word_of(name) {
-        Word::Id => Ok(Some(text_value(&object.id)?)),
-        Word::Title => viewed_text(viewer, shown, oid, object, &object.title),
-        Word::TitleOrId => viewed_text(viewer, shown, oid, object, title_or_id(object)),
-        Word::ObjectIds => object_ids(viewer.alloc, viewer.known, viewer.who, oid, &object.part),
-        Word::ObjectValues => object_values(
+        Word::Id => Ok(Some(Hit::Found(text_value(&object.id)?))),
+        Word::Title => given(viewed_text(viewer, shown, oid, object, &object.title)),
+        Word::TitleOrId => given(viewed_text(viewer, shown, oid, object, title_or_id(object))),
+        Word::ObjectIds => given(object_ids(
             viewer.alloc,
             viewer.known,
             viewer.who,
-            whole,
             oid,
             &object.part,
-        ),
-        Word::Other => property_or_child(viewer, shown, name, whole, oid, object),
+        )),
+        Word::ObjectValues => children_in(viewer, whole, oid, &object.part),
+        Word::Other => given(property_or_child(viewer, shown, name, whole, oid, object)),
     }
 }
 
 // What the object itself has under the name.
-#[tactic(auto, using(crate::proofs::Steps::goes_so, crate::proofs::Steps::stops), unfolding(crate::specs::Names::in_one))]
-fn in_one(
-    viewer: &Viewer<'_>,
+#[tactic(auto, using(crate::proofs::Steps::goes_so, crate::proofs::Steps::stops), unfolding(crate::specs::Locating::located_in_one))]
+fn in_one<'k>(
+    viewer: &Viewer<'_, 'k>,
     shown: &mut Showing,
     name: &str,
     whole: &Wrapped,
     oid: Oid,
-) -> Result<Option<Val>, NameRefusal>
-    ensures is { Shows told (λ v. v) shown.new result
-        (looked (objects viewer.now.known.now) shown.old (spec.in_one viewer.now.who.now name.now whole.now oid)) }
-    ensures shown { OnlyHits shown.old shown.new result }
+) -> Result<Option<Hit<'k>>, NameRefusal>
+    ensures is { Shows told hits shown.new result
+        (looked (objects viewer.now.known.now) shown.old (locating.located_in_one viewer.now.who.now name.now whole.now oid)) }
+    ensures shown { OnlyFinds shown.old shown.new result }
 {
     let object = see(viewer.known, oid)?;
     by_word(viewer, shown, name, whole, oid, object)
 }
 
 // In the first object from the left that has the name: containers before the context.
-#[tactic(auto, unfolding(crate::specs::Names::searched))]
-fn search(
-    viewer: &Viewer<'_>,
+#[tactic(auto, unfolding(crate::specs::Locating::located_among))]
+fn search<'k>(
+    viewer: &Viewer<'_, 'k>,
     shown: &mut Showing,
     name: &str,
     whole: &Wrapped,
-) -> Result<Option<Val>, NameRefusal>
-    ensures is { Shows told (λ v. v) shown.new result
-        (looked (objects viewer.now.known.now) shown.old (spec.searched viewer.now.who.now name.now whole.now whole.now)) }
-    ensures shown { OnlyHits shown.old shown.new result }
+) -> Result<Option<Hit<'k>>, NameRefusal>
+    ensures is { Shows told hits shown.new result
+        (looked (objects viewer.now.known.now) shown.old (locating.located_among viewer.now.who.now name.now whole.now whole.now)) }
+    ensures shown { OnlyFinds shown.old shown.new result }
 {
     let mut left = whole.order();
     while let Some((oid, others)) = left.split_first() {
@@ -299,20 +326,38 @@ fn search(
     Ok(None)
 }
 
-/// The value of a name in an object that was reached through others: in the object itself, or else in the first of
+/// What a name leads to in an object that was reached through others: in the object itself, or else in the first of
 /// those that has it.
-#[tactic(auto, unfolding(crate::specs::Names::in_object))]
-pub(crate) fn in_object(
-    viewer: &Viewer<'_>,
+#[tactic(auto, unfolding(crate::specs::Locating::located_in))]
+pub(crate) fn in_object<'k>(
+    viewer: &Viewer<'_, 'k>,
     shown: &mut Showing,
     name: &str,
     whole: &Wrapped,
-) -> Result<Option<Val>, NameRefusal>
-    ensures is { Shows told (λ v. v) shown.new result (looked (objects viewer.now.known.now) shown.old (spec.in_object viewer.now.who.now whole.now name.now)) }
-    ensures shown { OnlyHits shown.old shown.new result }
+) -> Result<Option<Hit<'k>>, NameRefusal>
+    ensures is { Shows told hits shown.new result
+        (looked (objects viewer.now.known.now) shown.old (locating.located_in viewer.now.who.now whole.now name.now)) }
+    ensures shown { OnlyFinds shown.old shown.new result }
 {
     if name.as_bytes().starts_with(b"_") {
         return Ok(None);
     }
     search(viewer, shown, name, whole)
+}
+
+/// The value of what a name leads to: children are reached through their wrapper.
+#[tactic(auto, unfolding(crate::specs::Locating::all_of))]
+pub(crate) fn all_of(
+    alloc: Global,
+    known: &Known,
+    hit: Option<Hit<'_>>,
+) -> Result<Option<Val>, NameRefusal>
+    ensures is { (shown : List ShownObject) → Shows told (λ v. v) shown result (looked (objects known.now) shown (locating.all_of (hits hit.entry))) }
+    ensures shown { (former present : List ShownObject) → OnlyFinds {E = Refusal} former present (Ok hit.entry) → OnlyHits former present result }
+{
+    match hit {
+        None => Ok(None),
+        Some(Hit::Found(value)) => Ok(Some(value)),
+        Some(Hit::Children(whole, children)) => all_reached(alloc, known, &whole, children),
+    }
 }

@@ -1,8 +1,11 @@
-ghost use Rattle.std.specs.Prelude.{◌≡◌, ◌++◌, ◌∷◌, [], true, false, nat_eq, OnOk, OnErr};
+ghost use Rattle.std.specs.Prelude.{◌≡◌, ◌++◌, ◌∷◌, ℕ, [], take, true, false, nat_eq, OnOk, OnErr};
+ghost use Rattle.std.specs.BTreeSet.{contains};
 ghost use Rattle.std.specs.List.{list_any};
+ghost use Rattle.std.specs.Ordering.{nat_cmp};
 ghost use Rattle.evaluator.specs.declared.reply.Shown.{Shown as ShownObject};
 ghost use Rattle.permissions.specs.declared.who.Who.{Who as User};
 ghost use Rattle.namespace.specs.Looks as looks;
+ghost use Rattle.namespace.specs.Once.{AreOnce};
 ghost use Rattle.namespace.specs.Told.{OnlyAnswers};
 
 use evaluator::{Shown, ShownList};
@@ -10,6 +13,7 @@ use permissions::GrantedRole;
 use std::alloc::Global;
 use std::collections::BTreeSet;
 use std::marker::Model;
+use std::mem;
 use zbase::{Memory, Oid};
 
 /// The objects that a page shows, each once, in the order of their first uses. A set tells whether one is among them, so
@@ -21,17 +25,19 @@ pub(crate) struct Showing {
 }
 
 impl Model for Showing {
-    ghost use Rattle.std.specs.Prelude.{◌≡◌, ℕ, List, nat_eq};
+    ghost use Rattle.std.specs.Prelude.{◌≡◌, ℕ, List, [], nat_eq};
     ghost use Rattle.std.specs.List.{list_any};
     ghost use Rattle.std.specs.Ordering.{nat_cmp};
     ghost use Rattle.std.specs.BTreeSet.{contains};
     ghost use Rattle.evaluator.specs.declared.reply.Shown.{Shown as ShownObject};
+    ghost use Rattle.namespace.specs.Once.{AreOnce};
 
     ghost Value = { List ShownObject };
 
     ghost view = { λ s. s.list };
 
-    ghost invariant = { λ s. (o : ℕ) → contains nat_cmp s.oids o ≡ list_any (λ (x : ShownObject). nat_eq x.oid o) s.list };
+    ghost invariant = { λ s. ((o : ℕ) → contains nat_cmp s.oids o ≡ list_any (λ (x : ShownObject). nat_eq x.oid o) s.list)
+        × AreOnce [] s.list };
 }
 
 // Adds an object to a list.
@@ -46,6 +52,21 @@ fn push_shown(
 {
     let role = role.into_text(alloc)?;
     list.push(Shown { oid, role })
+}
+
+// Takes away the last objects, so that so many are left, and their ids.
+fn cut_back(list: &mut Vec<Shown>, oids: &mut BTreeSet<u64>, count: usize)
+    requires are { (o : ℕ) → contains nat_cmp oids.old o ≡ list_any (λ (x : ShownObject). nat_eq x.oid o) list.old.items }
+    requires once { AreOnce [] list.old.items }
+    ensures list { list.new.items ≡ take count list.old.items }
+    ensures are { (o : ℕ) → contains nat_cmp oids.new o ≡ list_any (λ (x : ShownObject). nat_eq x.oid o) list.new.items }
+    ensures once { AreOnce [] list.new.items }
+{
+    'list: while list.len() > count {
+        if let Some(last) = list.pop() {
+            oids.remove(&last.oid.0);
+        }
+    }
 }
 
 impl Showing {
@@ -96,5 +117,15 @@ impl Showing {
             self.oids.remove(&oid.0);
         }
         added
+    }
+
+    /// Forgets all objects but the first ones, so many. Takes no memory.
+    pub(crate) fn forget(&mut self, count: usize)
+        ensures { self.new ≡ take count self.old }
+    {
+        let empty = ShownList::new(self.list.alloc());
+        let mut list = mem::replace(&mut self.list, empty).into_vec();
+        cut_back(&mut list, &mut self.oids, count);
+        self.list = ShownList::from_vec(list);
     }
 }

@@ -1,15 +1,20 @@
-ghost use Rattle.std.specs.Prelude.{◌≡◌, ◌<◌, [], None, length, option_map, reverse, OnOk, OnErr, IfOk, IfSome, Ok, Some};
+ghost use Rattle.std.specs.Prelude.{◌≡◌, ◌<◌, List, [], None, length, option_map, reverse, take, OnOk, OnErr, IfOk, IfSome, Ok, Some};
 ghost use Rattle.std.specs.List.{find};
 ghost use Rattle.std.specs.Str.{bytes_eq};
 ghost use Rattle.zknown.specs.Seen.{objects};
 ghost use Rattle.permissions.specs.Verdicts.{or_user};
+ghost use Rattle.evaluator.specs.declared.reply.Shown.{Shown as ShownObject};
+ghost use Rattle.namespace.specs.Hits.{hits, OnlyFinds};
+ghost use Rattle.namespace.specs.Locating as locating;
 ghost use Rattle.namespace.specs.Looks.{looked};
 ghost use Rattle.namespace.specs.Names as spec;
 ghost use Rattle.namespace.specs.Told.{told, OnlyAnswers, OnlyHits, Shows};
 ghost use Rattle.namespace.specs.declared.val.Layer.TheVariants as layer;
 
+use crate::acting::copy_acting;
+use crate::hit::Hit;
 use crate::looks::{offer, view};
-use crate::naming::in_object;
+use crate::naming::{all_of, in_object};
 use crate::refusal::NameRefusal;
 use crate::showing::Showing;
 use crate::val::{Layer, Named, Names, Val};
@@ -24,6 +29,48 @@ use std::mem;
 use zbase::{Memory, Oid, Text};
 use zknown::Known;
 use zobject::Object;
+
+/// The parts of a stack between two evaluations, while what is known becomes more.
+#[derive(Drop)]
+pub struct Resting {
+    alloc: Global,
+    user: Who,
+    acting: Option<Who>,
+    layers: Vec<Layer>,
+    client: Wrapped,
+    request: Names,
+    shown: Showing,
+}
+
+impl Model for Resting {
+    ghost use Rattle.namespace.specs.Names.{Rested};
+
+    ghost Value = { Rested };
+
+    ghost view = { λ s. record {
+      scope = record { user = s.user; acting = s.acting; layers = s.layers.items; client = s.client; request = s.request };
+      shown = s.shown;
+    } };
+}
+
+impl Resting {
+    /// The stack of these parts, over what is known now. Takes no memory.
+    pub fn on<'k>(self, known: &'k Known) -> Stack<'k>
+        ensures { result ≡ record { known = known.now; scope = self.scope; shown = self.shown } }
+    {
+        Stack {
+            alloc: self.alloc,
+            known,
+            user: self.user,
+            acting: self.acting,
+            layers: self.layers,
+            client: self.client,
+            request: self.request,
+            shown: self.shown,
+            viewed: None,
+        }
+    }
+}
 
 /// The names of a page: layers that are pushed and taken away again, a client and the request's values, for a user. It
 /// keeps the list of the objects that were shown, and its allocator.
@@ -74,24 +121,26 @@ fn named<'a>(names: &'a [Named], name: &str) -> Option<&'a Named>
     names.iter().find(|named| named.name.as_str() == name)
 }
 
-fn value_in(names: &[Named], name: &str) -> Result<Option<Val>, Memory>
-    ensures { IfOk result (λ val. val ≡ spec.value_in name.now names.now) }
+fn value_in<'k>(names: &[Named], name: &str) -> Result<Option<Hit<'k>>, Memory>
+    ensures is { IfOk result (λ hit. hits hit ≡ locating.found_of (spec.value_in name.now names.now)) }
+    ensures shown { (shown : List ShownObject) → OnlyFinds shown shown result }
 {
     match named(names, name) {
-        Some(named) => Ok(Some(named.val.copy()?)),
+        Some(named) => Ok(Some(Hit::Found(named.val.copy()?))),
         None => Ok(None),
     }
 }
 
-#[tactic(auto, unfolding(crate::specs::Names::in_layer))]
-fn in_layer(
-    viewer: &Viewer<'_>,
+#[tactic(auto, unfolding(crate::specs::Locating::located_in_layer))]
+fn in_layer<'k>(
+    viewer: &Viewer<'_, 'k>,
     shown: &mut Showing,
     name: &str,
     layer: &Layer,
-) -> Result<Option<Val>, NameRefusal>
-    ensures is { Shows told (λ v. v) shown.new result (looked (objects viewer.now.known.now) shown.old (spec.in_layer viewer.now.who.now name.now layer.now)) }
-    ensures shown { OnlyHits shown.old shown.new result }
+) -> Result<Option<Hit<'k>>, NameRefusal>
+    ensures is { Shows told hits shown.new result
+        (looked (objects viewer.now.known.now) shown.old (locating.located_in_layer viewer.now.who.now name.now layer.now)) }
+    ensures shown { OnlyFinds shown.old shown.new result }
 {
     match layer {
         Layer::Names(names) => Ok(value_in(names.as_slice(), name)?),
@@ -100,16 +149,16 @@ fn in_layer(
 }
 
 // In the newest of these layers that has the name; the oldest comes first in the list.
-#[tactic(auto, unfolding(crate::specs::Names::in_layers))]
-fn in_layers(
-    viewer: &Viewer<'_>,
+#[tactic(auto, unfolding(crate::specs::Locating::located_in_layers))]
+fn in_layers<'k>(
+    viewer: &Viewer<'_, 'k>,
     shown: &mut Showing,
     name: &str,
     layers: &[Layer],
-) -> Result<Option<Val>, NameRefusal>
-    ensures is { Shows told (λ v. v) shown.new result
-        (looked (objects viewer.now.known.now) shown.old (spec.in_layers viewer.now.who.now name.now (reverse layers.now))) }
-    ensures shown { OnlyHits shown.old shown.new result }
+) -> Result<Option<Hit<'k>>, NameRefusal>
+    ensures is { Shows told hits shown.new result
+        (looked (objects viewer.now.known.now) shown.old (locating.located_in_layers viewer.now.who.now name.now (reverse layers.now))) }
+    ensures shown { OnlyFinds shown.old shown.new result }
 {
     let mut left = layers;
     while let Some((layer, older)) = left.split_last() {
@@ -123,17 +172,17 @@ fn in_layers(
 }
 
 // In the client, and then among the request's values.
-#[tactic(auto, using(crate::proofs::Steps::stops), unfolding(crate::specs::Names::in_base))]
-fn in_base(
-    viewer: &Viewer<'_>,
+#[tactic(auto, using(crate::proofs::Steps::stops), unfolding(crate::specs::Locating::located_in_base))]
+fn in_base<'k>(
+    viewer: &Viewer<'_, 'k>,
     shown: &mut Showing,
     name: &str,
     client: &Wrapped,
     request: &[Named],
-) -> Result<Option<Val>, NameRefusal>
-    ensures is { Shows told (λ v. v) shown.new result
-        (looked (objects viewer.now.known.now) shown.old (spec.in_base viewer.now.who.now name.now client.now request.now)) }
-    ensures shown { OnlyHits shown.old shown.new result }
+) -> Result<Option<Hit<'k>>, NameRefusal>
+    ensures is { Shows told hits shown.new result
+        (looked (objects viewer.now.known.now) shown.old (locating.located_in_base viewer.now.who.now name.now client.now request.now)) }
+    ensures shown { OnlyFinds shown.old shown.new result }
 {
     let hit = in_object(viewer, shown, name, client)?;
     if hit.is_some() {
@@ -143,18 +192,18 @@ fn in_base(
 }
 
 // In the newest layer that has the name, or else in the client, and then among the request's values.
-#[tactic(auto, using(crate::proofs::Steps::stops), unfolding(crate::specs::Names::named_for))]
-fn find_in(
-    viewer: &Viewer<'_>,
+#[tactic(auto, using(crate::proofs::Steps::stops), unfolding(crate::specs::Locating::located_for))]
+fn locate_in<'k>(
+    viewer: &Viewer<'_, 'k>,
     shown: &mut Showing,
     name: &str,
     layers: &[Layer],
     client: &Wrapped,
     request: &[Named],
-) -> Result<Option<Val>, NameRefusal>
-    ensures is { Shows told (λ v. v) shown.new result
-        (looked (objects viewer.now.known.now) shown.old (spec.named_for viewer.now.who.now name.now layers.now client.now request.now)) }
-    ensures shown { OnlyHits shown.old shown.new result }
+) -> Result<Option<Hit<'k>>, NameRefusal>
+    ensures is { Shows told hits shown.new result
+        (looked (objects viewer.now.known.now) shown.old (locating.located_for viewer.now.who.now name.now layers.now client.now request.now)) }
+    ensures shown { OnlyFinds shown.old shown.new result }
 {
     let hit = in_layers(viewer, shown, name, layers)?;
     if hit.is_some() {
@@ -227,16 +276,23 @@ impl<'k> Stack<'k> {
         mem::replace(&mut self.acting, acting)
     }
 
-    /// The value of a name: in the layers from the newest, then in the client, then among the request's values. None
+    /// In whose place later verdicts are taken for someone else, if they are.
+    pub fn acting(&self) -> Result<Option<Who>, Memory>
+        ensures { IfOk result (λ acting. acting ≡ self.now.scope.acting) }
+    {
+        copy_acting(self.acting.as_ref())
+    }
+
+    /// What a name leads to: in the layers from the newest, then in the client, then among the request's values. None
     /// exactly where none of them has it.
     ///
-    /// A refusal is that of the first object or permission that is wanted on this way. Only a hit shows an object: after a
-    /// refusal, want of memory included, the stack is what it was.
-    pub fn find(&mut self, name: &str) -> Result<Option<Val>, NameRefusal>
-        ensures is { Shows told (λ v. v) self.new.shown result (looked (objects self.old.known) self.old.shown (spec.named self.old.scope name.now)) }
+    /// A refusal is that of the first object or permission that is wanted on this way. Only a value shows an object: after
+    /// a refusal, want of memory included, the stack is what it was.
+    pub fn locate(&mut self, name: &str) -> Result<Option<Hit<'k>>, NameRefusal>
+        ensures is { Shows told hits self.new.shown result (looked (objects self.old.known) self.old.shown (locating.located self.old.scope name.now)) }
         ensures known { self.new.known ≡ self.old.known }
         ensures scope { self.new.scope ≡ self.old.scope }
-        ensures shown { OnlyHits self.old.shown self.new.shown result }
+        ensures shown { OnlyFinds self.old.shown self.new.shown result }
     {
         let viewer = Viewer {
             alloc: self.alloc,
@@ -245,7 +301,7 @@ impl<'k> Stack<'k> {
         };
         let layers = self.layers.as_slice();
         let request = self.request.as_slice();
-        find_in(
+        locate_in(
             &viewer,
             &mut self.shown,
             name,
@@ -255,13 +311,32 @@ impl<'k> Stack<'k> {
         )
     }
 
-    /// The value of a name in an object. None exactly where the object hasn't it.
-    pub fn look(&mut self, object: &Wrapped, name: &str) -> Result<Option<Val>, NameRefusal>
-        ensures is { Shows told (λ v. v) self.new.shown result
-            (looked (objects self.old.known) self.old.shown (spec.in_object (spec.whose self.old.scope) object.now name.now)) }
+    /// The value of a name: what it leads to, with the children of a folder reached.
+    ///
+    /// A refusal is that of the first object or permission that is wanted on this way. Only a hit shows an object: after a
+    /// refusal, want of memory included, the stack is what it was.
+    #[tactic(auto, using(crate::proofs::Steps::stops))]
+    pub fn find(&mut self, name: &str) -> Result<Option<Val>, NameRefusal>
+        ensures is { Shows told (λ v. v) self.new.shown result (looked (objects self.old.known) self.old.shown (spec.named self.old.scope name.now)) }
         ensures known { self.new.known ≡ self.old.known }
         ensures scope { self.new.scope ≡ self.old.scope }
         ensures shown { OnlyHits self.old.shown self.new.shown result }
+    {
+        let hit = self.locate(name)?;
+        all_of(self.alloc, self.known, hit)
+    }
+
+    // What a name leads to in an object.
+    fn locate_within(
+        &mut self,
+        object: &Wrapped,
+        name: &str,
+    ) -> Result<Option<Hit<'k>>, NameRefusal>
+        ensures is { Shows told hits self.new.shown result
+            (looked (objects self.old.known) self.old.shown (locating.located_in (spec.whose self.old.scope) object.now name.now)) }
+        ensures known { self.new.known ≡ self.old.known }
+        ensures scope { self.new.scope ≡ self.old.scope }
+        ensures shown { OnlyFinds self.old.shown self.new.shown result }
     {
         let viewer = Viewer {
             alloc: self.alloc,
@@ -269,6 +344,19 @@ impl<'k> Stack<'k> {
             who: whose(&self.user, self.acting.as_ref()),
         };
         in_object(&viewer, &mut self.shown, name, object)
+    }
+
+    /// The value of a name in an object. None exactly where the object hasn't it.
+    #[tactic(auto, using(crate::proofs::Steps::stops))]
+    pub fn look(&mut self, object: &Wrapped, name: &str) -> Result<Option<Val>, NameRefusal>
+        ensures is { Shows told (λ v. v) self.new.shown result
+            (looked (objects self.old.known) self.old.shown (spec.in_object (spec.whose self.old.scope) object.now name.now)) }
+        ensures known { self.new.known ≡ self.old.known }
+        ensures scope { self.new.scope ≡ self.old.scope }
+        ensures shown { OnlyHits self.old.shown self.new.shown result }
+    {
+        let hit = self.locate_within(object, name)?;
+        all_of(self.alloc, self.known, hit)
     }
 
     /// The object with its contents, which the user must be granted to view; it is then shown.
@@ -344,6 +432,29 @@ impl<'k> Stack<'k> {
         ensures { result.now ≡ self.now.shown }
     {
         self.shown.list()
+    }
+
+    /// Forgets all shown objects but the first ones, so many. Takes no memory.
+    pub fn forget(&mut self, count: usize)
+        ensures { self.new ≡ record self.old { shown = take count self.old.shown } }
+    {
+        let _viewed = self.viewed.take();
+        self.shown.forget(count);
+    }
+
+    /// The parts of the stack, without what is known. Takes no memory.
+    pub fn rest(self) -> Resting
+        ensures { result ≡ record { scope = self.entry.scope; shown = self.entry.shown } }
+    {
+        Resting {
+            alloc: self.alloc,
+            user: self.user,
+            acting: self.acting,
+            layers: self.layers,
+            client: self.client,
+            request: self.request,
+            shown: self.shown,
+        }
     }
 
     /// The objects that were shown, in the order of their first use, handed out with what else the stack held dropped. Takes

@@ -32,8 +32,8 @@ pub(crate) fn budget_of(case: &Case) -> Result<Budget, CasesRefusal> {
     }
 }
 
-// The template of a text.
-fn template_of(alloc: Global, oid: Oid, source: &str) -> Result<Tree, RenderRefusal> {
+/// The template of a text.
+pub(crate) fn template_of(alloc: Global, oid: Oid, source: &str) -> Result<Tree, RenderRefusal> {
     match parse(alloc, source) {
         Ok(tree) => Ok(tree),
         Err(DtmlRefusal::Memory) => Err(RenderRefusal::Memory),

@@ -4,6 +4,7 @@
 mod asking;
 mod running;
 mod showing;
+mod stopping;
 
 use cases::run_files;
 use running::RenderCases;
