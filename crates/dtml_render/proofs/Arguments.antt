@@ -12,7 +12,6 @@ use Rattle.acquisition.specs.Acquiring.{first}
 use Rattle.permissions.specs.Verdicts.{proxy_user}
 use Rattle.dtml_parse.specs.Trees as trees
 use Rattle.dtml_parse.specs.Trees.{Arg, Items}
-use Rattle.dtml_parse.specs.TreeReading.{template}
 use Rattle.namespace.specs.declared.val.Single.{Single}
 use Rattle.namespace.specs.declared.val.Val.{Val}
 use Rattle.namespace.specs.declared.val.Val.TheVariants as val
@@ -26,14 +25,13 @@ use Rattle.dtml_values.specs.Told.{told, left_of}
 use Rattle.dtml_values.specs.Values.{Left}
 use Rattle.dtml_values.specs.declared.budget.Budget.{Budget}
 use Rattle.dtml_values.specs.declared.refusal.RenderRefusal.{RenderRefusal}
-use Rattle.dtml_values.specs.declared.refusal.RenderRefusal.TheVariants as refusal
 use Rattle.dtml_render.specs.Frames as frames
 use Rattle.dtml_render.specs.Frames.{AreNested, IsInside, Opened, Place, SourceBegun, Stands, Steps, above, children_of, comes_to, place}
 use Rattle.dtml_render.specs.Rendering.{Inside, State, argument, object_value, scope_in, source_of, source_text, sourced, state}
-use Rattle.dtml_render.specs.Resuming.{Ask, Asking, Frame, Opening, Reaching, Rest, StandsIn, Value, Waiting, after, after_opening, answered, asking, cut, name_in, opening}
+use Rattle.dtml_render.specs.Resuming.{Ask, Asking, Frame, Reaching, Rest, StandsIn, Value, Waiting, after, after_opening, answered, asking, cut, name_in, opening}
 use Rattle.dtml_render.specs.Spots.{ask_frame, waiting_of}
 use Rattle.dtml_render.proofs.Children.{same_children}
-use Rattle.dtml_render.proofs.Passing.{answered_so, gave_up}
+use Rattle.dtml_render.proofs.Passing.{answered_so}
 use Rattle.dtml_render.proofs.Standing.{part_layers}
 use Rattle.dtml_render.proofs.Stepping.{answer_stops, argument_so, argument_stops, children_so, nested_higher, on_way, rest_ends, source_so, source_stops, stands_in}
 

@@ -1,8 +1,6 @@
 -- An item's turn, and the end of a loop, as steps of a page.
-use Rattle.std.proofs.Common.{ℕ, ◌≡◌, ◌≤◌, ◌+◌, ◌∙◌, refl, sym, ap, subst, arith, Bool, true, false, List, [], ◌∷◌, ◌++◌, length, reverse, Result, Ok, Err}
-use Rattle.std.specs.Prelude.{IfErr, OnOk}
+use Rattle.std.proofs.Common.{ℕ, ◌≡◌, ◌≤◌, ◌+◌, ◌∙◌, refl, sym, ap, subst, arith, Bool, true, false, List, [], ◌∷◌, ◌++◌, length, reverse, Ok}
 use Rattle.std.proofs.lemmas.List.{length-append, reverse-append}
-use Rattle.zbase.specs.Query.{Told}
 use Rattle.evaluator.specs.declared.reply.Shown.{Shown}
 use Rattle.zknown.specs.Seen.{objects}
 use Rattle.dtml_parse.specs.Trees.{Items}
@@ -11,10 +9,9 @@ use Rattle.namespace.specs.Looks.{looked}
 use Rattle.namespace.specs.Names.{Scope, Space}
 use Rattle.namespace.specs.Told.{Begins}
 use Rattle.dtml_values.specs.StepLaws.{begins_none}
-use Rattle.dtml_values.specs.Told.{told, left_of}
-use Rattle.dtml_values.specs.Values.{Left}
+use Rattle.dtml_values.specs.Told.{left_of}
 use Rattle.dtml_values.specs.declared.budget.Budget.{Budget}
-use Rattle.dtml_render.specs.Frames.{AreNested, IsInside, Place, Stands, Steps, Turned, TurnedIn, above, place}
+use Rattle.dtml_render.specs.Frames.{AreNested, IsInside, Place, Steps, Turned, TurnedIn, above, place}
 use Rattle.dtml_render.specs.Rendering.{item_scope, state}
 use Rattle.dtml_render.specs.Resuming.{Frame, Rest, Turns, after, may_turn}
 use Rattle.dtml_render.proofs.Standing.{item_layers}

@@ -1,19 +1,18 @@
 -- The blocks and arguments of a node, by its kind.
-use Rattle.std.proofs.Common.{ℕ, zero, suc, ◌≡◌, ◌<◌, ◌∙◌, refl, sym, ap, arith, Bool, List, Option, Some, None}
+use Rattle.std.proofs.Common.{ℕ, zero, suc, ◌≡◌, ◌<◌, ◌∙◌, refl, sym, ap, arith, Bool, List, Option}
 use Rattle.dtml_parse.specs.Trees as trees
 use Rattle.dtml_parse.specs.Trees.{Item, Items, Otherwise}
-use Rattle.dtml_parse.specs.Views.{arg_view, arm_list_view, arms_view, bounds_view, marks_view, node_view, otherwise_view, view}
+use Rattle.dtml_parse.specs.Views.{arg_view, arm_list_view, arms_view, bounds_view, node_view, otherwise_view, view}
 use Rattle.dtml_parse.specs.ViewLaws.{comment_view, if_view, let_view, loop_view, unless_view, with_view}
 use Rattle.dtml_parse.specs.declared.tree.Arg.{Arg}
 use Rattle.dtml_parse.specs.declared.tree.Arm.{Arm}
 use Rattle.dtml_parse.specs.declared.tree.Arms.{Arms}
 use Rattle.dtml_parse.specs.declared.tree.Binding.{Binding}
-use Rattle.dtml_parse.specs.declared.tree.Node.{Call, Node, Plain, Var}
+use Rattle.dtml_parse.specs.declared.tree.Node.{Node}
 use Rattle.dtml_parse.specs.declared.tree.Node.TheViews.{Comment, If, Let, Loop, Unless, With}
 use Rattle.dtml_parse.specs.declared.tree.Tree.{Tree}
-use Rattle.dtml_parse.specs.declared.tree.VarTag.{VarTag}
 use Rattle.dtml_render.specs.Frames.{argument}
-use Rattle.dtml_render.specs.Spots.{arm_asking, arm_block, asking_in, block_in, bound_asking, else_block, loop_block}
+use Rattle.dtml_render.specs.Spots.{arm_block, asking_in, block_in, else_block, loop_block}
 
 -- ---- what a node is seen as
 

@@ -1,20 +1,18 @@
 -- The steps of a page, as its functions come to them.
-use Rattle.std.proofs.Common.{ℕ, suc, ◌≡◌, ◌≤◌, ◌∙◌, refl, sym, ap, subst, arith, Bool, List, [], ◌∷◌, length, Option, Some, None, Result, Ok, Err}
+use Rattle.std.proofs.Common.{ℕ, suc, ◌≡◌, ◌≤◌, ◌∙◌, refl, sym, ap, subst, arith, List, ◌∷◌, length, Option, Some, None, Ok, Err}
 use Rattle.zbase.specs.Query.{Told}
 use Rattle.evaluator.specs.declared.reply.Shown.{Shown}
 use Rattle.zobject.specs.declared.object.Object.{Object}
 use Rattle.zknown.specs.Seen.{Seen, objects}
-use Rattle.dtml_parse.specs.Trees as trees
 use Rattle.dtml_parse.specs.Trees.{Item, Items}
 use Rattle.namespace.specs.GoingOn.{GoesOn}
 use Rattle.namespace.specs.Looks.{looked}
 use Rattle.namespace.specs.Names.{Scope, Space}
 use Rattle.dtml_values.specs.StepLaws.{begins_none}
 use Rattle.dtml_values.specs.Told.{told, left_of}
-use Rattle.dtml_values.specs.Values.{Left}
 use Rattle.dtml_values.specs.declared.budget.Budget.{Budget}
 use Rattle.dtml_values.specs.declared.refusal.RenderRefusal.{RenderRefusal}
-use Rattle.dtml_render.specs.Frames.{AreNested, IsInside, Leads, Stands, Steps, above, place}
+use Rattle.dtml_render.specs.Frames.{AreNested, IsInside, Leads, Steps, above, place}
 use Rattle.dtml_render.specs.Rendering.{State, state}
 use Rattle.dtml_render.specs.Resuming.{Frame, Opening, Rest, after, after_opening, item_opening}
 use Rattle.dtml_render.specs.Spots.{items_from, node_at}

@@ -1,5 +1,5 @@
 -- Pages that stop, and pages that go on from a further place.
-use Rattle.std.proofs.Common.{ℕ, ◌≡◌, ◌≤◌, ◌∙◌, refl, sym, ap, subst, arith, List, length, ◌⊎◌, Option, Result, Ok, Err}
+use Rattle.std.proofs.Common.{ℕ, ◌≡◌, ◌≤◌, ◌∙◌, sym, ap, subst, arith, List, length, ◌⊎◌, Option, Result, Ok, Err}
 use Rattle.std.specs.Prelude.{IfErr, OnOk}
 use Rattle.zbase.specs.Query.{Halt, Told}
 use Rattle.evaluator.specs.declared.reply.Shown.{Shown}
@@ -10,7 +10,7 @@ use Rattle.namespace.specs.GoingOn.{GoesOn, goes_further, goes_not}
 use Rattle.namespace.specs.Looks.{Fault, looked}
 use Rattle.namespace.specs.Names.{Scope, Space}
 use Rattle.namespace.specs.Told.{Begins}
-use Rattle.dtml_values.specs.StepLaws.{begins_none, begins_on}
+use Rattle.dtml_values.specs.StepLaws.{begins_on}
 use Rattle.dtml_values.specs.Told.{told, left_of}
 use Rattle.dtml_values.specs.Values.{Left}
 use Rattle.dtml_values.specs.declared.budget.Budget.{Budget}

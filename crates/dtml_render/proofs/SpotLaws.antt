@@ -1,12 +1,12 @@
 -- Nodes, blocks and arguments by their numbers.
-use Rattle.std.proofs.Common.{ℕ, zero, suc, ◌≡◌, ◌∙◌, ◌<◌, ◌≤◌, ◌+◌, refl, sym, ap, ap₂, List, [], ◌∷◌, ◌++◌, length, drop, map, get_or, Option, Some, None, arith}
+use Rattle.std.proofs.Common.{ℕ, zero, suc, ◌≡◌, ◌∙◌, ◌<◌, ◌≤◌, refl, sym, ap, List, [], ◌∷◌, ◌++◌, length, drop, get_or, Option, Some, None, arith}
 use Rattle.dtml_parse.specs.Trees as trees
 use Rattle.dtml_parse.specs.Trees.{Arms, Bound, Item, Items, Otherwise}
-use Rattle.dtml_parse.specs.Views.{arg_view, arm_list_view, bound_view, bounds_view, list_view, node_view, otherwise_view, view}
+use Rattle.dtml_parse.specs.Views.{arg_view, arm_list_view, bound_view, bounds_view, list_view, node_view, view}
 use Rattle.dtml_parse.specs.declared.tree.Arm.{Arm}
 use Rattle.dtml_parse.specs.declared.tree.Binding.{Binding}
 use Rattle.dtml_parse.specs.declared.tree.Node.{Node}
-use Rattle.dtml_render.specs.Resuming.{Asking, ToBind, ToChoose, asking}
+use Rattle.dtml_render.specs.Resuming.{ToBind, ToChoose, asking}
 use Rattle.dtml_render.specs.Frames.{argument}
 use Rattle.dtml_render.specs.Spots.{arm_asking, arm_block, arms_from, block_at, block_under, bound_asking, else_block, items_from, node_at}
 

@@ -10,12 +10,12 @@ use Rattle.namespace.specs.declared.val.Layer.{Layer}
 use Rattle.namespace.specs.declared.val.Layer.TheVariants as layer
 use Rattle.namespace.specs.declared.val.Single.{Single}
 use Rattle.namespace.specs.declared.val.Single.TheVariants as single
-use Rattle.namespace.specs.Names.{Scope, act, push}
+use Rattle.namespace.specs.Names.{Scope, act}
 use Rattle.zobject.specs.declared.object.Part2.{Part2}
 use Rattle.zobject.specs.declared.object.Part2.TheVariants as parts
 use Rattle.dtml_render.specs.declared.frames.Frame.{Frame as FrameCode}
 use Rattle.dtml_render.specs.Frames.{AreNested, IsInside, asked_opening, frame_view, frames_view}
-use Rattle.dtml_render.specs.Rendering.{State, item_names, item_pushed, item_scope, pushed_if}
+use Rattle.dtml_render.specs.Rendering.{State, item_names, item_scope, pushed_if}
 use Rattle.dtml_render.specs.Resuming.{Ask, Asking, Frame, Rest, Turning, Turns, Within, after, after_opening, cut, depth_of, under}
 use Rattle.dtml_render.specs.Spots.{ask_frame}
 use Rattle.dtml_render.proofs.Stepping.{nested_higher}

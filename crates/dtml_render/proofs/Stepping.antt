@@ -1,6 +1,5 @@
 -- One step of a page on its way, in the names of the code: the stack stands under the layers of the innermost frame.
-use Rattle.std.proofs.Common.{ℕ, suc, ◌≡◌, ◌≤◌, ◌+◌, ◌∙◌, refl, sym, ap, subst, arith, Bool, true, false, List, [], ◌∷◌, ◌++◌, length, take, inl, inr, ◌⊎◌, Option, Some, None, Result, Ok, Err}
-use Rattle.std.proofs.lemmas.List.{length-append, take-append-le}
+use Rattle.std.proofs.Common.{ℕ, suc, ◌≡◌, ◌≤◌, ◌+◌, ◌∙◌, refl, sym, ap, subst, arith, Bool, true, false, List, [], ◌∷◌, length, inl, inr, ◌⊎◌, Option, Some, Result, Ok, Err}
 use Rattle.std.specs.Prelude.{IfSome}
 use Rattle.zbase.specs.Query.{Halt, Need, Told}
 use Rattle.zbase.specs.QueryLaws.{run_needs}
@@ -13,7 +12,6 @@ use Rattle.permissions.specs.declared.who.Who.{Who}
 use Rattle.dtml_parse.specs.Trees as trees
 use Rattle.dtml_parse.specs.Trees.{Arg, Item, Items}
 use Rattle.dtml_parse.specs.TreeReading.{template}
-use Rattle.namespace.specs.declared.val.Layer.{Layer}
 use Rattle.namespace.specs.declared.val.Single.{Single}
 use Rattle.namespace.specs.declared.val.Val.{Val}
 use Rattle.namespace.specs.declared.val.Val.TheVariants as val
@@ -27,10 +25,10 @@ use Rattle.dtml_values.specs.Values.{Left, spend_tag}
 use Rattle.dtml_values.specs.Told.{told}
 use Rattle.dtml_values.specs.declared.refusal.RenderRefusal.{RenderRefusal}
 use Rattle.dtml_values.specs.declared.refusal.RenderRefusal.TheVariants as refusal
-use Rattle.dtml_render.specs.Frames.{AreNested, IfOnWay, IsInside}
+use Rattle.dtml_render.specs.Frames.{AreNested, IfOnWay}
 use Rattle.dtml_render.specs.Rendering.{State, argument, as_text, counted_turn, each, has_turn, item_scope, item_text, items_text, object_rendered, object_value, rendered, rendered_if, rendered_or, scope_in, source_of, source_text, source_value, sourced, state, turn_text}
-use Rattle.dtml_render.specs.Resuming.{Ask, Asking, Frame, Opening, Reaching, Rest, StandsIn, Turns, Value, Waiting, after, and_left, after_opening, answered, asking, block_of, cut, depth_of, item_opening, may_turn, name_in, opened, opening, turn_with, under}
-use Rattle.dtml_render.specs.ResumeLaws.{answered_is, argument_goes, block_ends, children_end, children_open, cut_deep, cut_twice, item_is, node_goes, source_opens, turn_begins, turn_is, turn_passes, turns_end, value_ends, whole_cut}
+use Rattle.dtml_render.specs.Resuming.{Ask, Asking, Frame, Opening, Reaching, Rest, StandsIn, Turns, Value, Waiting, after, and_left, after_opening, answered, asking, block_of, cut, depth_of, item_opening, may_turn, name_in, opened, opening, turn_with}
+use Rattle.dtml_render.specs.ResumeLaws.{answered_is, argument_goes, block_ends, children_end, children_open, cut_twice, item_is, node_goes, source_opens, turn_begins, turn_is, turn_passes, turns_end, value_ends, whole_cut}
 
 -- ---- what never looks
 

@@ -1,14 +1,14 @@
 -- Texts that are put, layers that are cut away, and sources.
-use Rattle.std.proofs.Common.{ℕ, suc, zero, ◌≡◌, ◌∙◌, ◌<◌, ◌-◌, sym, ap, subst, length, drop, take, List, [], ◌∷◌, ◌++◌, Option, Result, Ok, Err, arith}
+use Rattle.std.proofs.Common.{ℕ, suc, zero, ◌≡◌, ◌∙◌, ◌<◌, ◌-◌, sym, ap, length, drop, take, List, ◌++◌, Option, Result, Ok, Err, arith}
 use Rattle.std.proofs.lemmas.List.{length-take-le, take-append-le, take-append-drop}
 use Rattle.std.proofs.Math.Seq.{take-length}
-use Rattle.zbase.specs.Query.{Told, Halt, Cause}
+use Rattle.zbase.specs.Query.{Cause}
 use Rattle.evaluator.specs.declared.reply.Shown.{Shown}
 use Rattle.zobject.specs.declared.object.Object.{Object}
 use Rattle.zknown.specs.Seen.{Seen}
 use Rattle.dtml_parse.specs.Trees.{Items}
 use Rattle.namespace.specs.declared.val.Layer.{Layer}
-use Rattle.namespace.specs.Looks.{Looks, Done, Stops, Of, BadSource, Runaway, Renders, Fault, looked}
+use Rattle.namespace.specs.Looks.{Looks, Done, Stops, Of, BadSource, Runaway, Renders, looked}
 use Rattle.namespace.specs.LookLaws.{looked_goes, looked_passes}
 use Rattle.namespace.specs.Names.{Scope, Space, popped}
 use Rattle.namespace.specs.Told.{Shows}

@@ -1,6 +1,5 @@
 -- A page goes on from frame to frame.
 use Rattle.std.proofs.Common.{ℕ, ◌≡◌, ◌≤◌, ◌+◌, ◌∙◌, refl, sym, ap, subst, arith, List, [], ◌∷◌, ◌++◌, length, take, Option, Result, Ok, Err}
-use Rattle.std.specs.Prelude.{IfErr, OnOk}
 use Rattle.std.proofs.lemmas.List.{append-nil, length-append, length-take-le, take-append-le, take_all}
 use Rattle.zbase.specs.Query.{Told}
 use Rattle.evaluator.specs.declared.reply.Shown.{Shown}
@@ -9,7 +8,7 @@ use Rattle.zknown.specs.Seen.{Seen, objects}
 use Rattle.permissions.specs.declared.who.Who.{Who}
 use Rattle.dtml_parse.specs.Trees.{Items}
 use Rattle.namespace.specs.declared.val.Layer.{Layer}
-use Rattle.namespace.specs.GoingOn.{GoesOn, goes_further}
+use Rattle.namespace.specs.GoingOn.{goes_further}
 use Rattle.namespace.specs.Looks.{looked}
 use Rattle.namespace.specs.Names.{Scope, Space, act}
 use Rattle.namespace.specs.Told.{Begins}
@@ -18,7 +17,7 @@ use Rattle.dtml_values.specs.Told.{told, left_of}
 use Rattle.dtml_values.specs.declared.budget.Budget.{Budget}
 use Rattle.dtml_values.specs.declared.refusal.RenderRefusal.{RenderRefusal}
 use Rattle.dtml_values.specs.declared.refusal.RenderRefusal.TheVariants as refusal
-use Rattle.dtml_render.specs.Frames.{AreNested, IfOnWay, IsInside, IsStanding, Leads, Place, Stands, Steps, above, comes_to, place, rest_of}
+use Rattle.dtml_render.specs.Frames.{IfOnWay, IsInside, IsStanding, Leads, Place, Stands, Steps, above, comes_to, place, rest_of}
 use Rattle.dtml_render.specs.Rendering.{state}
 use Rattle.dtml_render.specs.Resuming.{Frame, Rest, after, cut, depth_of}
 use Rattle.dtml_render.proofs.Passing.{further_so}
@@ -39,9 +38,9 @@ module _ (space inner : Space) (f : Frame) (frames : List Frame) (budget : Budge
       let same = cut_length in
       further_so space inner (above f (place frames budget out space)) (above f (place frames budget out inner)) q result known
       (λ later grows.
-          ap (looked later space.shown) (sym (frame_cut f frames budget.renders space.scope (state out (left_of budget))))
-          ∙ ap (λ (c : Scope). looked later space.shown (after (f ∷ frames) budget.renders c (state out (left_of budget)))) (sym scoped)
-          ∙ ap (λ (s : List Shown). looked later s (after (f ∷ frames) budget.renders inner.scope (state out (left_of budget)))) (sym shown))
+      ap (looked later space.shown) (sym (frame_cut f frames budget.renders space.scope (state out (left_of budget))))
+      ∙ ap (λ (c : Scope). looked later space.shown (after (f ∷ frames) budget.renders c (state out (left_of budget)))) (sym scoped)
+      ∙ ap (λ (s : List Shown). looked later s (after (f ∷ frames) budget.renders inner.scope (state out (left_of budget)))) (sym shown))
       (begins_none space.shown inner.shown shown)
       (λ base stands. record {
         nested = (omega (arith, same), stands.nested.1);

@@ -1,18 +1,14 @@
 -- What an argument comes to.
-use Rattle.std.proofs.Common.{ℕ, ◌≡◌, ◌∙◌, refl, sym, ap, subst, Bool, true, false, List, [], ◌∷◌, Option, Some, None, Result, Ok, Err}
+use Rattle.std.proofs.Common.{ℕ, ◌≡◌, ◌∙◌, sym, ap, subst, true, false, List, Option, Some, None, Result, Ok, Err}
 use Rattle.std.specs.Prelude.{IfErr, IfOk}
 use Rattle.zbase.specs.Query.{Cause, Halt, Told}
 use Rattle.evaluator.specs.declared.reply.Shown.{Shown}
-use Rattle.zobject.specs.declared.object.Child.{Child}
 use Rattle.zobject.specs.declared.object.Object.{Object}
 use Rattle.zknown.specs.Seen.{Seen, objects}
 use Rattle.acquisition.specs.Acquiring.{first}
 use Rattle.dtml_expr.specs.Trees as exprs
 use Rattle.dtml_parse.specs.Trees as trees
-use Rattle.namespace.specs.declared.val.Single.{Single}
-use Rattle.namespace.specs.declared.val.Single.TheVariants as single
 use Rattle.namespace.specs.declared.val.Val.{Val}
-use Rattle.namespace.specs.declared.val.Val.TheVariants as val
 use Rattle.namespace.specs.Joining.{then_then}
 use Rattle.namespace.specs.Looks.{Done, Fault, Looks, NoName, Of, looked, ◌>>=◌}
 use Rattle.namespace.specs.LookLaws.{looked_goes, looked_passes}

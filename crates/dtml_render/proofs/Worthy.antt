@@ -14,20 +14,20 @@ use Rattle.namespace.specs.declared.val.Val.TheVariants as val
 use Rattle.namespace.specs.GoingOn.{GoesOn}
 use Rattle.namespace.specs.Looks.{looked}
 use Rattle.namespace.specs.Names.{Scope, Space, act, reach_each, text}
-use Rattle.namespace.specs.Told.{Begins, Shows}
+use Rattle.namespace.specs.Told.{Shows}
 use Rattle.dtml_values.specs.StepLaws.{begins_none}
 use Rattle.dtml_values.specs.Told.{told, left_of}
 use Rattle.dtml_values.specs.Values.{Left}
 use Rattle.dtml_values.specs.declared.budget.Budget.{Budget}
 use Rattle.dtml_values.specs.declared.refusal.RenderRefusal.{RenderRefusal}
-use Rattle.dtml_render.specs.Frames.{AreNested, IsInside, IsStanding, Leads, Opened, Place, Stands, Steps, above, place}
+use Rattle.dtml_render.specs.Frames.{AreNested, IsInside, Leads, Opened, Place, Steps, above, place}
 use Rattle.dtml_render.specs.Rendering.{Inside, argument, put_value, source_text, state}
-use Rattle.dtml_render.specs.Resuming.{Ask, Ended, Frame, Reaching, StandsIn, ToShow, Value, Waiting, after, after_opening, asking, opening}
+use Rattle.dtml_render.specs.Resuming.{Ask, Ended, Frame, Reaching, ToShow, Value, Waiting, after, after_opening, asking, opening}
 use Rattle.dtml_render.proofs.Arguments.{below_frame, stands_below}
 use Rattle.dtml_render.proofs.OpeningLaws.{shown_so, shown_stops}
 use Rattle.dtml_render.proofs.Passing.{answered_so, further_so}
 use Rattle.dtml_render.proofs.Standing.{inside_act}
-use Rattle.dtml_render.proofs.Stepping.{answer_stops, argument_so, nested_higher, on_way, reached_so, reached_stops, reaching_goes, value_so, value_stops}
+use Rattle.dtml_render.proofs.Stepping.{answer_stops, argument_so, on_way, reached_so, reached_stops, reaching_goes, value_so, value_stops}
 
 -- ---- the text of a source is there
 

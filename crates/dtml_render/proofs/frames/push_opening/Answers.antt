@@ -1,9 +1,9 @@
-use Rattle.std.proofs.Common.{ℕ, ◌≡◌, ◌∙◌, refl, sym, ap, List}
-use Rattle.namespace.specs.Names.{Scope, Space}
+use Rattle.std.proofs.Common.{◌∙◌, refl, sym, ap}
+use Rattle.namespace.specs.Names.{Space}
 use Rattle.dtml_render.specs.declared.openings.Opening.{Opening as OpeningCode}
 use Rattle.dtml_render.specs.Frames.{frames_view, layers_of, node_view, opening_view, spot_view}
-use Rattle.dtml_render.specs.Resuming.{Rest, after_opening, under}
-use Rattle.dtml_render.specs.Spots.{ask_frame, asking_under, block_under}
+use Rattle.dtml_render.specs.Resuming.{after_opening}
+use Rattle.dtml_render.specs.Spots.{asking_under, block_under}
 use Rattle.dtml_render.proofs.Standing.{ask_deep, asked_so, nested_more, on_ok, turning_so, within_so}
 use Rattle.dtml_render.proofs.frames.push_opening.Goals as goal
 

@@ -1,23 +1,17 @@
-use Rattle.std.proofs.Common.{ℕ, ◌≡◌, ◌∙◌, refl, sym, ap, subst, length, ◌++◌, [], List, Option, Some, Ok}
-use Rattle.std.proofs.lemmas.Result.{err_from_is_err_and}
-use Rattle.std.specs.Prelude.{OnOk}
+use Rattle.std.proofs.Common.{◌≡◌, ◌∙◌, sym, ap, subst, List, Some, Ok}
 use Rattle.dtml_parse.specs.Trees as trees
 use Rattle.dtml_parse.specs.Trees.{Item}
-use Rattle.dtml_parse.specs.Views.{arg_view, arm_list_view, bounds_view, marks_view, node_view, otherwise_view, view}
+use Rattle.dtml_parse.specs.Views.{arg_view, arm_list_view, bounds_view, marks_view, node_view, view}
 use Rattle.dtml_parse.specs.ViewLaws.{arms_are}
-use Rattle.dtml_parse.specs.declared.tree.Arm.{Arm}
 use Rattle.dtml_parse.specs.declared.tree.Binding.{Binding}
 use Rattle.namespace.specs.Looks.{looked}
 use Rattle.namespace.specs.Told.{Shows}
-use Rattle.dtml_values.specs.Values.{spend_output}
 use Rattle.dtml_values.specs.Told.{told, left_of}
 use Rattle.dtml_render.specs.Frames.{opening_view}
-use Rattle.dtml_render.specs.Rendering.{State, state}
-use Rattle.dtml_render.specs.Resuming.{Asked, Asking, Ended, Opening, ToDoubt, ToEnter, ToLeave, ToRepeat, ToShow, arms_opening, asking, bounds_opening, item_opening, opening, paid}
+use Rattle.dtml_render.specs.Rendering.{state}
+use Rattle.dtml_render.specs.Resuming.{Opening, opening}
 use Rattle.dtml_render.specs.Spots.{asking_in, waiting_of}
 use Rattle.dtml_render.proofs.NodeLaws.{comment_so, if_so, let_so, loop_so, unless_so, with_so}
-use Rattle.zbase.specs.Query.{Told}
-use Rattle.dtml_render.proofs.OpeningLaws.{plain_paid, plain_unpaid}
 use Rattle.dtml_render.proofs.openings.answer_in.Goals as goal
 
 pub returns-in-Var-clause-is : goal.returns-in-Var-clause-is

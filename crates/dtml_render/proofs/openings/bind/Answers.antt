@@ -1,4 +1,4 @@
-use Rattle.std.proofs.Common.{ℕ, suc, ◌+◌, ◌≡◌, ◌≤◌, ◌<◌, ◌∙◌, ◌∷◌, [], ap, sym, subst, length, drop, List, Option, Some, None, arith, Ok}
+use Rattle.std.proofs.Common.{ℕ, suc, ◌+◌, ◌≡◌, ◌∙◌, ◌∷◌, [], ap, sym, subst, drop, List, Option, Some, arith, Ok}
 use Rattle.std.proofs.lemmas.Result.{err_from_is_err_and}
 use Rattle.zbase.specs.Query.{Told}
 use Rattle.dtml_parse.specs.Trees as trees
@@ -10,8 +10,8 @@ use Rattle.namespace.specs.declared.val.Named.{Named}
 use Rattle.dtml_values.specs.Told.{told}
 use Rattle.dtml_render.specs.Frames.{opening_view}
 use Rattle.dtml_render.specs.Rendering.{state}
-use Rattle.dtml_render.specs.Resuming.{Asking, Opening, bounds_opening, name_layer, opening}
-use Rattle.dtml_render.specs.Spots.{bound_asking, waiting_of}
+use Rattle.dtml_render.specs.Resuming.{Asking, Opening, bounds_opening, opening}
+use Rattle.dtml_render.specs.Spots.{waiting_of}
 use Rattle.dtml_render.proofs.OpeningLaws.{bound_so, bound_unmet}
 use Rattle.dtml_render.proofs.SpotLaws.{bound_asks, bound_asks_none}
 use Rattle.dtml_render.proofs.openings.bind.Goals as goal

@@ -1,4 +1,4 @@
-use Rattle.std.proofs.Common.{◌≤◌, ap, sym, length, List, arith}
+use Rattle.std.proofs.Common.{ap, sym, List, arith}
 use Rattle.dtml_parse.specs.Trees.{Bound}
 use Rattle.dtml_render.specs.Frames.{layers_of}
 use Rattle.dtml_render.specs.Resuming.{bounds_opening}

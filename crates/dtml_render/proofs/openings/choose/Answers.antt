@@ -1,4 +1,4 @@
-use Rattle.std.proofs.Common.{ℕ, suc, ◌+◌, ◌≡◌, ◌≤◌, ◌∙◌, ap, sym, subst, length, List, Option, Some, None, arith, Ok}
+use Rattle.std.proofs.Common.{ℕ, suc, ◌+◌, ◌≡◌, ◌∙◌, ap, sym, subst, Option, Some, arith, Ok}
 use Rattle.dtml_parse.specs.Trees as trees
 use Rattle.dtml_parse.specs.Views.{arm_list_view, otherwise_view}
 use Rattle.namespace.specs.Looks.{looked}

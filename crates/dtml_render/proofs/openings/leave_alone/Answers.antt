@@ -1,4 +1,4 @@
-use Rattle.std.proofs.Common.{[], sym, refl}
+use Rattle.std.proofs.Common.{[]}
 use Rattle.std.proofs.lemmas.Result.{err_from_is_err_and}
 use Rattle.dtml_parse.specs.Trees as trees
 use Rattle.dtml_values.specs.Told.{told}

@@ -1,8 +1,7 @@
-use Rattle.std.proofs.Common.{◌∙◌, ap, sym, reverse, List}
+use Rattle.std.proofs.Common.{◌∙◌, ap, reverse, List}
 use Rattle.std.proofs.lemmas.List.{reverse-reverse}
 use Rattle.namespace.specs.declared.val.Single.{Single}
 use Rattle.dtml_render.specs.Resuming.{Turning}
-use Rattle.dtml_render.specs.Rendering.{turned}
 use Rattle.dtml_render.specs.Spots.{block_in}
 use Rattle.dtml_render.proofs.openings.turning.Goals as goal
 

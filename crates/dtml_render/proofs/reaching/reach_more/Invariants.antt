@@ -1,4 +1,4 @@
-use Rattle.std.proofs.Common.{◌≤◌, ◌-◌, List, drop, length}
+use Rattle.std.proofs.Common.{◌-◌, List, drop, length}
 use Rattle.evaluator.specs.declared.reply.Shown.{Shown}
 use Rattle.zknown.specs.Seen.{objects}
 use Rattle.namespace.specs.Names.{reach_each}

@@ -1,15 +1,15 @@
-use Rattle.std.proofs.Common.{ℕ, ◌≡◌, ◌≤◌, ◌∙◌, refl, sym, ap, subst, arith, List, length, Result}
+use Rattle.std.proofs.Common.{ℕ, ◌≡◌, ◌≤◌, ◌∙◌, refl, sym, ap, subst, arith, List, Result}
 use Rattle.evaluator.specs.declared.reply.Shown.{Shown}
 use Rattle.zbase.specs.Query.{Halt}
 use Rattle.zknown.specs.Seen.{objects}
 use Rattle.dtml_parse.specs.Views.{view}
 use Rattle.namespace.specs.Looks.{Fault, looked}
-use Rattle.namespace.specs.Names.{Scope, Space}
+use Rattle.namespace.specs.Names.{Space}
 use Rattle.namespace.specs.Told.{Begins, Shows}
 use Rattle.dtml_values.specs.Values.{Left}
 use Rattle.dtml_values.specs.Told.{told, left_of}
 use Rattle.dtml_values.specs.declared.budget.Budget.{Budget}
-use Rattle.dtml_render.specs.Frames.{IsInside, comes_to, place_of}
+use Rattle.dtml_render.specs.Frames.{comes_to, place_of}
 use Rattle.dtml_render.specs.Rendering.{tree_text}
 use Rattle.dtml_render.specs.ResumeLaws.{begins}
 use Rattle.dtml_render.proofs.PageLaws.{used_so, granted_so, denied_so}

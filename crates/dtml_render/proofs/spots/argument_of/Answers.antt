@@ -1,4 +1,4 @@
-use Rattle.std.proofs.Common.{◌∙◌, refl, ap, sym, subst, None, Some, option_map}
+use Rattle.std.proofs.Common.{◌∙◌, refl, ap, sym, None, Some, option_map}
 use Rattle.dtml_parse.specs.Trees as trees
 use Rattle.dtml_parse.specs.Views.{arg_view, arm_list_view, bounds_view, marks_view, node_view, otherwise_view, view}
 use Rattle.dtml_parse.specs.ViewLaws.{arms_are}

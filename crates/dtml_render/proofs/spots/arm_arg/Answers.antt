@@ -1,4 +1,4 @@
-use Rattle.std.proofs.Common.{◌≤◌, length, arith}
+use Rattle.std.proofs.Common.{arith}
 use Rattle.dtml_render.proofs.SpotLaws.{arm_argument, arm_argument_none}
 use Rattle.dtml_render.proofs.spots.arm_arg.Goals as goal
 

@@ -1,4 +1,4 @@
-use Rattle.std.proofs.Common.{◌≤◌, ◌∙◌, ap, sym, length, arith}
+use Rattle.std.proofs.Common.{◌∙◌, ap, sym, arith}
 use Rattle.dtml_parse.specs.Views.{otherwise_view, view}
 use Rattle.dtml_parse.specs.declared.tree.Arm.{Arm}
 use Rattle.dtml_render.proofs.SpotLaws.{arm_is, arm_none}

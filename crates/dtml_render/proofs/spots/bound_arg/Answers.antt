@@ -1,4 +1,4 @@
-use Rattle.std.proofs.Common.{◌≤◌, ◌∙◌, ap, sym, length, Some, arith}
+use Rattle.std.proofs.Common.{◌∙◌, ap, sym, Some, arith}
 use Rattle.dtml_parse.specs.Views.{arg_view}
 use Rattle.dtml_parse.specs.declared.tree.Binding.{Binding}
 use Rattle.dtml_render.proofs.SpotLaws.{bound_argument, bound_argument_none}

@@ -1,4 +1,4 @@
-use Rattle.std.proofs.Common.{◌≤◌, length, arith}
+use Rattle.std.proofs.Common.{arith}
 use Rattle.dtml_render.proofs.SpotLaws.{node_is, node_none}
 use Rattle.dtml_render.proofs.spots.node_in.Goals as goal
 

@@ -1,9 +1,8 @@
-use Rattle.std.proofs.Common.{ℕ, ◌≡◌, ◌∙◌, refl, ap, subst, true, false, List, Some, Ok}
+use Rattle.std.proofs.Common.{ℕ, ◌≡◌, ◌∙◌, refl, ap, subst, true, List, Some, Ok}
 use Rattle.std.proofs.lemmas.Result.{err_from_is_err_and}
 use Rattle.zbase.specs.Query.{Told}
 use Rattle.zknown.specs.declared.kept.Kept.{Kept}
 use Rattle.zknown.specs.Seen.{objects}
-use Rattle.acquisition.specs.Acquiring.{first}
 use Rattle.namespace.specs.Looks.{looked}
 use Rattle.namespace.specs.Names.{viewing, whose}
 use Rattle.dtml_values.specs.Told.{told}

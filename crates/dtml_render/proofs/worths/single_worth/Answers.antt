@@ -1,4 +1,4 @@
-use Rattle.std.proofs.Common.{rules, ◌≡◌, ◌∙◌, refl, ap, Some, Ok}
+use Rattle.std.proofs.Common.{rules, ◌∙◌, refl, ap, Some, Ok}
 use Rattle.zknown.specs.Seen.{objects}
 use Rattle.namespace.specs.declared.val.Single.TheVariants as single
 use Rattle.namespace.specs.declared.val.Val.TheVariants as val

@@ -1,4 +1,4 @@
-use Rattle.std.proofs.Common.{◌≡◌, ◌∙◌, refl, ap, Some, Ok}
+use Rattle.std.proofs.Common.{◌∙◌, refl, ap, Some, Ok}
 use Rattle.zknown.specs.Seen.{objects}
 use Rattle.namespace.specs.declared.val.Val.TheVariants as val
 use Rattle.dtml_render.specs.Rendering.{rendered_if}

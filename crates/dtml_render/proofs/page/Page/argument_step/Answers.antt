@@ -1,12 +1,9 @@
-use Rattle.std.proofs.Common.{ℕ, ◌≡◌, ◌≤◌, ◌∙◌, refl, sym, ap, subst, arith, List, [], ◌∷◌, length, map, Option, Some, option_map}
+use Rattle.std.proofs.Common.{◌≡◌, ◌∙◌, refl, sym, ap, subst, arith, [], ◌∷◌, length, map, Some, option_map}
 use Rattle.zknown.specs.Seen.{objects}
-use Rattle.dtml_parse.specs.Trees.{Arg}
 use Rattle.dtml_parse.specs.Views.{arg_view}
-use Rattle.namespace.specs.Names.{Scope}
 use Rattle.dtml_values.specs.StepLaws.{begins_none}
 use Rattle.dtml_values.specs.Told.{told, left_of}
 use Rattle.dtml_render.specs.declared.worths.Worth.{Worth}
-use Rattle.dtml_render.specs.declared.worths.Worth.TheVariants as worth
 use Rattle.dtml_render.specs.Frames as view
 use Rattle.dtml_render.specs.Frames.{IsInside, above, children_of, frames_view, place_of}
 use Rattle.dtml_render.specs.Rendering.{source_text}

@@ -1,4 +1,4 @@
-use Rattle.std.proofs.Common.{◌≡◌, ap, subst, sym, ◌∷◌, length, Option, Some}
+use Rattle.std.proofs.Common.{◌≡◌, ap, subst, sym, ◌∷◌, length, Option}
 use Rattle.dtml_parse.specs.Trees.{Item}
 use Rattle.dtml_parse.specs.Views.{arg_view, marks_view}
 use Rattle.dtml_render.specs.Frames as view

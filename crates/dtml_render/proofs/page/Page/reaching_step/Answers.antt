@@ -1,4 +1,4 @@
-use Rattle.std.proofs.Common.{ℕ, ◌≡◌, ◌≤◌, ◌∙◌, refl, sym, ap, subst, List, [], ◌∷◌, drop, length, Err}
+use Rattle.std.proofs.Common.{ℕ, ◌≡◌, ◌≤◌, refl, ap, subst, List, [], drop, length, Err}
 use Rattle.std.proofs.lemmas.List.{drop_all}
 use Rattle.zbase.specs.Query.{Told}
 use Rattle.zknown.specs.Seen.{objects}

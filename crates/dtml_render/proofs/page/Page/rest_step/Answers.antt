@@ -1,10 +1,10 @@
-use Rattle.std.proofs.Common.{ℕ, suc, ◌+◌, ◌≡◌, ◌∙◌, ◌∷◌, sym, ap, List, Option, Some, option_map, arith}
+use Rattle.std.proofs.Common.{ℕ, suc, ◌+◌, ◌≡◌, ◌∙◌, ◌∷◌, sym, ap, Option, Some, option_map, arith}
 use Rattle.std.proofs.lemmas.Result.{err_from_is_err_and}
 use Rattle.dtml_parse.specs.Views.{list_view, node_view}
 use Rattle.dtml_parse.specs.Trees.{Item}
 use Rattle.dtml_render.specs.declared.spots.Spot.{Spot}
 use Rattle.dtml_render.specs.Frames.{frames_view, opening_view, spot_view}
-use Rattle.dtml_render.specs.Resuming.{Frame, Rest, after_opening}
+use Rattle.dtml_render.specs.Resuming.{Rest, after_opening}
 use Rattle.dtml_render.specs.Spots.{items_from, node_at}
 use Rattle.dtml_render.proofs.Paging.{node_refused, node_stepped, rest_ended}
 use Rattle.dtml_render.proofs.page.Page.rest_step.Goals as goal

@@ -1,4 +1,4 @@
-use Rattle.std.proofs.Common.{ℕ, ◌≡◌, ◌∙◌, refl, sym, ap, subst, ◌∷◌, ◌++◌, [], List, reverse}
+use Rattle.std.proofs.Common.{ℕ, ◌≡◌, ◌∙◌, sym, ap, subst, ◌∷◌, List, reverse}
 use Rattle.std.proofs.lemmas.List.{nil_from_length}
 use Rattle.zbase.specs.Query.{Told}
 use Rattle.zknown.specs.Seen.{objects}

@@ -1,5 +1,5 @@
-use Rattle.std.proofs.Common.{ℕ, suc, ◌≡◌, ◌+◌, refl, sym, ap, subst, arith, List}
-use Rattle.namespace.specs.Names.{Scope, Space}
+use Rattle.std.proofs.Common.{ℕ, refl, ap, subst, arith, List}
+use Rattle.namespace.specs.Names.{Space}
 use Rattle.dtml_values.specs.StepLaws.{begins_none}
 use Rattle.dtml_render.specs.Frames as view
 use Rattle.dtml_render.specs.Frames.{Steps, above, frames_view, place, place_of}
