@@ -185,7 +185,8 @@ fn choose(
 ) -> Result<Opening, RenderRefusal>
     ensures { (k : ℕ → Option (Seen Object)) (shown : List Shown) (out : List ℕ) (left : Left)
         → Shows told (opening_view (Some (trees.If (arm_list_view arms.now) (otherwise_view otherwise.now))) (state out left)) shown result
-        (looked k shown (resuming.opening (spots.waiting_of (spots.arm_asking part (arm_list_view arms.now) (otherwise_view otherwise.now))) out (found, left))) }
+        (looked k shown (resuming.opening (spots.waiting_of (spots.arm_asking part (arm_list_view arms.now) (otherwise_view otherwise.now)))
+        out (found, left))) }
 {
     if part >= arms.len() {
         return leave_alone(alloc, found);
@@ -320,7 +321,8 @@ pub(crate) fn answer(
 ) -> Result<Opening, RenderRefusal>
     ensures is { (k : ℕ → Option (Seen Object)) (shown : List Shown)
         → Shows told (opening_view (option_map (λ n. node_view n.now) node.entry) (state out.new (left_of budget.new))) shown result
-        (looked k shown (resuming.opening (spots.waiting_of (spots.asking_under part (option_map (λ n. node_view n.now) node.entry))) out.old (found, left_of budget.old))) }
+        (looked k shown (resuming.opening (spots.waiting_of (spots.asking_under part (option_map (λ n. node_view n.now) node.entry)))
+        out.old (found, left_of budget.old))) }
     ensures renders { budget.new.renders ≡ budget.old.renders }
     ensures tags { budget.new.tags ≤ budget.old.tags }
     ensures output { budget.new.output ≤ budget.old.output }

@@ -136,7 +136,8 @@ fn evaluated<'k>(
     ensures is { IfOk result (λ worth. IsWorth (objects stack.old.known) stack.old.shown stack.new.shown stack.old.scope at
         (trees.Expression (expr_view expr.now)) (left_of budget.old) (left_of budget.new) worth) }
     ensures told { IfErr result (λ e. (inside : rendering.Inside) → Told (told e)
-        (looked (objects stack.old.known) stack.old.shown (rendering.argument inside stack.old.scope at (trees.Expression (expr_view expr.now)) (left_of budget.old)))) }
+        (looked (objects stack.old.known) stack.old.shown
+        (rendering.argument inside stack.old.scope at (trees.Expression (expr_view expr.now)) (left_of budget.old)))) }
     ensures known { stack.new.known ≡ stack.old.known }
     ensures scope { stack.new.scope ≡ stack.old.scope }
     ensures shown { Begins stack.old.shown stack.new.shown }
