@@ -8,14 +8,16 @@ has no request; the replay's own lines for each fetch are part of it.
 """
 
 import argparse
+import os
 import pathlib
+import subprocess
 import tempfile
 import time
 
 import jinja2
 
 from pages import folder, page
-from replay import Writer, build, least, run_of
+from replay import PROGRAM, Writer, build
 
 TITLE = b"<p><dtml-var title></p>\n"
 METHODS = {
@@ -80,10 +82,19 @@ class Bench:
         self.opened = self.seconds([])
 
     def seconds(self, requests):
-        lines = self.at / "schedule"
+        """The least seconds of the processor that a replay of these requests takes, each of which has its page."""
+        lines, report = self.at / "schedule", self.at / "report"
         lines.write_bytes(schedule(requests))
-        took, _ = least(run_of(self.site, lines), self.rounds)
-        return took
+        took = []
+        for _ in range(self.rounds):
+            with open(lines, "rb") as given, open(report, "wb") as out:
+                child = subprocess.Popen([PROGRAM, "replay", self.site], stdin=given, stdout=out)
+                _, status, usage = os.wait4(child.pid, 0)
+            assert status == 0, "the replay ended otherwise"
+            took.append(usage.ru_utime + usage.ru_stime)
+        shown = report.read_bytes()
+        assert shown.count(b"HTTP/1.1 200 OK") == len(requests), "a page wasn't answered"
+        return min(took)
 
     def cost(self, request, times=1):
         return (self.seconds([request] * times) - self.opened) / times
