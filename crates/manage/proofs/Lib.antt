@@ -3,6 +3,7 @@ mod Children
 mod Itself
 mod Kept
 mod Lines
+mod Marks
 mod Names
 mod Property
 mod Renamed

@@ -26,6 +26,7 @@ mod refusing;
 mod renaming;
 mod roles;
 mod rule;
+mod seeking;
 mod table;
 mod undoing;
 mod users;

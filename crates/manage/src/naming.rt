@@ -1,14 +1,12 @@
-ghost use Rattle.std.specs.Prelude.{◌≡◌, ◌++◌, ◌∷◌, [], ℕ, List, map, not, if◌then◌else◌, IfOk, OnOk, Option, option_map};
-ghost use Rattle.std.specs.List.{filter, find};
+ghost use Rattle.std.specs.Prelude.{◌≡◌, ℕ, List, map, IfOk};
 ghost use Rattle.zobject.specs.Sorting.{sorted as sorted_texts};
 ghost use Rattle.manage.specs.Becoming.{is_among};
-ghost use Rattle.manage.specs.Refusing.{first_unknown};
-ghost use Rattle.manage.specs.Naming.{IsUnnamed, Knows, has, keys_now};
+ghost use Rattle.manage.specs.Naming.{Knows, keys_now};
 
 use crate::copying::Copied;
 use std::alloc::Global;
 use std::collections::BTreeSet;
-use zbase::{Items, Memory, Text, Texts};
+use zbase::{Memory, Text, Texts};
 use zobject::{Child, Local, Property, User};
 
 /// What a list has items of that are told by a name.
@@ -87,40 +85,7 @@ pub(crate) fn sorted(alloc: Global, texts: &Texts) -> Result<Texts, Memory>
     Ok(sorted)
 }
 
-/// The first of the texts that is in the set. Takes no memory.
-fn first_in<'a>(set: &BTreeSet<&str>, texts: &'a [Text]) -> Option<&'a Text>
-    ensures { option_map (λ text. text.now) result ≡ find (has set.now) texts.now }
-{
-    texts.iter().find(|text| set.contains(text.as_str()))
-}
-
 // ---- items that have names
-
-/// Takes out of a set the texts that are names of items. Goes through the items once, and no further than to the last one
-/// that a text names. Takes no memory.
-fn take_named<T: Named>(texts: &mut BTreeSet<&str>, items: &[T])
-    ensures { IsUnnamed texts.old texts.new (map T.name_of items.now) }
-{
-    for item in items {
-        if texts.is_empty() {
-            break;
-        }
-        texts.remove(item.name().as_str());
-    }
-}
-
-/// The first of the texts that no item is named by.
-pub(crate) fn first_unknown<'a, T: Named>(
-    alloc: Global,
-    items: &[T],
-    texts: &'a [Text],
-) -> Result<Option<&'a Text>, Memory>
-    ensures { IfOk result (λ first. option_map (λ text. text.now) first ≡ first_unknown (map T.name_of items.now) texts.now) }
-{
-    let mut unknown = set_of(alloc, texts)?;
-    take_named(&mut unknown, items);
-    Ok(first_in(&unknown, texts))
-}
 
 /// Whether one of the items has that name. Takes no memory.
 pub(crate) fn is_taken<T: Named>(items: &[T], name: &Text) -> bool
@@ -132,34 +97,4 @@ pub(crate) fn is_taken<T: Named>(items: &[T], name: &Text) -> bool
         }
     }
     false
-}
-
-// The item too, unless its name is in the set.
-fn push_other<T: Named>(
-    alloc: Global,
-    left: &mut Items<T>,
-    gone: &BTreeSet<&str>,
-    item: &T,
-) -> Result<(), Memory>
-    ensures { OnOk result (left.new ≡ left.old ++ (if has gone.now (T.name_of item.now) then [] else item.now ∷ [])) }
-{
-    if gone.contains(item.name().as_str()) {
-        return Ok(());
-    }
-    left.push(item.copied(alloc)?)
-}
-
-/// Copies of the items whose names aren't in the set.
-pub(crate) fn without<T: Named>(
-    alloc: Global,
-    items: &[T],
-    gone: &BTreeSet<&str>,
-) -> Result<Items<T>, Memory>
-    ensures { IfOk result (λ left. left ≡ filter (λ x. not (has gone.now (T.name_of x))) items.now) }
-{
-    let mut left = Items::new(alloc);
-    for item in items {
-        push_other(alloc, &mut left, gone, item)?;
-    }
-    Ok(left)
 }

@@ -10,12 +10,12 @@ ghost use Rattle.manage.specs.Fields.{Gives};
 ghost use Rattle.manage.specs.Table as table;
 
 use crate::copying::copy_with_properties;
-use crate::deleting::others;
 use crate::field::{fields_kept, text_of, texts_of};
 use crate::putting::put;
 use crate::refusal::{FieldName, ManageRefusal};
-use crate::refusing::{are_known, has_room_for_property, is_free};
+use crate::refusing::{has_room_for_property, is_free};
 use crate::rule::{FieldRule, list, maybe, one};
+use crate::seeking::others;
 use form_fields::{Fields, whole_number};
 use std::alloc::{AllocError, Global};
 use zbase::{Memory, Text, Texts};
@@ -134,14 +134,6 @@ pub(crate) fn add_property(
     Ok(with_property(alloc, object, Property { name, value })?)
 }
 
-// The object without the properties of these names.
-fn without_properties(alloc: Global, object: &Object, names: &Texts) -> Result<Object, Memory>
-    ensures { IfOk result (λ fewer. fewer ≡ with_properties (filter (λ (p : AProperty). not (becoming.is_among names.now p.name)) object.now.properties) object.now) }
-{
-    let left = others(alloc, object.properties.as_slice(), names)?;
-    copy_with_properties(alloc, object, left)
-}
-
 /// An object without some properties.
 #[tactic(auto, using(crate::proofs::Steps::stops), unfolding(crate::specs::Changing::judged, crate::specs::Fields::fields_kept))]
 pub(crate) fn delete_properties(
@@ -154,6 +146,6 @@ pub(crate) fn delete_properties(
     let rows = [list(FieldName::Ids, FieldRule::Any)];
     fields_kept(alloc, rows.as_slice(), fields)?;
     let ids = texts_of(alloc, FieldName::Ids, fields)?;
-    are_known(alloc, object.properties.as_slice(), &ids)?;
-    Ok(without_properties(alloc, object, &ids)?)
+    let left = others(alloc, object.properties.as_slice(), &ids)?;
+    Ok(copy_with_properties(alloc, object, left)?)
 }

@@ -7,13 +7,13 @@ ghost use Rattle.manage.specs.Becoming.{children_in, is_among, users_in};
 ghost use Rattle.manage.specs.Fields.{Gives, refuse_if};
 ghost use Rattle.manage.specs.Refusing as refusing;
 
-use crate::naming::{Named, first_unknown, is_taken};
+use crate::naming::{Named, is_taken};
 use crate::refusal::ManageRefusal;
 use acquisition::MOST_ON_PATH;
 use dtml_lex::DtmlRefusal;
 use dtml_parse::{parse, template_reader_agrees};
 use std::alloc::Global;
-use zbase::{Text, Texts};
+use zbase::Text;
 use zobject::limits::{MOST_CHILDREN, MOST_LINES, MOST_LOCALS, MOST_PROPERTIES, MOST_USERS};
 use zobject::{Child, Local, Object, Part2, PropValue, Property, User};
 
@@ -45,20 +45,6 @@ pub(crate) fn is_free<T: Named>(items: &[T], name: &Text) -> Result<(), ManageRe
         return Err(ManageRefusal::Taken(name.copy()?));
     }
     Ok(())
-}
-
-/// Each of the ids is the name of an item; the first that isn't is told.
-pub(crate) fn are_known<T: Named>(
-    alloc: Global,
-    items: &[T],
-    ids: &Texts,
-) -> Result<(), ManageRefusal>
-    ensures { Gives (λ x. x) result (refusing.none_unknown (refusing.first_unknown (map T.name_of items.now) ids.now)) }
-{
-    match first_unknown(alloc, items, ids.as_slice())? {
-        Some(id) => Err(ManageRefusal::NoSuchId(id.copy()?)),
-        None => Ok(()),
-    }
 }
 
 /// One of the items has that name.

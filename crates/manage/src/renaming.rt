@@ -25,10 +25,10 @@ use crate::changes::Change;
 use crate::copying::{copy_with_id, copy_with_part};
 use crate::field::{fields_kept, text_of};
 use crate::laws::rows_keep_the_rules;
-use crate::naming::{set_of, without};
 use crate::refusal::{FieldName, ManageRefusal};
 use crate::refusing::{children_of, is_free, is_known};
 use crate::rule::{FieldRule, one};
+use crate::seeking::part_by_name;
 use crate::written::{fits, write, write_itself};
 use evaluator::{Entries, Name};
 use form_fields::Fields;
@@ -63,8 +63,7 @@ fn with_renamed(
     ensures { IfOk result (λ renamed. renamed ≡ with_renamed child (situation folder.now fields.now)) }
 {
     let id = text_of(alloc, FieldName::Id, fields)?;
-    let gone = set_of(alloc, std::slice::from_ref(&id))?;
-    let mut children = without(alloc, children_of(folder), &gone)?;
+    let (mut children, _) = part_by_name(alloc, children_of(folder), std::slice::from_ref(&id))?;
     children.push(Child {
         name: text_of(alloc, FieldName::NewId, fields)?,
         oid: child,

@@ -11,13 +11,13 @@ ghost use Rattle.manage.specs.Table as table;
 ghost use Rattle.manage.specs.declared.refusal.FieldName.TheVariants as names;
 
 use crate::copying::{Copied, copy_part, copy_with_locals, copy_with_part, copy_with_settings};
-use crate::deleting::others;
 use crate::field::{fields_kept, text_of, texts_of};
 use crate::naming::sorted;
 use crate::putting::put;
 use crate::refusal::{FieldName, ManageRefusal};
-use crate::refusing::{are_known, has_room_for_locals};
+use crate::refusing::has_room_for_locals;
 use crate::rule::{FieldRule, list, maybe, maybe_list, one};
+use crate::seeking::others;
 use evaluator::permission_named;
 use form_fields::Fields;
 use std::alloc::Global;
@@ -140,14 +140,6 @@ pub(crate) fn set_local_roles(
     Ok(copy_with_locals(alloc, object, locals)?)
 }
 
-// The object without the local roles of these users.
-fn without_locals(alloc: Global, object: &Object, users: &Texts) -> Result<Object, Memory>
-    ensures { IfOk result (λ fewer. fewer ≡ with_locals (filter (λ (l : ALocal). not (becoming.is_among users.now l.user)) object.now.locals) object.now) }
-{
-    let left = others(alloc, object.locals.as_slice(), users)?;
-    copy_with_locals(alloc, object, left)
-}
-
 /// An object without the local roles of some users.
 #[tactic(auto, using(crate::proofs::Steps::stops), unfolding(crate::specs::Changing::judged, crate::specs::Fields::fields_kept))]
 pub(crate) fn delete_local_roles(
@@ -160,8 +152,8 @@ pub(crate) fn delete_local_roles(
     let rows = [list(FieldName::UserIds, FieldRule::Any)];
     fields_kept(alloc, rows.as_slice(), fields)?;
     let users = texts_of(alloc, FieldName::UserIds, fields)?;
-    are_known(alloc, object.locals.as_slice(), &users)?;
-    Ok(without_locals(alloc, object, &users)?)
+    let left = others(alloc, object.locals.as_slice(), &users)?;
+    Ok(copy_with_locals(alloc, object, left)?)
 }
 
 // ---- proxy roles
