@@ -1,6 +1,6 @@
 -- Texts that are sought among names: their marks, and those of them that weren't met.
-use Rattle.std.proofs.Common.{◌≡◌, ◌∙◌, ℕ, zero, suc, ◌+◌, ◌<◌, length, drop, get_or, set, ◌++◌, append_assoc, ◌||◌, ◌&&◌, not, cond, Bool, true, false, List, [], ◌∷◌, map, Option, Some, if◌then◌else◌, refl, sym, ap, subst, arith}
-use Rattle.std.specs.List.{filter, find, list_any}
+use Rattle.std.proofs.Common.{◌≡◌, ◌∙◌, ℕ, zero, suc, ◌+◌, ◌<◌, length, drop, get_or, map-id, set, ◌++◌, append_assoc, ◌||◌, ◌&&◌, not, cond, Bool, true, false, List, [], ◌∷◌, map, Some, if◌then◌else◌, refl, sym, ap, subst, arith}
+use Rattle.std.specs.List.{AllZip, filter, find, list_any}
 use Rattle.std.specs.Str.{bytes_eq}
 use Rattle.std.specs.BTreeMap.{is_at}
 use Rattle.std.specs.BTreeSet.{BTreeSet}
@@ -11,10 +11,11 @@ use Rattle.std.proofs.lemmas.List.{append-nil, get_or-set_same}
 use Rattle.std.proofs.lemmas.Map.Text.{is_eq-slice_cmp}
 use Rattle.std.proofs.lemmas.Nat.{mod_below}
 use Rattle.std.proofs.lemmas.Slice.Eq.{bytes_eq-Decides}
+use Rattle.std.proofs.lemmas.Slice.Zip.{AllZip-map}
 use denote.Ref.{Bor}
 use Rattle.manage.specs.declared.seeking.TheConstants.{MARKS}
 use Rattle.manage.specs.Becoming.{is_among}
-use Rattle.manage.specs.Naming.{AreMarked, IsMarked, IsUnnamed, Knows, has, is_marked, mark_of}
+use Rattle.manage.specs.Naming.{IsMarked, IsUnnamed, Knows, has, is_marked, mark_of}
 use Rattle.manage.specs.Refusing.{first_unknown}
 use Rattle.manage.proofs.Names.{front_of}
 
@@ -66,10 +67,18 @@ marked_more xs i item t old new lt is same long set_so h q among =
     marked_or old new t (drop (i + 1) xs) q long set_so
     (subst (λ (ys : List (List ℕ)). (is_marked old q || is_among ys q) ≡ true) (front_of xs i item lt is ∙ ap (λ (u : List ℕ). u ∷ drop (i + 1) xs) (sym same)) (h q among))
 
--- ---- a text that is taken out of a set
+-- ---- sets
 
 names : List ℕ → Bor (List ℕ) → Bool
 names q = is_at (λ (k : Bor (List ℕ)). slice_cmp nat_cmp q k.now)
+
+-- a copy has the same texts
+pub same_keys : (xs ys : List (Bor (List ℕ))) → AllZip (λ x y. y ≡ x) xs ys → ys ≡ xs
+same_keys xs ys all = AllZip-map (λ x. x) xs ys all ∙ map-id xs
+
+pub copy_knows : (set copy : BTreeSet (Bor (List ℕ))) (texts : List (List ℕ)) → copy.keys ≡ set.keys → Knows set texts → Knows copy texts
+unfolding names
+copy_knows set copy texts same knows q = ap (list_any (names q)) same ∙ knows q
 
 kept : (q t : List ℕ) (ks : List (Bor (List ℕ))) → bytes_eq q t ≡ false → list_any (names q) (remove_key (names t) ks) ≡ list_any (names q) ks
 unfolding names

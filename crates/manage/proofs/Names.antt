@@ -1,21 +1,19 @@
 -- A set of texts, as a loop fills it.
-use Rattle.std.proofs.Common.{◌≡◌, ◌∙◌, ℕ, suc, ◌+◌, ◌<◌, ◌≤◌, length, drop, get_or, add-one, drop-cons, ◌||◌, ◌&&◌, not, cond, Bool, true, false, List, [], ◌∷◌, map, Some, refl, sym, ap, nat_cmp, Ordering, Less, Equal, Greater}
-use Rattle.std.specs.List.{filter, find, list_any}
+use Rattle.std.proofs.Common.{◌≡◌, ◌∙◌, ℕ, suc, ◌+◌, ◌<◌, ◌≤◌, length, drop, get_or, add-one, drop-cons, ◌||◌, Bool, true, false, List, [], ◌∷◌, map, refl, sym, ap, nat_cmp, Ordering, Less, Equal, Greater}
+use Rattle.std.specs.List.{list_any}
 use Rattle.std.specs.Ordering.{is_eq}
 use Rattle.std.specs.Str.{bytes_eq}
 use Rattle.std.specs.BTreeMap.{is_at}
 use Rattle.std.proofs.lemmas.Map.Text.{is_eq-slice_cmp}
 use Rattle.std.proofs.lemmas.Slice.Eq.{bytes_eq-Decides}
 use Rattle.manage.specs.Becoming.{is_among}
-use Rattle.manage.specs.Refusing.{first_unknown}
 use Rattle.std.specs.Ordering.{match_ordering}
 use Rattle.std.specs.Cmp.Lexicographic.{slice_cmp}
 use Rattle.std.specs.BTreeSet.{BTreeSet, insert_key}
-use Rattle.std.specs.Set.{remove_key}
 use denote.Ref.{Bor}
 use Rattle.std.proofs.lemmas.List.{drop_all}
 use Rattle.zobject.specs.Sorting.{sorted, sorted_with}
-use Rattle.manage.specs.Naming.{IsUnnamed, Knows, has, keys_now}
+use Rattle.manage.specs.Naming.{has, keys_now}
 
 abbrev order : Bor (List ℕ) → Bor (List ℕ) → Ordering
 order x y = slice_cmp nat_cmp x.now y.now

@@ -79,16 +79,27 @@ fn marks_of(alloc: Global, texts: &[Text]) -> Result<Vec<bool>, Memory>
 
 // ---- texts among names
 
+// The same set once more.
+#[tactic(auto, using(crate::proofs::Marks::same_keys))]
+fn copy_of<'a>(set: &BTreeSet<&'a str>) -> Result<BTreeSet<&'a str>, Memory>
+    ensures { IfOk result (λ copy. copy.keys ≡ set.now.keys) }
+{
+    Ok(set.clone()?)
+}
+
 impl<'a> Sought<'a> {
     /// All of the texts, none of which was met.
     fn new(alloc: Global, texts: &'a [Text]) -> Result<Sought<'a>, Memory>
         ensures texts { IfOk result (λ sought. Knows sought.texts texts.now) }
         ensures unmet { IfOk result (λ sought. Knows sought.unmet texts.now) }
     {
+        let marks = marks_of(alloc, texts)?;
+        let texts = set_of(alloc, texts)?;
+        let unmet = copy_of(&texts)?;
         Ok(Sought {
-            texts: set_of(alloc, texts)?,
-            unmet: set_of(alloc, texts)?,
-            marks: marks_of(alloc, texts)?,
+            texts,
+            unmet,
+            marks,
         })
     }
 
