@@ -24,8 +24,8 @@ use Rattle.evaluator.specs.Facts.{ask_of, look, same_ask}
 use Rattle.evaluator.specs.Questions.{size_of_fact, size_of_part}
 use Rattle.manage.specs.Changing.{KeepRules}
 use Rattle.publisher.specs.Comes.{look_push}
-use Rattle.publisher.specs.declared.state.SiteState.{SiteState}
-use Rattle.publisher.specs.Keeping.{Fits, Holds, IsAdded, IsSame, Knows, kept_as, kept_fact, kept_value, saturated}
+use Rattle.publisher.specs.declared.learned.Learned.{Learned}
+use Rattle.publisher.specs.Keeping.{Holds, HoldsFirst, IsAdded, IsSame, Knows, kept_as, kept_fact, kept_value, saturated}
 
 -- ---- what is read
 
@@ -150,7 +150,7 @@ sizes_done size at whole parts small done e =
 
 -- ---- all that is kept
 
-pub holds_more : (old new : SiteState) (front : List Fact) (f : Fact) → (Knows old.known front → Knows new.known (front ++ f ∷ [])) → (KeepRules (objects old.known) → KeepRules (objects new.known)) → new.taken ≡ old.taken + 1 →
+pub holds_more : (old new : Learned) (front : List Fact) (f : Fact) → (Knows old.known front → Knows new.known (front ++ f ∷ [])) → (KeepRules (objects old.known) → KeepRules (objects new.known)) → new.taken ≡ old.taken + 1 →
     new.bytes ≡ min (old.bytes + saturated (size_of_fact f)) (2 ^ 64 - 1) → Holds old front → Holds new (front ++ f ∷ [])
 holds_more old new front f knows rules taken bytes holds = record {
   knows = knows holds.knows;
@@ -159,7 +159,7 @@ holds_more old new front f knows rules taken bytes holds = record {
   bytes = bytes ∙ ap (λ n. min (n + saturated (size_of_fact f)) (2 ^ 64 - 1)) holds.bytes ∙ saturated_more (sum_by size_of_fact front) (size_of_fact f) ∙ ap saturated (sym (sum_by_push size_of_fact front f));
 }
 
-pub holds_still : (old new : SiteState) (front : List Fact) → (Knows old.known front → Knows new.known front) → (KeepRules (objects old.known) → KeepRules (objects new.known)) → new.taken ≡ old.taken → new.bytes ≡ old.bytes → Holds old front → Holds new front
+pub holds_still : (old new : Learned) (front : List Fact) → (Knows old.known front → Knows new.known front) → (KeepRules (objects old.known) → KeepRules (objects new.known)) → new.taken ≡ old.taken → new.bytes ≡ old.bytes → Holds old front → Holds new front
 holds_still old new front knows rules taken bytes holds = record { knows = knows holds.knows; rules = rules holds.rules; taken = taken ∙ holds.taken; bytes = bytes ∙ holds.bytes }
 
 pub on_err : {T E : Type 0} (r : Result T E) (P : Type 0) → P → OnErr r P
@@ -168,31 +168,31 @@ on_err (Err e) P p = p
 
 -- ---- fact by fact
 
-pub begins : (state : SiteState) (facts : List Fact) → Fits state facts → (state.taken ≤ length facts) × Holds state (take state.taken facts)
-begins state facts fits =
+pub begins : (learned : Learned) (facts : List Fact) → HoldsFirst learned facts → (learned.taken ≤ length facts) × Holds learned (take learned.taken facts)
+begins learned facts fits =
     let long : length facts ≡ length fits.front + length fits.rest = ap length fits.parts ∙ length-append fits.front fits.rest in
     let taken = fits.holds.taken in
-    let same : take state.taken facts ≡ fits.front = ap (λ (n : ℕ). take n facts) taken ∙ ap (take (length fits.front)) fits.parts ∙ take-append_seam fits.front fits.rest in
-    (omega (arith, taken, long), subst (λ (front : List Fact). Holds state front) (sym same) fits.holds)
+    let same : take learned.taken facts ≡ fits.front = ap (λ (n : ℕ). take n facts) taken ∙ ap (take (length fits.front)) fits.parts ∙ take-append_seam fits.front fits.rest in
+    (omega (arith, taken, long), subst (λ (front : List Fact). Holds learned front) (sym same) fits.holds)
 
-pub next_holds : (state : SiteState) (facts : List Fact) (at : ℕ) (f : Fact) → at < length facts → f ≡ get_or facts at f → Holds state (take at facts ++ f ∷ []) → Holds state (take (at + 1) facts)
-next_holds state facts at f below is holds = subst (λ (front : List Fact). Holds state front) (ap (λ (g : Fact). take at facts ++ g ∷ []) is ∙ sym (take_more facts at f below)) holds
+pub next_holds : (learned : Learned) (facts : List Fact) (at : ℕ) (f : Fact) → at < length facts → f ≡ get_or facts at f → Holds learned (take at facts ++ f ∷ []) → Holds learned (take (at + 1) facts)
+next_holds learned facts at f below is holds = subst (λ (front : List Fact). Holds learned front) (ap (λ (g : Fact). take at facts ++ g ∷ []) is ∙ sym (take_more facts at f below)) holds
 
-pub all_hold : (state : SiteState) (facts : List Fact) (at : ℕ) → length facts ≤ at → at ≤ length facts → Holds state (take at facts) → Holds state facts
-all_hold state facts at more few holds =
+pub all_hold : (learned : Learned) (facts : List Fact) (at : ℕ) → length facts ≤ at → at ≤ length facts → Holds learned (take at facts) → Holds learned facts
+all_hold learned facts at more few holds =
     let same : at ≡ length facts = omega (arith, more, few) in
-    subst (λ (front : List Fact). Holds state front) (ap (λ (n : ℕ). take n facts) same ∙ take-length facts) holds
+    subst (λ (front : List Fact). Holds learned front) (ap (λ (n : ℕ). take n facts) same ∙ take-length facts) holds
 
-pub fits_so : (state : SiteState) (facts : List Fact) (at : ℕ) → Holds state (take at facts) → (more : List Fact) → Fits state (facts ++ more)
-fits_so state facts at holds more = record {
+pub fits_so : (learned : Learned) (facts : List Fact) (at : ℕ) → Holds learned (take at facts) → (more : List Fact) → HoldsFirst learned (facts ++ more)
+fits_so learned facts at holds more = record {
   front = take at facts;
   rest = drop at facts ++ more;
   parts = ap (λ (l : List Fact). l ++ more) (sym (take-append-drop at facts)) ∙ append_assoc (take at facts) (drop at facts) more;
   holds = holds;
 }
 
-pub all_fit : (state : SiteState) (facts : List Fact) → Holds state facts → (more : List Fact) → Fits state (facts ++ more)
-all_fit state facts holds more = record { front = facts; rest = more; parts = refl; holds = holds }
+pub all_fit : (learned : Learned) (facts : List Fact) → Holds learned facts → (more : List Fact) → HoldsFirst learned (facts ++ more)
+all_fit learned facts holds more = record { front = facts; rest = more; parts = refl; holds = holds }
 
-pub taken_is : (state : SiteState) (facts : List Fact) (at : ℕ) → at ≤ length facts → Holds state (take at facts) → state.taken ≡ at
-taken_is state facts at below holds = holds.taken ∙ length-take-le at facts below
+pub taken_is : (learned : Learned) (facts : List Fact) (at : ℕ) → at ≤ length facts → Holds learned (take at facts) → learned.taken ≡ at
+taken_is learned facts at below holds = holds.taken ∙ length-take-le at facts below

@@ -4,5 +4,6 @@ mod Showing
 mod Denying
 mod Apart
 mod Learning
+mod Stages
 mod Limiting
 mod PageSteps

@@ -29,7 +29,7 @@ use Rattle.publisher.specs.declared.answer.Answer.{Answer}
 use Rattle.publisher.specs.declared.answer.Answer.TheVariants as answer
 use Rattle.publisher.specs.declared.halted.Halted.{Halted}
 use Rattle.publisher.specs.declared.halted.Halted.TheVariants as halts
-use Rattle.publisher.specs.declared.state.SiteState.{SiteState}
+use Rattle.publisher.specs.declared.learned.Learned.{Learned}
 use Rattle.manage.specs.Calling as calling
 use Rattle.manage.specs.declared.refusal.ManageRefusal.{ManageRefusal}
 use Rattle.manage.specs.Undoing.{undone}
@@ -73,9 +73,9 @@ site_is q rows facts knows trail =
     ∙ ap (judged (by_verb q.method runaway_facts) facts) (over_history_comes (look facts) q
     ∙ ap (λ (k : ℕ → Option (Seen Object)). made_of (look facts) q (as_ask (run k (request q)))) (sym (objects_are rows facts knows)))))
 
-pub site_whole : (q : Request) (state : SiteState) (facts : List Fact) (it : Outcome) → it ≡ outcome (judged (by_verb q.method runaway_facts) facts (made_of (look facts) q (comes_to state.known (request q)))) → Holds state facts →
+pub site_whole : (q : Request) (learned : Learned) (facts : List Fact) (it : Outcome) → it ≡ outcome (judged (by_verb q.method runaway_facts) facts (made_of (look facts) q (comes_to learned.known (request q)))) → Holds learned facts →
     IsTrail (λ known. site (look known) (Whole q)) facts → it ≡ site (look facts) (Whole q)
-site_whole q state facts it is holds trail = is ∙ site_is q state.known facts holds.knows trail
+site_whole q learned facts it is holds trail = is ∙ site_is q learned.known facts holds.knows trail
 
 -- no ask stands twice in what a message asked for
 pub site_once : (m : Message) (facts : List Fact) → IsTrail (λ known. site (look known) m) facts → EachOnce facts
@@ -173,26 +173,26 @@ not_undone known q user t cause it told (h, e, is) = is ∙ at (calling.told cau
     at (Some (Need ask)) is told' e' = ap (outcome_of q.method) (sym (halted_is (halts.Need ask) h e')) ∙ sym (ap outcome (stops_by known q user t (Need ask) told'))
     at (Some (Cause c)) is told' e' = ap (outcome_of q.method) (sym (halted_is (halts.Refused (fault_reply (Call c))) h e')) ∙ sym (ap outcome (stops_by known q user t (Cause c) told'))
 
-pub over_bytes : (state : SiteState) (facts : List Fact) (runaway : Reply) (r : Result Made (Halt Ask Reply)) → nat_lt most_bytes state.bytes ≡ true → Holds state facts → Outcome.Answer runaway ≡ outcome (judged runaway facts r)
-over_bytes state facts runaway r over holds =
+pub over_bytes : (learned : Learned) (facts : List Fact) (runaway : Reply) (r : Result Made (Halt Ask Reply)) → nat_lt most_bytes learned.bytes ≡ true → Holds learned facts → Outcome.Answer runaway ≡ outcome (judged runaway facts r)
+over_bytes learned facts runaway r over holds =
     sym (ap outcome (judged_over runaway facts r (sym (over_so (sum_by size_of_fact facts)) ∙ ap (nat_lt most_bytes) (sym holds.bytes) ∙ over)))
 
-within_bytes : (state : SiteState) (facts : List Fact) → nat_lt most_bytes state.bytes ≡ false → Holds state facts → nat_lt most_bytes (sum_by size_of_fact facts) ≡ false
-within_bytes state facts within holds = sym (over_so (sum_by size_of_fact facts)) ∙ ap (nat_lt most_bytes) (sym holds.bytes) ∙ within
+within_bytes : (learned : Learned) (facts : List Fact) → nat_lt most_bytes learned.bytes ≡ false → Holds learned facts → nat_lt most_bytes (sum_by size_of_fact facts) ≡ false
+within_bytes learned facts within holds = sym (over_so (sum_by size_of_fact facts)) ∙ ap (nat_lt most_bytes) (sym holds.bytes) ∙ within
 
 -- whether one ask more is needed
 by_asks : (facts : List Fact) (asks : ℕ) (r : Result Made (Halt Ask Reply)) (more : Bool) → length facts ≡ asks → ((asks == most_asks) && is_need (outcome r)) ≡ more → asks_more most_asks (length facts) r ≡ more
 by_asks facts asks r more counted is = ap (λ (n : ℕ). asks_more most_asks n r) counted ∙ more_so most_asks asks r ∙ is
 
-pub over_asks : (state : SiteState) (facts : List Fact) (asks : ℕ) (runaway : Reply) (r : Result Made (Halt Ask Reply)) → nat_lt most_bytes state.bytes ≡ false → ((asks == most_asks) && is_need (outcome r)) ≡ true → Holds state facts → length facts ≡ asks →
+pub over_asks : (learned : Learned) (facts : List Fact) (asks : ℕ) (runaway : Reply) (r : Result Made (Halt Ask Reply)) → nat_lt most_bytes learned.bytes ≡ false → ((asks == most_asks) && is_need (outcome r)) ≡ true → Holds learned facts → length facts ≡ asks →
     Outcome.Answer runaway ≡ outcome (judged runaway facts r)
-over_asks state facts asks runaway r within more holds counted =
-    sym (ap outcome (judged_within runaway facts r (within_bytes state facts within holds) ∙ ap (λ (b : Bool). if b then Err (Cause runaway) else r) (by_asks facts asks r true counted more)))
+over_asks learned facts asks runaway r within more holds counted =
+    sym (ap outcome (judged_within runaway facts r (within_bytes learned facts within holds) ∙ ap (λ (b : Bool). if b then Err (Cause runaway) else r) (by_asks facts asks r true counted more)))
 
-pub within_both : (state : SiteState) (facts : List Fact) (asks : ℕ) (runaway : Reply) (r : Result Made (Halt Ask Reply)) → nat_lt most_bytes state.bytes ≡ false → ((asks == most_asks) && is_need (outcome r)) ≡ false → Holds state facts → length facts ≡ asks →
+pub within_both : (learned : Learned) (facts : List Fact) (asks : ℕ) (runaway : Reply) (r : Result Made (Halt Ask Reply)) → nat_lt most_bytes learned.bytes ≡ false → ((asks == most_asks) && is_need (outcome r)) ≡ false → Holds learned facts → length facts ≡ asks →
     outcome r ≡ outcome (judged runaway facts r)
-within_both state facts asks runaway r within more holds counted =
-    sym (ap outcome (judged_within runaway facts r (within_bytes state facts within holds) ∙ ap (λ (b : Bool). if b then Err (Cause runaway) else r) (by_asks facts asks r false counted more)))
+within_both learned facts asks runaway r within more holds counted =
+    sym (ap outcome (judged_within runaway facts r (within_bytes learned facts within holds) ∙ ap (λ (b : Bool). if b then Err (Cause runaway) else r) (by_asks facts asks r false counted more)))
 
 -- ---- the log, by what the code met
 

@@ -1,5 +1,5 @@
--- What is kept of the facts of a message between its evaluations: what each object's fact came to, and the bytes of all
--- facts.
+-- What is kept of a message between its evaluations: what each object's fact came to, the bytes of all facts, and how far
+-- the answer to its request came.
 use Rattle.std.specs.Prelude.{ℕ, ◌≡◌, ◌==◌, ◌^◌, ◌-◌, min, List, ◌++◌, length, sum_by, Some, None, option_map, Result, Ok, Err, if◌then◌else◌}
 use Rattle.zbase.specs.History.{Value}
 use Rattle.zobject.specs.declared.object.Object.{Object}
@@ -11,8 +11,18 @@ use Rattle.evaluator.specs.declared.ask.Ask.{Ask}
 use Rattle.evaluator.specs.declared.fact.Fact.{Fact}
 use Rattle.evaluator.specs.Facts.{look}
 use Rattle.evaluator.specs.Questions.{size_of_fact}
+use Rattle.form_fields.specs.Fields.{fields_of}
+use Rattle.http_in.specs.declared.message.Message.{Message}
+use Rattle.http_in.specs.declared.message.Message.TheVariants.{Whole, Refused}
+use Rattle.http_in.specs.declared.message.Request.{Request}
 use Rattle.manage.specs.Changing.{KeepRules}
+use Rattle.user_folder.specs.Credentials.{credentials_of}
+use Rattle.publisher.specs.declared.learned.Learned.{Learned}
+use Rattle.publisher.specs.declared.reading.Read.{Read}
+use Rattle.publisher.specs.declared.stage.Stage.{Stage}
+use Rattle.publisher.specs.declared.stage.Stage.TheVariants as stages
 use Rattle.publisher.specs.declared.state.SiteState.{SiteState}
+use Rattle.publisher.specs.Site.{authorization}
 
 abbrev pub kept_as : Result Object ℕ → Kept
 kept_as (Ok object) = kept.Here object
@@ -46,16 +56,36 @@ abbrev pub saturated : ℕ → ℕ
 saturated n = min n (2 ^ 64 - 1)
 
 -- all of these facts were taken over
-pub record Holds (state : SiteState) (facts : List Fact) : Type 0 where
-  pub knows : Knows state.known facts
+pub record Holds (learned : Learned) (facts : List Fact) : Type 0 where
+  pub knows : Knows learned.known facts
   -- each object that was read keeps the rules
-  pub rules : KeepRules (objects state.known)
-  pub taken : state.taken ≡ length facts
-  pub bytes : state.bytes ≡ saturated (sum_by size_of_fact facts)
+  pub rules : KeepRules (objects learned.known)
+  pub taken : learned.taken ≡ length facts
+  pub bytes : learned.bytes ≡ saturated (sum_by size_of_fact facts)
 
 -- the first of these facts were
-pub record Fits (state : SiteState) (facts : List Fact) : Type 0 where
+pub record HoldsFirst (learned : Learned) (facts : List Fact) : Type 0 where
   pub front : List Fact
   pub rest : List Fact
   pub parts : facts ≡ front ++ rest
-  pub holds : Holds state front
+  pub holds : Holds learned front
+
+-- what was read of a request is its own
+pub record IsRead (r : Read) (q : Request) : Type 0 where
+  pub fields : fields_of q ≡ Ok r.fields
+  pub credentials : credentials_of (authorization q) ≡ Ok r.credentials
+
+-- the answer to a request came so far
+abbrev pub IsStage : Stage → Request → Type 0
+IsStage stages.Fresh q = Unit {0}
+IsStage (stages.Read r) q = IsRead r q
+
+-- a refused message is answered at once
+abbrev pub IsStageOf : Stage → Message → Type 0
+IsStageOf stage (Whole q) = IsStage stage q
+IsStageOf stage (Refused cause) = stage ≡ stages.Fresh
+
+-- what is kept was found out of these facts, or of the first of them, and of this message
+pub record Fits (state : SiteState) (facts : List Fact) (message : Message) : Type 0 where
+  pub learned : HoldsFirst state.learned facts
+  pub stage : IsStageOf state.stage message

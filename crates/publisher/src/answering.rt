@@ -1,4 +1,4 @@
-ghost use Rattle.std.specs.Prelude.{◌≡◌, option_map};
+ghost use Rattle.std.specs.Prelude.{◌≡◌};
 ghost use Rattle.zbase.specs.Query.{Answers};
 ghost use Rattle.zknown.specs.Seen.{objects};
 ghost use Rattle.acquisition.specs.Acquiring.{first};
@@ -7,18 +7,21 @@ ghost use Rattle.manage.specs.Changing.{KeepRules};
 ghost use Rattle.traverse.specs.declared.target.TravRefusal.TheVariants as paths;
 ghost use Rattle.publisher.specs.declared.refusal.SiteRefusal.TheVariants as refusals;
 ghost use Rattle.publisher.specs.Faults.{told, comes_to};
+ghost use Rattle.publisher.specs.Keeping as keeping;
 ghost use Rattle.publisher.specs.Site as spec;
 
 use crate::answer::Answer;
-use crate::asking::{credentials_in, fields_in, target};
+use crate::asking::target;
 use crate::calling::{SentCall, call_on};
 use crate::page::page;
+use crate::reading::{Read, read_request};
 use crate::refusal::SiteRefusal;
+use crate::stage::Stage;
 use acquisition::Wrapped;
-use form_fields::Fields;
 use http_in::Request;
 use manage::{Call, call_named};
 use std::alloc::Global;
+use std::mem;
 use traverse::{Target, TravRefusal};
 use zbase::Text;
 use zknown::Known;
@@ -38,14 +41,13 @@ fn call_of(name: &Text) -> Option<Call>
 fn called(
     alloc: Global,
     request: &Request,
-    fields: &Fields,
-    credentials: Option<&(Text, Text)>,
+    read: &Read,
     name: Text,
     on: &Wrapped,
     known: &Known,
 ) -> Result<Answer, SiteRefusal>
     requires lawful { KeepRules (objects known.now) }
-    ensures { Answers told (λ a. a) result (comes_to known.now (spec.called request.now fields.now (option_map (λ pair. pair.now) credentials.entry)
+    ensures { Answers told (λ a. a) result (comes_to known.now (spec.called request.now read.now.fields read.now.credentials
         name (first on.now) (call_named name))) }
 {
     let Some(call) = call_of(&name) else {
@@ -53,90 +55,80 @@ fn called(
     };
     let sent = SentCall {
         request,
-        fields,
+        read,
         call,
         on,
     };
-    call_on(alloc, &sent, credentials, known)
+    call_on(alloc, &sent, known)
 }
 
 fn answered(
     alloc: Global,
     request: &Request,
-    fields: &Fields,
-    credentials: Option<&(Text, Text)>,
+    read: &Read,
     target: Target,
     known: &Known,
 ) -> Result<Answer, SiteRefusal>
     requires lawful { KeepRules (objects known.now) }
-    ensures { Answers told (λ a. a) result (comes_to known.now
-        (spec.answered request.now fields.now (option_map (λ pair. pair.now) credentials.entry) target)) }
+    ensures { Answers told (λ a. a) result (comes_to known.now (spec.answered request.now read.now.fields read.now.credentials target)) }
 {
     match target {
         Target::Page { object, client } => {
-            page(
-                alloc,
-                request,
-                fields,
-                credentials,
-                object.oid(),
-                client,
-                known,
-            )
+            page(alloc, request, read, object.oid(), client, known)
         }
-        Target::Call { name, on } => called(alloc, request, fields, credentials, name, &on, known),
+        Target::Call { name, on } => called(alloc, request, read, name, &on, known),
     }
 }
 
+// What a message comes to behind what was read of it.
 #[tactic(auto, using(crate::proofs::Steps::goes_so, crate::proofs::Steps::passes), unfolding(crate::specs::Site::with_credentials))]
-fn with_credentials(
+fn behind(
     alloc: Global,
     request: &Request,
-    fields: &Fields,
-    credentials: Option<&(Text, Text)>,
+    read: &Read,
     known: &Known,
 ) -> Result<Answer, SiteRefusal>
     requires lawful { KeepRules (objects known.now) }
-    ensures { Answers told (λ a. a) result (comes_to known.now
-        (spec.with_credentials request.now fields.now (option_map (λ pair. pair.now) credentials.entry))) }
+    ensures { Answers told (λ a. a) result (comes_to known.now (spec.with_credentials request.now read.now.fields read.now.credentials)) }
 {
     let target = target(alloc, known, request)?;
-    answered(alloc, request, fields, credentials, target, known)
+    answered(alloc, request, read, target, known)
 }
 
-fn given(
+// What a message comes to; what was read of it is kept.
+#[tactic(auto, using(crate::proofs::Stages::answers_behind))]
+fn with_read(
     alloc: Global,
     request: &Request,
-    fields: &Fields,
-    credentials: Option<(Text, Text)>,
+    read: Read,
     known: &Known,
+    stage: &mut Stage,
 ) -> Result<Answer, SiteRefusal>
     requires lawful { KeepRules (objects known.now) }
-    ensures { Answers told (λ a. a) result (comes_to known.now (spec.with_credentials request.now fields.now credentials)) }
+    requires read { keeping.IsRead read request.now }
+    ensures answers { Answers told (λ a. a) result (comes_to known.now (spec.request request.now)) }
+    ensures stage { keeping.IsStage stage.new request.now }
 {
-    with_credentials(alloc, request, fields, credentials.as_ref(), known)
+    let answer = behind(alloc, request, &read, known);
+    *stage = Stage::Read(read);
+    answer
 }
 
-#[tactic(auto, using(crate::proofs::Steps::goes_so, crate::proofs::Steps::passes), unfolding(crate::specs::Site::with_fields))]
-fn with_fields(
+/// What a whole message comes to, from the stage on to which its answer came.
+pub(crate) fn answer(
     alloc: Global,
     request: &Request,
-    fields: &Fields,
     known: &Known,
+    stage: &mut Stage,
 ) -> Result<Answer, SiteRefusal>
     requires lawful { KeepRules (objects known.now) }
-    ensures { Answers told (λ a. a) result (comes_to known.now (spec.with_fields request.now fields.now)) }
+    requires stage { keeping.IsStage stage.old request.now }
+    ensures answers { Answers told (λ a. a) result (comes_to known.now (spec.request request.now)) }
+    ensures stage { keeping.IsStage stage.new request.now }
 {
-    let credentials = credentials_in(alloc, request)?;
-    given(alloc, request, fields, credentials, known)
-}
-
-/// What a whole message comes to.
-#[tactic(auto, using(crate::proofs::Steps::goes_so, crate::proofs::Steps::passes), unfolding(crate::specs::Site::request))]
-pub(crate) fn answer(alloc: Global, request: &Request, known: &Known) -> Result<Answer, SiteRefusal>
-    requires lawful { KeepRules (objects known.now) }
-    ensures { Answers told (λ a. a) result (comes_to known.now (spec.request request.now)) }
-{
-    let fields = fields_in(alloc, request)?;
-    with_fields(alloc, request, &fields, known)
+    let read = match mem::replace(stage, Stage::Fresh) {
+        Stage::Fresh => read_request(alloc, request)?,
+        Stage::Read(read) => read,
+    };
+    with_read(alloc, request, read, known, stage)
 }

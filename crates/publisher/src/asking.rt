@@ -14,6 +14,7 @@ ghost use Rattle.publisher.specs.Faults as faults;
 ghost use Rattle.publisher.specs.Faults.{told, by_shapes, comes_to, or_stops};
 ghost use Rattle.publisher.specs.Site as spec;
 
+use crate::reading::Read;
 use crate::refusal::SiteRefusal;
 use acquisition::Wrapped;
 use form_fields::{FieldRefusal, Fields, fields};
@@ -77,9 +78,8 @@ pub(crate) fn target(alloc: Global, known: &Known, request: &Request) -> Result<
     target_of(alloc, known, request.path.as_slice())
 }
 
-/// The user of a request who needs this permission on this object.
 #[tactic(auto, using(crate::proofs::Steps::shapes_are, crate::proofs::Steps::shapes_stop))]
-pub(crate) fn user(
+fn user_with(
     alloc: Global,
     known: &Known,
     credentials: Option<&(Text, Text)>,
@@ -92,18 +92,31 @@ pub(crate) fn user(
     Ok(find_user(alloc, known, credentials, oid, permission)?)
 }
 
+/// The user of a request who needs this permission on this object.
+pub(crate) fn user(
+    alloc: Global,
+    known: &Known,
+    read: &Read,
+    oid: Oid,
+    permission: u8,
+) -> Result<Who, SiteRefusal>
+    ensures { Answers told (λ w. w) result (comes_to known.now (by_shapes faults.User (users.who read.now.credentials oid permission))) }
+{
+    user_with(alloc, known, read.credentials.as_ref(), oid, permission)
+}
+
 /// The user of a request who needs this permission on the object of a wrapper.
 pub(crate) fn user_on(
     alloc: Global,
     known: &Known,
-    credentials: Option<&(Text, Text)>,
+    read: &Read,
     on: &Wrapped,
     permission: u8,
 ) -> Result<Who, SiteRefusal>
     ensures { Answers told (λ w. w) result (comes_to known.now
-        (by_shapes faults.User (users.who (option_map (λ pair. pair.now) credentials.entry) (first on.now) permission))) }
+        (by_shapes faults.User (users.who read.now.credentials (first on.now) permission))) }
 {
-    user(alloc, known, credentials, on.oid(), permission)
+    user(alloc, known, read, on.oid(), permission)
 }
 
 // The verdict for a user on an object.

@@ -1,4 +1,4 @@
-ghost use Rattle.std.specs.Prelude.{◌≡◌, ◌++◌, codes, IfOk, OnOk, option_map};
+ghost use Rattle.std.specs.Prelude.{◌≡◌, ◌++◌, codes, IfOk, OnOk};
 ghost use Rattle.zbase.specs.Query.{Answers};
 ghost use Rattle.zknown.specs.Seen.{objects};
 ghost use Rattle.acquisition.specs.Acquiring.{first};
@@ -11,11 +11,11 @@ ghost use Rattle.publisher.specs.Site as spec;
 
 use crate::answer::Answer;
 use crate::asking::{change_on, permission, user_on, verdict};
+use crate::reading::Read;
 use crate::refusal::SiteRefusal;
 use crate::replies::line;
 use acquisition::Wrapped;
 use evaluator::{Draft, Entries, Reply};
-use form_fields::Fields;
 use http_in::Request;
 use manage::{Call, Called, Change};
 use permissions::{Verdict, Who};
@@ -84,11 +84,11 @@ fn changed(alloc: Global, request: &Request, user: &Who, made: Called) -> Result
     }
 }
 
-/// A call on an object, with the request that names it and its fields.
+/// A call on an object, with the request that names it and what was read of that.
 #[derive(Clone, Copy)]
 pub(crate) struct SentCall<'a> {
     pub request: &'a Request,
-    pub fields: &'a Fields,
+    pub read: &'a Read,
     pub call: Call,
     pub on: &'a Wrapped,
 }
@@ -103,9 +103,9 @@ fn change_by(
 ) -> Result<Answer, SiteRefusal>
     requires lawful { KeepRules (objects known.now) }
     ensures { Answers told (λ a. a) result (comes_to known.now
-        (spec.change_by sent.now.request.now sent.now.fields.now sent.now.call (first sent.now.on.now) user.now)) }
+        (spec.change_by sent.now.request.now sent.now.read.now.fields sent.now.call (first sent.now.on.now) user.now)) }
 {
-    let made = change_on(alloc, sent.call, sent.on, known, sent.fields)?;
+    let made = change_on(alloc, sent.call, sent.on, known, &sent.read.fields)?;
     let answer = changed(alloc, sent.request, user, made)?;
     Ok(answer)
 }
@@ -120,7 +120,7 @@ fn where_granted(
 ) -> Result<Answer, SiteRefusal>
     requires lawful { KeepRules (objects known.now) }
     ensures { Answers told (λ a. a) result (comes_to known.now (spec.where_granted (first sent.now.on.now) permission
-        (spec.change_by sent.now.request.now sent.now.fields.now sent.now.call (first sent.now.on.now) user.now) verdict)) }
+        (spec.change_by sent.now.request.now sent.now.read.now.fields sent.now.call (first sent.now.on.now) user.now) verdict)) }
 {
     match verdict {
         Verdict::Granted(_) => change_by(alloc, sent, known, user),
@@ -139,7 +139,7 @@ fn change_for(
 ) -> Result<Answer, SiteRefusal>
     requires lawful { KeepRules (objects known.now) }
     ensures { Answers told (λ a. a) result (comes_to known.now
-        (spec.change_for sent.now.request.now sent.now.fields.now sent.now.call (first sent.now.on.now) permission user.now)) }
+        (spec.change_for sent.now.request.now sent.now.read.now.fields sent.now.call (first sent.now.on.now) permission user.now)) }
 {
     let verdict = verdict(alloc, known, user, sent.on, permission)?;
     where_granted(alloc, sent, permission, known, user, verdict)
@@ -150,15 +150,14 @@ fn change_for(
 fn call_with(
     alloc: Global,
     sent: &SentCall<'_>,
-    credentials: Option<&(Text, Text)>,
     permission: u8,
     known: &Known,
 ) -> Result<Answer, SiteRefusal>
     requires lawful { KeepRules (objects known.now) }
-    ensures { Answers told (λ a. a) result (comes_to known.now (spec.call_with sent.now.request.now sent.now.fields.now
-        (option_map (λ pair. pair.now) credentials.entry) sent.now.call (first sent.now.on.now) permission)) }
+    ensures { Answers told (λ a. a) result (comes_to known.now (spec.call_with sent.now.request.now sent.now.read.now.fields
+        sent.now.read.now.credentials sent.now.call (first sent.now.on.now) permission)) }
 {
-    let user = user_on(alloc, known, credentials, sent.on, permission)?;
+    let user = user_on(alloc, known, sent.read, sent.on, permission)?;
     change_for(alloc, sent, permission, known, &user)
 }
 
@@ -167,13 +166,12 @@ fn call_with(
 pub(crate) fn call_on(
     alloc: Global,
     sent: &SentCall<'_>,
-    credentials: Option<&(Text, Text)>,
     known: &Known,
 ) -> Result<Answer, SiteRefusal>
     requires lawful { KeepRules (objects known.now) }
-    ensures { Answers told (λ a. a) result (comes_to known.now (spec.call_on sent.now.request.now sent.now.fields.now
-        (option_map (λ pair. pair.now) credentials.entry) sent.now.call (first sent.now.on.now))) }
+    ensures { Answers told (λ a. a) result (comes_to known.now (spec.call_on sent.now.request.now sent.now.read.now.fields
+        sent.now.read.now.credentials sent.now.call (first sent.now.on.now))) }
 {
     let permission = permission(known, sent.call, sent.request.method, sent.on)?;
-    call_with(alloc, sent, credentials, permission, known)
+    call_with(alloc, sent, permission, known)
 }

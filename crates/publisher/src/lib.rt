@@ -13,10 +13,13 @@ mod calling;
 mod finishing;
 mod halted;
 mod laws;
+mod learned;
 mod page;
+mod reading;
 mod refusal;
 mod replies;
 mod site;
+mod stage;
 mod state;
 
 pub use answer::Answer;

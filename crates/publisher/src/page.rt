@@ -1,4 +1,4 @@
-ghost use Rattle.std.specs.Prelude.{◌≡◌, [], IfOk, option_map};
+ghost use Rattle.std.specs.Prelude.{◌≡◌, [], IfOk};
 ghost use Rattle.zbase.specs.Query.{Answers};
 ghost use Rattle.zobject.specs.Shapes.{shape_of};
 ghost use Rattle.zknown.specs.Seen.{objects};
@@ -16,6 +16,7 @@ ghost use Rattle.publisher.specs.Site as spec;
 
 use crate::answer::Answer;
 use crate::asking::user;
+use crate::reading::Read;
 use crate::refusal::SiteRefusal;
 use crate::replies::page_reply;
 use acquisition::Wrapped;
@@ -145,15 +146,14 @@ fn page_for(
 pub(crate) fn page(
     alloc: Global,
     request: &Request,
-    fields: &Fields,
-    credentials: Option<&(Text, Text)>,
+    read: &Read,
     oid: Oid,
     client: Wrapped,
     known: &Known,
 ) -> Result<Answer, SiteRefusal>
     ensures { Answers told (λ a. a) result (comes_to known.now
-        (spec.page request.now fields.now (option_map (λ pair. pair.now) credentials.entry) oid client)) }
+        (spec.page request.now read.now.fields read.now.credentials oid client)) }
 {
-    let user = user(alloc, known, credentials, oid, VIEW)?;
-    page_for(alloc, request, fields, oid, client, known, user)
+    let user = user(alloc, known, read, oid, VIEW)?;
+    page_for(alloc, request, &read.fields, oid, client, known, user)
 }

@@ -19,7 +19,9 @@ ghost use Rattle.publisher.specs.SiteLaws.{site_asks_few, site_is_lawful, site_r
 use crate::answer::Answer;
 use crate::answering::answer;
 use crate::finishing::{listed, refused, undo_by};
+use crate::learned::Learned;
 use crate::replies::{by_verb, halt_of, line, message_reply};
+use crate::stage::Stage;
 use crate::state::SiteState;
 use evaluator::{Evaluator, Facts, Outcome};
 use http_in::{Message, Request, Verb, take_message};
@@ -48,12 +50,15 @@ fn outcome_of(
     request: &Request,
     facts: &Facts,
     known: &Known,
+    stage: &mut Stage,
 ) -> Result<Outcome, Memory>
     requires lawful { KeepRules (objects known.now) }
     requires once { EachOnce facts.now }
-    ensures { IfOk result (λ it. it ≡ outcome (made_of (look facts.now) request.now (comes_to known.now (spec.request request.now)))) }
+    requires stage { keeping.IsStage stage.old request.now }
+    ensures value { IfOk result (λ it. it ≡ outcome (made_of (look facts.now) request.now (comes_to known.now (spec.request request.now)))) }
+    ensures stage { keeping.IsStage stage.new request.now }
 {
-    match answer(alloc, request, known) {
+    match answer(alloc, request, known, stage) {
         Ok(Answer::Page(reply)) => Ok(Outcome::Answer(by_verb(request.method, reply))),
         Ok(Answer::Change(reply, draft)) => {
             Ok(Outcome::Change(by_verb(request.method, reply), draft))
@@ -90,30 +95,33 @@ fn asks_more(asks: usize, outcome: &Outcome) -> bool
     asks == MOST_ASKS && is_need(outcome)
 }
 
-fn has_too_many_bytes(state: &SiteState) -> bool
-    ensures { result ≡ nat_lt most_bytes state.now.bytes }
+fn has_too_many_bytes(learned: &Learned) -> bool
+    ensures { result ≡ nat_lt most_bytes learned.now.bytes }
 {
-    MOST_BYTES < state.bytes()
+    MOST_BYTES < learned.bytes()
 }
 
 // What a whole message comes to over the facts that were taken over.
 #[tactic(auto, using(crate::proofs::Limiting::over_bytes, crate::proofs::Limiting::over_asks, crate::proofs::Limiting::within_both))]
 fn limited(
     alloc: Global,
-    state: &SiteState,
+    learned: &Learned,
+    stage: &mut Stage,
     facts: &Facts,
     request: &Request,
 ) -> Result<Outcome, Memory>
-    requires holds { keeping.Holds state.now facts.now }
+    requires holds { keeping.Holds learned.now facts.now }
     requires once { EachOnce facts.now }
-    ensures { IfOk result (λ it. it ≡ outcome (judged (replies.by_verb request.now.method replies.runaway_facts) facts.now
-        (made_of (look facts.now) request.now (comes_to state.now.known (spec.request request.now))))) }
+    requires stage { keeping.IsStage stage.old request.now }
+    ensures value { IfOk result (λ it. it ≡ outcome (judged (replies.by_verb request.now.method replies.runaway_facts) facts.now
+        (made_of (look facts.now) request.now (comes_to learned.now.known (spec.request request.now))))) }
+    ensures stage { keeping.IsStage stage.new request.now }
 {
-    if has_too_many_bytes(state) {
+    if has_too_many_bytes(learned) {
         let runaway = runaway(alloc, request.method)?;
         return Ok(runaway);
     }
-    let outcome = outcome_of(alloc, request, facts, state.known())?;
+    let outcome = outcome_of(alloc, request, facts, learned.known(), stage)?;
     if asks_more(facts.len(), &outcome) {
         let runaway = runaway(alloc, request.method)?;
         return Ok(runaway);
@@ -125,13 +133,16 @@ fn limited(
 #[tactic(auto, using(crate::proofs::Limiting::site_whole))]
 fn evaluated(
     alloc: Global,
-    state: &SiteState,
+    learned: &Learned,
+    stage: &mut Stage,
     facts: &Facts,
     message: &Message,
 ) -> Result<Outcome, Memory>
-    requires holds { keeping.Holds state.now facts.now }
+    requires holds { keeping.Holds learned.now facts.now }
     requires trail { IsTrail (λ known. spec.site (look known) message.now) facts.now }
-    ensures { IfOk result (λ it. it ≡ spec.site (look facts.now) message.now) }
+    requires stage { keeping.IsStageOf stage.old message.now }
+    ensures value { IfOk result (λ it. it ≡ spec.site (look facts.now) message.now) }
+    ensures stage { keeping.IsStageOf stage.new message.now }
 {
     match message {
         Message::Refused(cause) => {
@@ -139,7 +150,7 @@ fn evaluated(
             Ok(Outcome::Answer(reply))
         }
         Message::Whole(request) => {
-            let outcome = limited(alloc, state, facts, request)?;
+            let outcome = limited(alloc, learned, stage, facts, request)?;
             Ok(outcome)
         }
     }
@@ -161,7 +172,7 @@ impl Evaluator for Site {
 
     ghost meaning = { spec.site };
 
-    ghost fits = { λ state facts _. keeping.Fits state facts };
+    ghost fits = { keeping.Fits };
 
     fn take(&self, bytes: &[u8]) -> Result<Option<Message>, Memory> {
         take_message(self.alloc, bytes)
@@ -177,8 +188,8 @@ impl Evaluator for Site {
         known: &Facts,
         request: &Message,
     ) -> Result<Outcome, Memory> {
-        state.learn(self.alloc, known)?;
-        let outcome = evaluated(self.alloc, state, known, request)?;
+        state.learned.learn(self.alloc, known)?;
+        let outcome = evaluated(self.alloc, &state.learned, &mut state.stage, known, request)?;
         Ok(outcome)
     }
 

@@ -1,5 +1,4 @@
 use Rattle.permissions.specs.Users.{who}
-use Rattle.std.specs.Option.{option_map}
 use Rattle.acquisition.specs.Acquiring.{first}
 use Rattle.publisher.specs.Faults as faults
 use Rattle.publisher.specs.Faults.{told, by_shapes, or_stops}
@@ -9,4 +8,4 @@ use Rattle.publisher.proofs.calling.call_with.Goals as goal
 
 pub returns : goal.returns
 unfolding call_with
-returns c = goes_so told _ c.change_for.result c.args.known.now (by_shapes faults.User (who (option_map (λ pair. pair.now) c.args.credentials) (first c.args.sent.now.on.now) c.args.permission)) _ c.in_ok-user.user c.in_ok-user.ensures c.change_for.ensures
+returns c = goes_so told _ c.change_for.result c.args.known.now (by_shapes faults.User (who c.args.sent.now.read.now.credentials (first c.args.sent.now.on.now) c.args.permission)) _ c.in_ok-user.user c.in_ok-user.ensures c.change_for.ensures

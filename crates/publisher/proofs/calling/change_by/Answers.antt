@@ -10,5 +10,5 @@ use Rattle.publisher.proofs.calling.change_by.Goals as goal
 pub returns : goal.returns
 unfolding change_by
 returns c =
-    goes c.args.known.now (or_else faults.Call (change c.args.sent.now.call (first c.args.sent.now.on.now) c.args.sent.now.fields.now)) (changed c.args.sent.now.request.now c.args.user.now) c.in_ok-made.made c.in_ok-made.ensures
+    goes c.args.known.now (or_else faults.Call (change c.args.sent.now.call (first c.args.sent.now.on.now) c.args.sent.now.read.now.fields)) (changed c.args.sent.now.request.now c.args.user.now) c.in_ok-made.made c.in_ok-made.ensures
     ∙ ap (λ a. Ok a) (sym c.in_ok-answer.ensures)

@@ -1,5 +1,4 @@
 use Rattle.permissions.specs.Users.{who}
-use Rattle.std.specs.Option.{option_map}
 use Rattle.namespace.specs.Looks.{view}
 use Rattle.publisher.specs.Faults as faults
 use Rattle.publisher.specs.Faults.{told, by_shapes, or_stops}
@@ -9,4 +8,4 @@ use Rattle.publisher.proofs.page.page.Goals as goal
 
 pub returns : goal.returns
 unfolding page
-returns c = goes_so told _ c.page_for.result c.args.known.now (by_shapes faults.User (who (option_map (λ pair. pair.now) c.args.credentials) c.args.oid view)) _ c.in_ok-user.user c.in_ok-user.ensures c.page_for.ensures
+returns c = goes_so told _ c.page_for.result c.args.known.now (by_shapes faults.User (who c.args.read.now.credentials c.args.oid view)) _ c.in_ok-user.user c.in_ok-user.ensures c.page_for.ensures

@@ -5,6 +5,6 @@ use Rattle.publisher.specs.Site.{request}
 use Rattle.publisher.proofs.Limiting.{halts_at}
 use Rattle.publisher.proofs.site.outcome_of.Goals as goal
 
-pub returns-in_ok-halted-in-Err : goal.returns-in_ok-halted-in-Err
-returns-in_ok-halted-in-Err c =
-    c.refused.ensures ∙ halts_at (look c.args.facts.now) c.args.request.now (told c.in-Err.cause) (comes_to c.args.known.now (request c.args.request.now)) c.in_ok-halted-in-Err.halted c.in-Err.ensures c.in_ok-halted-in-Err.ensures
+pub returns-in_ok-halted-in-Err-clause-value : goal.returns-in_ok-halted-in-Err-clause-value
+returns-in_ok-halted-in-Err-clause-value c =
+    c.refused.ensures ∙ halts_at (look c.args.facts.now) c.args.request.now (told c.in-Err.cause) (comes_to c.args.known.now (request c.args.request.now)) c.in_ok-halted-in-Err.halted c.in-Err.ensures.answers c.in_ok-halted-in-Err.ensures

@@ -1,5 +1,4 @@
-use Rattle.std.proofs.Common.{[], refl}
 use Rattle.publisher.proofs.site.SiteEvaluator.fresh.Goals as goal
 
 pub returns : goal.returns
-returns c = λ known request. record { front = []; rest = known; parts = refl; holds = c.new.ensures }
+returns c = λ known message. c.new.ensures known message

@@ -1,7 +1,7 @@
 use Rattle.std.proofs.Common.{◌≡◌, ◌≤◌, ◌+◌, ◌-◌, ◌^◌, drop, sum_by}
 use Rattle.evaluator.specs.Questions.{size_of_part}
 use Rattle.publisher.specs.Keeping.{saturated}
-use Rattle.publisher.proofs.state.parts_size.Given as goal
+use Rattle.publisher.proofs.learned.parts_size.Given as goal
 
 -- the size so far becomes that of all parts with the parts that are left
 abbrev pub invariant-loop-part : goal.invariant-loop-part

@@ -1,6 +1,6 @@
 use Rattle.std.proofs.Common.{◌≡◌, ◌<◌, ap, arith, get_or, length, subst, take}
 use Rattle.publisher.proofs.Learning.{fits_so, next_holds}
-use Rattle.publisher.proofs.state.SiteState.learn.Goals as goal
+use Rattle.publisher.proofs.learned.Learned.learn.Goals as goal
 
 pub returns-in_err-learn_one-clause-fits : goal.returns-in_err-learn_one-clause-fits
 returns-in_err-learn_one-clause-fits c = λ more. fits_so _ c.args.facts.now c.loop-at.at (c.in_err-learn_one.ensures.stays (take c.loop-at.at c.args.facts.now) c.loop-at.invariant.1) more

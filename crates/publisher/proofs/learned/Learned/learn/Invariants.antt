@@ -1,6 +1,6 @@
 use Rattle.std.proofs.Common.{◌≤◌, length, take}
 use Rattle.publisher.specs.Keeping.{Holds}
-use Rattle.publisher.proofs.state.SiteState.learn.Given as goal
+use Rattle.publisher.proofs.learned.Learned.learn.Given as goal
 
 -- the facts before this place are taken over
 abbrev pub invariant-loop-at : goal.invariant-loop-at

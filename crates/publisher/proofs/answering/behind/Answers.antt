@@ -3,7 +3,7 @@ use Rattle.publisher.specs.Faults as faults
 use Rattle.publisher.specs.Faults.{told, by_shapes, or_stops}
 use Rattle.publisher.specs.Site.{with_credentials}
 use Rattle.publisher.proofs.Steps.{goes_so}
-use Rattle.publisher.proofs.answering.with_credentials.Goals as goal
+use Rattle.publisher.proofs.answering.behind.Goals as goal
 
 pub returns : goal.returns
 unfolding with_credentials

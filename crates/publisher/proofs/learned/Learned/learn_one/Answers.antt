@@ -1,7 +1,7 @@
 use Rattle.std.proofs.Common.{ℕ, ◌∙◌, ◌+◌, ◌-◌, ◌^◌, ap, refl}
 use Rattle.std.specs.Prelude.{min}
 use Rattle.publisher.proofs.Learning.{holds_more, holds_still, on_err}
-use Rattle.publisher.proofs.state.SiteState.learn_one.Goals as goal
+use Rattle.publisher.proofs.learned.Learned.learn_one.Goals as goal
 
 pub returns-in_err-learn_fact-clause-stays : goal.returns-in_err-learn_fact-clause-stays
 returns-in_err-learn_fact-clause-stays c = on_err c.from_residual.result _ (λ front. holds_still c.args.self.now _ front (c.in_err-learn_fact.ensures.stays front) c.in_err-learn_fact.ensures.rules refl refl)
