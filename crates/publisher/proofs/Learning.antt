@@ -6,6 +6,7 @@ use Rattle.std.proofs.lemmas.List.{length-append, length-take-le, take-append-dr
 use Rattle.std.proofs.lemmas.List.Sums.{sum_by_push}
 use Rattle.std.specs.Option.{option_or}
 use Rattle.std.specs.Prelude.{IfOk, OnErr, is_some, min}
+use Rattle.zbase.specs.Query.{Grows}
 use Rattle.zobject.specs.declared.object.Object.{Object}
 use Rattle.zobject.specs.declared.refusal.CodecRefusal.{CodecRefusal}
 use Rattle.zobject.specs.declared.refusal.CodecRefusal.TheVariants.{Memory, BadRecord}
@@ -133,6 +134,25 @@ learn_transaction rows facts f t parts is knows = subst (λ (g : Fact). Knows ro
 
 pub learn_log : (rows : List (ℕ × Kept)) (facts : List Fact) (f : Fact) (log : List LogRow) → f ≡ Fact.Log log → Knows rows facts → Knows rows (facts ++ f ∷ [])
 learn_log rows facts f log is knows = subst (λ (g : Fact). Knows rows (facts ++ g ∷ [])) (sym is) (other_fact rows facts (Fact.Log log) (λ o. refl) knows)
+
+-- ---- what was known stays known
+
+pub grows_not : (rows : List (ℕ × Kept)) → Grows (objects rows) (objects rows)
+grows_not rows = λ o seen e. e
+
+pub grows_further : (first second third : List (ℕ × Kept)) → Grows (objects first) (objects second) → Grows (objects second) (objects third) → Grows (objects first) (objects third)
+grows_further first second third one two = λ o seen e. two o seen (one o seen e)
+
+pub same_grows : (old new : List (ℕ × Kept)) → IsSame old new → Grows (objects old) (objects new)
+same_grows old new same = λ o seen e. ap (option_map (seen_as (λ (x : Object). x))) (same o) ∙ e
+
+pub new_grows : (old new : List (ℕ × Kept)) (oid : ℕ) (value : Value) → is_some (last_added old oid) ≡ false → IsAdded oid value old new → Grows (objects old) (objects new)
+new_grows old new oid value none added = λ o seen e. ap (option_map (seen_as (λ (x : Object). x))) (added o) ∙ at o seen (oid == o) refl e
+  where
+    at : (o : ℕ) (seen : Seen Object) (same : Bool) → (oid == o) ≡ same → option_map (seen_as (λ (x : Object). x)) (last_added old o) ≡ Some seen →
+        option_map (seen_as (λ (x : Object). x)) (if same then Some (kept_value value) else last_added old o) ≡ Some seen
+    at o seen true is e = absurd (let unknown = none_is (last_added old oid) none in let known = subst (λ p. option_map (seen_as (λ (x : Object). x)) (last_added old p) ≡ Some seen) (sym (eqb-true oid o is)) e in let bad : ◌≡◌ {A = Option (Seen Object)} None (Some seen) = ap (option_map (seen_as (λ (x : Object). x))) (sym unknown) ∙ known in cc)
+    at o seen false is e = e
 
 -- ---- sums
 

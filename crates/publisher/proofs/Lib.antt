@@ -4,6 +4,6 @@ mod Showing
 mod Denying
 mod Apart
 mod Learning
+mod PageSteps
 mod Stages
 mod Limiting
-mod PageSteps

@@ -11,18 +11,11 @@ use Rattle.evaluator.specs.declared.ask.Ask.{Ask}
 use Rattle.evaluator.specs.declared.fact.Fact.{Fact}
 use Rattle.evaluator.specs.Facts.{look}
 use Rattle.evaluator.specs.Questions.{size_of_fact}
-use Rattle.form_fields.specs.Fields.{fields_of}
 use Rattle.http_in.specs.declared.message.Message.{Message}
-use Rattle.http_in.specs.declared.message.Message.TheVariants.{Whole, Refused}
-use Rattle.http_in.specs.declared.message.Request.{Request}
 use Rattle.manage.specs.Changing.{KeepRules}
-use Rattle.user_folder.specs.Credentials.{credentials_of}
 use Rattle.publisher.specs.declared.learned.Learned.{Learned}
-use Rattle.publisher.specs.declared.reading.Read.{Read}
-use Rattle.publisher.specs.declared.stage.Stage.{Stage}
-use Rattle.publisher.specs.declared.stage.Stage.TheVariants as stages
 use Rattle.publisher.specs.declared.state.SiteState.{SiteState}
-use Rattle.publisher.specs.Site.{authorization}
+use Rattle.publisher.specs.Underway.{IsStageOf}
 
 abbrev pub kept_as : Result Object ℕ → Kept
 kept_as (Ok object) = kept.Here object
@@ -70,22 +63,7 @@ pub record HoldsFirst (learned : Learned) (facts : List Fact) : Type 0 where
   pub parts : facts ≡ front ++ rest
   pub holds : Holds learned front
 
--- what was read of a request is its own
-pub record IsRead (r : Read) (q : Request) : Type 0 where
-  pub fields : fields_of q ≡ Ok r.fields
-  pub credentials : credentials_of (authorization q) ≡ Ok r.credentials
-
--- the answer to a request came so far
-abbrev pub IsStage : Stage → Request → Type 0
-IsStage stages.Fresh q = Unit {0}
-IsStage (stages.Read r) q = IsRead r q
-
--- a refused message is answered at once
-abbrev pub IsStageOf : Stage → Message → Type 0
-IsStageOf stage (Whole q) = IsStage stage q
-IsStageOf stage (Refused cause) = stage ≡ stages.Fresh
-
 -- what is kept was found out of these facts, or of the first of them, and of this message
 pub record Fits (state : SiteState) (facts : List Fact) (message : Message) : Type 0 where
   pub learned : HoldsFirst state.learned facts
-  pub stage : IsStageOf state.stage message
+  pub stage : IsStageOf (objects state.learned.known) state.stage message

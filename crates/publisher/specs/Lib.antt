@@ -13,5 +13,6 @@ pub mod Backwards
 pub mod Granting
 pub mod ChangeLaws
 pub mod Worked
+pub mod Underway
 pub mod Keeping
 pub mod Halting

@@ -7,16 +7,16 @@ ghost use Rattle.manage.specs.Changing.{KeepRules};
 ghost use Rattle.traverse.specs.declared.target.TravRefusal.TheVariants as paths;
 ghost use Rattle.publisher.specs.declared.refusal.SiteRefusal.TheVariants as refusals;
 ghost use Rattle.publisher.specs.Faults.{told, comes_to};
-ghost use Rattle.publisher.specs.Keeping as keeping;
 ghost use Rattle.publisher.specs.Site as spec;
+ghost use Rattle.publisher.specs.Underway.{IsRead, IsStage, Meets};
 
 use crate::answer::Answer;
 use crate::asking::target;
 use crate::calling::{SentCall, call_on};
-use crate::page::page;
+use crate::page::{begin, go_on};
 use crate::reading::{Read, read_request};
 use crate::refusal::SiteRefusal;
-use crate::stage::Stage;
+use crate::stage::{Met, Stage};
 use acquisition::Wrapped;
 use http_in::Request;
 use manage::{Call, call_named};
@@ -68,35 +68,33 @@ fn answered(
     read: &Read,
     target: Target,
     known: &Known,
-) -> Result<Answer, SiteRefusal>
+) -> Result<Met, SiteRefusal>
     requires lawful { KeepRules (objects known.now) }
-    ensures { Answers told (λ a. a) result (comes_to known.now (spec.answered request.now read.now.fields read.now.credentials target)) }
+    ensures { Meets known.now result (spec.answered request.now read.now.fields read.now.credentials target) }
 {
     match target {
         Target::Page { object, client } => {
-            page(alloc, request, read, object.oid(), client, known)
+            let underway = begin(alloc, request, read, object.oid(), client, known)?;
+            Ok(Met::Begun(underway))
         }
-        Target::Call { name, on } => called(alloc, request, read, name, &on, known),
+        Target::Call { name, on } => {
+            let answer = called(alloc, request, read, name, &on, known)?;
+            Ok(Met::Answered(answer))
+        }
     }
 }
 
-// What a message comes to behind what was read of it.
-#[tactic(auto, using(crate::proofs::Steps::goes_so, crate::proofs::Steps::passes), unfolding(crate::specs::Site::with_credentials))]
-fn behind(
-    alloc: Global,
-    request: &Request,
-    read: &Read,
-    known: &Known,
-) -> Result<Answer, SiteRefusal>
+// What a message meets behind what was read of it.
+#[tactic(auto, using(crate::proofs::Stages::goes_meets, crate::proofs::Steps::passes), unfolding(crate::specs::Site::with_credentials))]
+fn behind(alloc: Global, request: &Request, read: &Read, known: &Known) -> Result<Met, SiteRefusal>
     requires lawful { KeepRules (objects known.now) }
-    ensures { Answers told (λ a. a) result (comes_to known.now (spec.with_credentials request.now read.now.fields read.now.credentials)) }
+    ensures { Meets known.now result (spec.with_credentials request.now read.now.fields read.now.credentials) }
 {
     let target = target(alloc, known, request)?;
     answered(alloc, request, read, target, known)
 }
 
-// What a message comes to; what was read of it is kept.
-#[tactic(auto, using(crate::proofs::Stages::answers_behind))]
+// What a message comes to behind what was read of it, which is kept until its page begins.
 fn with_read(
     alloc: Global,
     request: &Request,
@@ -105,13 +103,19 @@ fn with_read(
     stage: &mut Stage,
 ) -> Result<Answer, SiteRefusal>
     requires lawful { KeepRules (objects known.now) }
-    requires read { keeping.IsRead read request.now }
+    requires read { IsRead read request.now }
+    requires stage { IsStage (objects known.now) stage.old request.now }
     ensures answers { Answers told (λ a. a) result (comes_to known.now (spec.request request.now)) }
-    ensures stage { keeping.IsStage stage.new request.now }
+    ensures stage { IsStage (objects known.now) stage.new request.now }
 {
-    let answer = behind(alloc, request, &read, known);
-    *stage = Stage::Read(read);
-    answer
+    match behind(alloc, request, &read, known) {
+        Ok(Met::Answered(answer)) => Ok(answer),
+        Ok(Met::Begun(underway)) => go_on(alloc, underway, known, stage),
+        Err(refusal) => {
+            *stage = Stage::Read(read);
+            Err(refusal)
+        }
+    }
 }
 
 /// What a whole message comes to, from the stage on to which its answer came.
@@ -122,13 +126,16 @@ pub(crate) fn answer(
     stage: &mut Stage,
 ) -> Result<Answer, SiteRefusal>
     requires lawful { KeepRules (objects known.now) }
-    requires stage { keeping.IsStage stage.old request.now }
+    requires stage { IsStage (objects known.now) stage.old request.now }
     ensures answers { Answers told (λ a. a) result (comes_to known.now (spec.request request.now)) }
-    ensures stage { keeping.IsStage stage.new request.now }
+    ensures stage { IsStage (objects known.now) stage.new request.now }
 {
-    let read = match mem::replace(stage, Stage::Fresh) {
-        Stage::Fresh => read_request(alloc, request)?,
-        Stage::Read(read) => read,
-    };
-    with_read(alloc, request, read, known, stage)
+    match mem::replace(stage, Stage::Fresh) {
+        Stage::Fresh => {
+            let read = read_request(alloc, request)?;
+            with_read(alloc, request, read, known, stage)
+        }
+        Stage::Read(read) => with_read(alloc, request, read, known, stage),
+        Stage::Page(underway) => go_on(alloc, underway, known, stage),
+    }
 }

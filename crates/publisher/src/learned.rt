@@ -1,4 +1,5 @@
 ghost use Rattle.std.specs.Prelude.{◌≡◌, ◌==◌, ◌<◌, ◌+◌, ◌^◌, ◌++◌, ◌∷◌, [], ℕ, List, Some, OnErr, OnOk, is_some, sum_by, if◌then◌else◌};
+ghost use Rattle.zbase.specs.Query.{Grows};
 ghost use Rattle.zknown.specs.Seen.{last_added, objects};
 ghost use Rattle.evaluator.specs.declared.fact.Fact.{Fact as FactValue};
 ghost use Rattle.evaluator.specs.Questions.{size_of_fact, size_of_part, size_of_value};
@@ -89,12 +90,13 @@ fn is_known(known: &Known, oid: Oid) -> bool
 }
 
 // Reads the value of an object that isn't known yet.
-#[tactic(auto, using(crate::proofs::Learning::learn_new, crate::proofs::Learning::learn_known, crate::proofs::Learning::knows_same))]
+#[tactic(auto, using(crate::proofs::Learning::learn_new, crate::proofs::Learning::learn_known, crate::proofs::Learning::knows_same, crate::proofs::Learning::grows_not, crate::proofs::Learning::same_grows, crate::proofs::Learning::new_grows))]
 fn learn_object(alloc: Global, known: &mut Known, oid: Oid, value: &Value) -> Result<(), Memory>
     ensures added { OnOk result ((facts : List FactValue) (serial : ℕ) → keeping.Knows known.old facts
         → keeping.Knows known.new (facts ++ FactValue.Object oid value.now serial ∷ [])) }
     ensures rules { KeepRules (objects known.old) → KeepRules (objects known.new) }
     ensures stays { OnErr result ((facts : List FactValue) → keeping.Knows known.old facts → keeping.Knows known.new facts) }
+    ensures grows { Grows (objects known.old) (objects known.new) }
 {
     if is_known(known, oid) {
         return Ok(());
@@ -103,11 +105,12 @@ fn learn_object(alloc: Global, known: &mut Known, oid: Oid, value: &Value) -> Re
     Ok(())
 }
 
-#[tactic(auto, using(crate::proofs::Learning::learn_transaction, crate::proofs::Learning::learn_log))]
+#[tactic(auto, using(crate::proofs::Learning::learn_transaction, crate::proofs::Learning::learn_log, crate::proofs::Learning::grows_not))]
 fn learn_fact(alloc: Global, known: &mut Known, fact: &Fact) -> Result<(), Memory>
     ensures added { OnOk result ((facts : List FactValue) → keeping.Knows known.old facts → keeping.Knows known.new (facts ++ fact.now ∷ [])) }
     ensures rules { KeepRules (objects known.old) → KeepRules (objects known.new) }
     ensures stays { OnErr result ((facts : List FactValue) → keeping.Knows known.old facts → keeping.Knows known.new facts) }
+    ensures grows { Grows (objects known.old) (objects known.new) }
 {
     match fact {
         Fact::Object { oid, value, .. } => learn_object(alloc, known, *oid, value),
@@ -134,6 +137,7 @@ impl Learned {
         requires { self.old.taken + 1 < 2 ^ 64 }
         ensures added { OnOk result ((front : List FactValue) → keeping.Holds self.old front → keeping.Holds self.new (front ++ fact.now ∷ [])) }
         ensures stays { OnErr result ((front : List FactValue) → keeping.Holds self.old front → keeping.Holds self.new front) }
+        ensures grows { Grows (objects self.old.known) (objects self.new.known) }
     {
         learn_fact(alloc, &mut self.known, fact)?;
         self.bytes = self.bytes.saturating_add(fact_size(fact));
@@ -147,6 +151,7 @@ impl Learned {
         requires fits { keeping.HoldsFirst self.old facts.now }
         ensures all { OnOk result (keeping.Holds self.new facts.now) }
         ensures fits { (more : List FactValue) → keeping.HoldsFirst self.new (facts.now ++ more) }
+        ensures grows { Grows (objects self.old.known) (objects self.new.known) }
     {
         let all = facts.as_slice();
         for at in self.taken..all.len() {

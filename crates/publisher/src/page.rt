@@ -10,17 +10,21 @@ ghost use Rattle.namespace.specs.Names as names;
 ghost use Rattle.namespace.specs.Requests as requests;
 ghost use Rattle.namespace.specs.Told.{Shows};
 ghost use Rattle.form_fields.specs.Cookies.{cookies_of};
+ghost use Rattle.http_in.specs.declared.message.Request.{Request as RequestValue};
+ghost use Rattle.dtml_render.specs.Frames.{IsStanding};
 ghost use Rattle.publisher.specs.Faults.{told, comes_to};
 ghost use Rattle.publisher.specs.Pages as pages;
 ghost use Rattle.publisher.specs.Site as spec;
+ghost use Rattle.publisher.specs.Underway.{Begins, IsStage, IsUnderway, PageBegins, is_need, place, rest_answer};
 
 use crate::answer::Answer;
 use crate::asking::user;
 use crate::reading::Read;
 use crate::refusal::SiteRefusal;
 use crate::replies::page_reply;
+use crate::stage::{Stage, Underway};
 use acquisition::Wrapped;
-use dtml_render::{Budget, RenderRefusal, read_source, render, source_of};
+use dtml_render::{Budget, Page, RenderRefusal, Source, read_source, source_of};
 use evaluator::permission::VIEW;
 use form_fields::{Fields, cookies};
 use http_in::Request;
@@ -52,24 +56,22 @@ fn whole_budget() -> Budget
     }
 }
 
-// The source of the published object, rendered.
-#[tactic(auto, using(crate::proofs::PageSteps::source_is))]
+// The page of the published object's source begins.
 fn source_page(
     alloc: Global,
     oid: Oid,
     object: &Object,
     stack: &mut Stack<'_>,
-    budget: &mut Budget,
-) -> Result<Text, RenderRefusal>
-    requires renders { budget.old.renders ≡ 31 }
-    requires left { left_of budget.old ≡ pages.whole_budget }
-    ensures { Shows values.told (λ t. (t, left_of budget.new)) stack.new.shown result
-        (looked (objects stack.old.known) stack.old.shown (pages.source_page stack.old.scope oid object.now)) }
+) -> Result<Page<'static>, RenderRefusal>
+    ensures begins { PageBegins stack.old stack.new result (pages.source_page stack.old.scope oid object.now) }
+    ensures known { stack.new.known ≡ stack.old.known }
 {
     let acting = acting(alloc, object)?;
     let _former = stack.act(acting);
     let tree = read_source(alloc, oid, source_of(&object.part))?;
-    render(alloc, &tree, stack, budget)
+    let source = Source::read(alloc, tree)?;
+    let page = Page::new(alloc, source, stack, whole_budget())?;
+    Ok(page)
 }
 
 // The object, which its user must be granted to view.
@@ -84,31 +86,30 @@ fn open<'k>(oid: Oid, stack: &mut Stack<'k>) -> Result<&'k Object, RenderRefusal
     Ok(object)
 }
 
-// The page of an object, and what is left then.
+// The page of an object begins.
 fn scope_page(
     alloc: Global,
     oid: Oid,
     stack: &mut Stack<'_>,
-) -> Result<(Text, Budget), RenderRefusal>
-    ensures { Shows values.told (λ x. (x.0, left_of x.1)) stack.new.shown result
-        (looked (objects stack.old.known) stack.old.shown (pages.scope_page stack.old.scope oid)) }
+) -> Result<Page<'static>, RenderRefusal>
+    ensures begins { PageBegins stack.old stack.new result (pages.scope_page stack.old.scope oid) }
+    ensures known { stack.new.known ≡ stack.old.known }
 {
     let object = open(oid, stack)?;
-    let mut budget = whole_budget();
-    let text = source_page(alloc, oid, object, stack, &mut budget)?;
-    Ok((text, budget))
+    source_page(alloc, oid, object, stack)
 }
 
-// The page of an object in the scope of a stack on which nothing was shown.
-#[tactic(auto, using(crate::proofs::PageSteps::page_done, crate::proofs::PageSteps::page_halts))]
-fn answer_in(alloc: Global, oid: Oid, stack: Stack<'_>) -> Result<Answer, SiteRefusal>
+// The page of an object begins in the scope of a stack on which nothing was shown.
+fn begin_in(alloc: Global, oid: Oid, stack: Stack<'_>) -> Result<Underway, SiteRefusal>
     requires none_shown { stack.shown ≡ [] }
-    ensures { Answers told (λ a. a) result (comes_to stack.entry.known (spec.scope_answer stack.entry.scope oid)) }
+    ensures { Begins stack.entry.known result (spec.scope_answer stack.entry.scope oid) }
 {
     let mut stack = stack;
-    let (text, _left) = scope_page(alloc, oid, &mut stack)?;
-    let shown = stack.into_shown();
-    Ok(Answer::Page(page_reply(text, shown)))
+    let page = scope_page(alloc, oid, &mut stack)?;
+    Ok(Underway {
+        page,
+        resting: stack.rest(),
+    })
 }
 
 // The names of a request by a user.
@@ -124,8 +125,8 @@ fn page_names(
     request_names(alloc, request, user, fields, &cookies)
 }
 
-// The page of an object for a user.
-fn page_for(
+// The page of an object begins for a user.
+fn begin_for(
     alloc: Global,
     request: &Request,
     fields: &Fields,
@@ -133,27 +134,62 @@ fn page_for(
     client: Wrapped,
     known: &Known,
     user: Who,
-) -> Result<Answer, SiteRefusal>
-    ensures { Answers told (λ a. a) result (comes_to known.now (spec.page_for request.now fields.now oid client user)) }
+) -> Result<Underway, SiteRefusal>
+    ensures { Begins known.now result (spec.page_for request.now fields.now oid client user) }
 {
     let names = page_names(alloc, request, fields, &user)?;
     let stack = Stack::new(alloc, known, user, client, names);
-    answer_in(alloc, oid, stack)
+    begin_in(alloc, oid, stack)
 }
 
-/// The page of a published object.
-#[tactic(auto, using(crate::proofs::Steps::goes_so, crate::proofs::Steps::passes), unfolding(crate::specs::Site::page))]
-pub(crate) fn page(
+/// The page of a published object begins.
+#[tactic(auto, using(crate::proofs::Stages::goes_begins, crate::proofs::Steps::passes), unfolding(crate::specs::Site::page))]
+pub(crate) fn begin(
     alloc: Global,
     request: &Request,
     read: &Read,
     oid: Oid,
     client: Wrapped,
     known: &Known,
-) -> Result<Answer, SiteRefusal>
-    ensures { Answers told (λ a. a) result (comes_to known.now
-        (spec.page request.now read.now.fields read.now.credentials oid client)) }
+) -> Result<Underway, SiteRefusal>
+    ensures { Begins known.now result (spec.page request.now read.now.fields read.now.credentials oid client) }
 {
     let user = user(alloc, known, read, oid, VIEW)?;
-    page_for(alloc, request, &read.fields, oid, client, known, user)
+    begin_for(alloc, request, &read.fields, oid, client, known, user)
+}
+
+// Whether a page is refused for want of an object that isn't known.
+fn is_need(refusal: &RenderRefusal) -> bool
+    ensures { result ≡ is_need refusal.now }
+{
+    match refusal {
+        RenderRefusal::Need(_) => true,
+        _ => false,
+    }
+}
+
+/// The page goes on over what is known. Where it wants an object that isn't known, it is kept.
+pub(crate) fn go_on(
+    alloc: Global,
+    underway: Underway,
+    known: &Known,
+    stage: &mut Stage,
+) -> Result<Answer, SiteRefusal>
+    requires stands { IsStanding (place underway) }
+    ensures answers { Answers told (λ a. a) result (comes_to known.now (rest_answer underway)) }
+    ensures stage { (q : RequestValue) → IsStage (objects known.now) stage.old q → IsUnderway (objects known.now) underway (spec.request q)
+        → IsStage (objects known.now) stage.new q }
+{
+    let mut page = underway.page;
+    let mut stack = underway.resting.on(known);
+    match page.go_on(alloc, &mut stack) {
+        Ok(text) => Ok(Answer::Page(page_reply(text, stack.into_shown()))),
+        Err(refusal) => {
+            if is_need(&refusal) {
+                let resting = stack.rest();
+                *stage = Stage::Page(Underway { page, resting });
+            }
+            Err(SiteRefusal::Page(refusal))
+        }
+    }
 }

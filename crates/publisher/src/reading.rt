@@ -2,8 +2,8 @@ ghost use Rattle.std.specs.Prelude.{ℕ, List, IfErr, IfOk};
 ghost use Rattle.zbase.specs.Query.{Told};
 ghost use Rattle.zknown.specs.declared.kept.Kept.{Kept};
 ghost use Rattle.publisher.specs.Faults.{told, comes_to};
-ghost use Rattle.publisher.specs.Keeping as keeping;
 ghost use Rattle.publisher.specs.Site as spec;
+ghost use Rattle.publisher.specs.Underway.{IsRead};
 
 use crate::asking::{credentials_in, fields_in};
 use crate::refusal::SiteRefusal;
@@ -21,7 +21,7 @@ pub(crate) struct Read {
 
 /// Reads a request.
 pub(crate) fn read_request(alloc: Global, request: &Request) -> Result<Read, SiteRefusal>
-    ensures read { IfOk result (λ read. keeping.IsRead read request.now) }
+    ensures read { IfOk result (λ read. IsRead read request.now) }
     ensures refused { IfErr result (λ e. (rows : List (ℕ × Kept)) → Told (told e) (comes_to rows (spec.request request.now))) }
 {
     let fields = fields_in(alloc, request)?;

@@ -13,6 +13,7 @@ ghost use Rattle.publisher.specs.Halting as halting;
 ghost use Rattle.publisher.specs.Keeping as keeping;
 ghost use Rattle.publisher.specs.Replies as replies;
 ghost use Rattle.publisher.specs.Site as spec;
+ghost use Rattle.publisher.specs.Underway.{IsStage, IsStageOf};
 ghost use Rattle.publisher.specs.ChangeLaws.{site_changes};
 ghost use Rattle.publisher.specs.SiteLaws.{site_asks_few, site_is_lawful, site_replies};
 
@@ -54,9 +55,9 @@ fn outcome_of(
 ) -> Result<Outcome, Memory>
     requires lawful { KeepRules (objects known.now) }
     requires once { EachOnce facts.now }
-    requires stage { keeping.IsStage stage.old request.now }
+    requires stage { IsStage (objects known.now) stage.old request.now }
     ensures value { IfOk result (λ it. it ≡ outcome (made_of (look facts.now) request.now (comes_to known.now (spec.request request.now)))) }
-    ensures stage { keeping.IsStage stage.new request.now }
+    ensures stage { IsStage (objects known.now) stage.new request.now }
 {
     match answer(alloc, request, known, stage) {
         Ok(Answer::Page(reply)) => Ok(Outcome::Answer(by_verb(request.method, reply))),
@@ -112,10 +113,10 @@ fn limited(
 ) -> Result<Outcome, Memory>
     requires holds { keeping.Holds learned.now facts.now }
     requires once { EachOnce facts.now }
-    requires stage { keeping.IsStage stage.old request.now }
+    requires stage { IsStage (objects learned.now.known) stage.old request.now }
     ensures value { IfOk result (λ it. it ≡ outcome (judged (replies.by_verb request.now.method replies.runaway_facts) facts.now
         (made_of (look facts.now) request.now (comes_to learned.now.known (spec.request request.now))))) }
-    ensures stage { keeping.IsStage stage.new request.now }
+    ensures stage { IsStage (objects learned.now.known) stage.new request.now }
 {
     if has_too_many_bytes(learned) {
         let runaway = runaway(alloc, request.method)?;
@@ -140,9 +141,9 @@ fn evaluated(
 ) -> Result<Outcome, Memory>
     requires holds { keeping.Holds learned.now facts.now }
     requires trail { IsTrail (λ known. spec.site (look known) message.now) facts.now }
-    requires stage { keeping.IsStageOf stage.old message.now }
+    requires stage { IsStageOf (objects learned.now.known) stage.old message.now }
     ensures value { IfOk result (λ it. it ≡ spec.site (look facts.now) message.now) }
-    ensures stage { keeping.IsStageOf stage.new message.now }
+    ensures stage { IsStageOf (objects learned.now.known) stage.new message.now }
 {
     match message {
         Message::Refused(cause) => {
