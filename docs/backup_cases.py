@@ -1,9 +1,10 @@
 #!/usr/bin/env python3
 """Writes the cases of backups in the files of a shelf: data/backups.cases of backup_cases, and data/many.cases, of many
-pieces, large files and names that run out, which take a while.
+pieces, large files and names that run out, which take a while; and data/backups.cases of zope_cases, of the commands.
 
     python3 docs/backup_cases.py backups > crates/backup_cases/data/backups.cases
     python3 docs/backup_cases.py many > crates/backup_cases/data/many.cases
+    python3 docs/backup_cases.py commands > crates/zope_cases/data/backups.cases
 
 What has to come is worked out by the rules of an index and of what is due, which stand here once more; the digests are
 Python's. The files are written so that where each ends, or that it has damage, is known beforehand. Nothing here runs or
@@ -407,16 +408,157 @@ def put_differing():
     print("\ncase the part `refused` is compared\nbackup site.fs R\nrefused disk\ndiffers")
 
 
+# ---- commands
+
+class Command(Case):
+    """One run of the program over files, of which those under numbered names may be empty and many."""
+
+    def __init__(self, title):
+        self.title, self.files, self.known, self.taken_names = title, {}, {}, []
+
+    def put(self, name, content):
+        self.known[name] = content if isinstance(content, File) else File(content)
+        self.files[name] = self.known[name].content
+        return self
+
+    def taken(self, base, start, end):
+        """Behind all other files."""
+        self.taken_names.append(f"taken {base} {start} {end}")
+        self.files.update((f"{base}.{n:04}", b"") for n in range(start, end))
+        return self
+
+    def run(self, words, status, output=None, opening=None, disk=None, new=None, sink=None):
+        """What the program answers; where no output is given, by the rules. Files behind taken names aren't compared."""
+        print(f"\ncase {self.title}\nwords " + " ".join(words))
+        for name, known in self.known.items():
+            print(f"file {name}")
+            put_bytes(known.content)
+        print("".join(f"{line}\n" for line in self.taken_names), end="")
+        print("".join(f"failing {kind} {n}\n" for kind, n in (("opening", opening), ("disk", disk), ("new", new), ("output", sink)) if n), end="")
+        if output is None:
+            output = self.answer(words, Shelf(self.files, opening, new), disk)
+        print(f"status {status}\noutput")
+        put_bytes(b"" if sink else output.encode())
+        for name, content in self.files.items():
+            if self.taken_names and name not in self.known:
+                break
+            print(f"left {name}")
+            put_bytes(content)
+
+    def answer(self, words, shelf, disk):
+        at = words.index("--") if "--" in words else len(words)
+        full, words = "--full" in words[:at], [word for word in words[:at] if word != "--full"] + words[at + 1 :]
+        try:
+            if disk:
+                raise Refused("disk")
+            if words[0] == "restore":
+                return restore(shelf, words[1], words[2]) + "\n"
+            done = back_up(shelf, words[1], self.known.get(words[1]), words[2], full)
+        except Refused as refused:
+            return told(refused, words) + "\n"
+        if done != "nothing":
+            # an index that replaces another stands behind all other files
+            self.files[words[2] + ".dat"] = self.files.pop(words[2] + ".dat")
+        return done + "\n"
+
+
+def told(refused, words):
+    """The last line that names a refusal."""
+    kind, *rest = str(refused).split()
+    lines = {
+        "missing": f"missing {words[1]}" + ".dat" * (words[0] == "restore"), "exists": f"exists {words[-1]}", "disk": "disk fault",
+        "damaged": "damaged {} at {}".format(*rest) if len(rest) == 2 else "", "names": "names spent",
+    }
+    return lines.get(kind) or str(refused)
+
+
+def repository(title, *pieces):
+    """A site with an edit behind it, and a repository with these pieces."""
+    case, at, rows = Command(title).put("site.fs", SITE + EDIT), 0, []
+    for n, content in enumerate(pieces):
+        rows.append((f"R.{n:04}", at, at + len(content), digest(content)))
+        case.put(f"R.{n:04}", content)
+        at += len(content)
+    return case.put("R.dat", index_text(rows))
+
+
+BACKUP, RESTORE = ["backup", "site.fs", "R"], ["restore", "R", "out.fs"]
+
+
+def put_commands():
+    Command("a first backup").put("site.fs", SITE).run(BACKUP, 0)
+    repository("a further backup", SITE).run(BACKUP, 0)
+    repository("nothing is due", SITE, EDIT).run(BACKUP, 0)
+    repository("all of the file, where that is asked for behind the words", SITE).run(BACKUP + ["--full"], 0)
+    repository("and before them", SITE).run(["backup", "--full", "site.fs", "R"], 0)
+    repository("a restore", SITE, EDIT).run(RESTORE, 0)
+    changed = bytes([SITE[0] ^ 1]) + SITE[1:]
+    repository("a byte of a piece is another: a restore makes nothing", SITE, EDIT).put("R.0000", changed).run(RESTORE, 16)
+    Command("a torn rest isn't backed up").put("site.fs", File(SITE, TORN)).run(BACKUP, 0)
+
+
+def put_refused():
+    Command("no file to back up").put("R.dat", b"none\n").run(BACKUP, 8)
+    damaged = File(b"FS20" + SITE[4:], damage="9 0")
+    Command("a file with damage").put("site.fs", damaged).run(BACKUP, 3)
+    Command("no index to restore from").put("site.fs", SITE).run(RESTORE, 8)
+    Command("an index with a bad line").put("R.dat", b"none\n").run(RESTORE, 15)
+    Command("a backup over an index with a bad line has all of the file").put("site.fs", SITE).put("R.dat", b"none\n").run(BACKUP, 0)
+    Command("an index whose second line is bad").put("R.dat", index_text([("R.0000", 0, 415, digest(SITE))])[:-4]).run(RESTORE, 15)
+    Command("a piece is missing").put("R.dat", index_text([("R.0000", 0, 415, digest(SITE))])).run(RESTORE, 16)
+    repository("the new file is there", SITE).run(["restore", "R", "site.fs"], 11)
+    repository("the new file is there, and a piece is bad", SITE).put("R.0000", EDIT).run(["restore", "R", "site.fs"], 16)
+    repository("the new file is the index", SITE).run(["restore", "R", "R.dat"], 11)
+    Command("all names of pieces are taken").put("site.fs", SITE).taken("R", 0, NAMES).run(BACKUP, 17)
+    Command("all names of indexes are taken").put("site.fs", SITE).put("R.dat", b"none\n").taken("R.dat", 0, NAMES).run(BACKUP, 17)
+    Command("a file with damage, and no name is left").put("site.fs", damaged).taken("R", 0, NAMES).run(BACKUP, 3)
+
+
+def put_words():
+    for words in (
+        ["backup"], ["backup", "site.fs"], ["backup", "site.fs", "R", "x"], ["backup", "site.fs", "R", "--full=1"], ["backup", "site.fs", "R", "--full", "--full"],
+        ["backup", "site.fs", "R", "--limit", "1"], ["backup", "R.dat", "R"], ["restore"], ["restore", "R"], ["restore", "R", "out.fs", "x"],
+        ["restore", "R", "out.fs", "--full"], ["Backup", "site.fs", "R"],
+    ):
+        repository("usage: " + " ".join(words), SITE).run(words, 2, "usage\n")
+    repository("behind two dashes every word stands", SITE).run(["restore", "--", "R", "--full"], 0)
+
+
+def put_failing():
+    for n in (1, 2, 3):
+        Command(f"call {n} of the shelf fails in a first backup").put("site.fs", SITE).run(BACKUP, 5, opening=n)
+    for n in range(1, 7):
+        repository(f"call {n} of the shelf fails in a further one", SITE).run(BACKUP, 5, opening=n)
+    for n in (1, 2):
+        repository(f"call {n} of each disk fails in a further one", SITE).run(BACKUP, 5, disk=n)
+        repository(f"call {n} of each new disk fails in a further one", SITE).run(BACKUP, 5, new=n)
+        repository(f"call {n} of each disk fails in a restore", SITE, EDIT).run(RESTORE, 5, disk=n)
+    for n in (1, 2, 3, 4):
+        repository(f"call {n} of the shelf fails in a restore", SITE, EDIT).run(RESTORE, 5, opening=n)
+    for n in (1, 2, 3):
+        repository(f"call {n} of the disk of the new file fails", SITE, EDIT).run(RESTORE, 5, new=n)
+    repository("the output fails behind a backup, which stands", SITE).run(BACKUP, 6, sink=1)
+    repository("the output fails behind a restore, which stands", SITE).run(RESTORE, 6, sink=1)
+    Command("the output fails in a last line").put("site.fs", SITE).run(RESTORE, 6, sink=1)
+
+
 def main():
     print("# Written by docs/backup_cases.py.\n")
+    if sys.argv[1] == "commands":
+        # pieces of its other files may have these names
+        kept = {f"backed_{name}": PIECES[name] for name in ("site", "edit", "torn")}
+        PIECES.clear()
+        PIECES.update(kept)
     for name, content in PIECES.items():
         print(f"piece {name}")
         for at in range(0, len(content), 50):
             print(f"  hex {content[at : at + 50].hex()}")
         print()
-    print(f"piece unit\n  | 0123456789abcdef\\\n\npiece large_head\n  hex {LARGE[:-131080].hex()}\n\npiece large_tail\n  hex {LARGE[-8:].hex()}")
+    if sys.argv[1] != "commands":
+        print(f"piece unit\n  | 0123456789abcdef\\\n\npiece large_head\n  hex {LARGE[:-131080].hex()}\n\npiece large_tail\n  hex {LARGE[-8:].hex()}")
     few = (put_rows, put_files, put_pieces, put_indexes, put_faults, put_differing)
-    for put in {"backups": few, "many": (put_many, put_names)}[sys.argv[1]]:
+    commands = (put_commands, put_refused, put_words, put_failing)
+    for put in {"backups": few, "many": (put_many, put_names), "commands": commands}[sys.argv[1]]:
         put()
 
 

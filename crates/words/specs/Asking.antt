@@ -1,5 +1,7 @@
 -- What the words of a command line ask for.
-use Rattle.std.specs.Prelude.{ℕ, ◌&&◌, ◌==◌, List, Option, Some, None, codes, length, nat_le, nat_lt, option_and_then, option_map, if◌then◌else◌}
+use Rattle.std.specs.Prelude.{ℕ, Bool, false, not, ◌&&◌, ◌==◌, List, ◌++◌, Option, Some, None, codes, length, nat_le, nat_lt, option_and_then, option_map, if◌then◌else◌}
+use Rattle.std.specs.List.{list_any}
+use Rattle.std.specs.Option.{option_map_or}
 use Rattle.std.specs.Str.{bytes_eq, all_ascii_digits}
 use Rattle.std.specs.Str.Parse.{digits_value}
 use Rattle.clap.specs.Words.{Row, Text, subcommand_of, fault_of, first_of}
@@ -14,6 +16,16 @@ abbrev pub number_of : ℕ → Text → Option ℕ
 number_of most text = if (nat_lt 0 (length text) && nat_le (length text) 20) && (all_ascii_digits text && nat_le (digits_value 10 text) most)
     then Some (digits_value 10 text) else None
 
+-- ---- repositories
+
+-- a text without a line feed
+abbrev pub is_one_line : Text → Bool
+is_one_line text = not (list_any (λ byte. byte == 10) text)
+
+-- the index of a repository is the file of its name and ".dat"
+abbrev pub is_index_of : (repo file : Text) → Bool
+is_index_of repo file = bytes_eq file (repo ++ codes ".dat")
+
 -- ---- what is asked for
 
 pub data Asked : Type 0 where
@@ -22,6 +34,8 @@ pub data Asked : Type 0 where
   Serve : Text → ℕ → ℕ → ℕ → Text → Asked
   Check : Text → Asked
   Dump : Text → Asked
+  Backup : (file repo : Text) → (full : Bool) → Asked
+  Restore : (repo out : Text) → Asked
 
 abbrev pub init_of : List Row → Option Asked
 init_of rows = option_and_then (λ file. option_and_then (λ name. option_map (λ password. Init file name password)
@@ -66,17 +80,40 @@ check_of rows = option_map Check (first_of (codes "FILE") rows)
 abbrev pub dump_of : List Row → Option Asked
 dump_of rows = option_map Dump (first_of (codes "FILE") rows)
 
+-- a flag that is given has the value "true", and any other "false"
+abbrev pub is_given : Text → List Row → Bool
+is_given id rows = option_map_or (λ value. bytes_eq value (codes "true")) (first_of id rows) false
+
+-- an index has a line for each piece, whose name begins with the repository's
+abbrev pub in_one_line : Text → Option Text
+in_one_line repo = if is_one_line repo then Some repo else None
+
+abbrev pub repo_of : List Row → Option Text
+repo_of rows = option_and_then in_one_line (first_of (codes "REPO") rows)
+
+-- a repository's own index isn't backed up in it
+abbrev pub backup_in : List Row → Text → Text → Option Asked
+backup_in rows file repo = if is_index_of repo file then None else Some (Backup file repo (is_given (codes "full") rows))
+
+abbrev pub backup_of : List Row → Option Asked
+backup_of rows = option_and_then (λ file. option_and_then (backup_in rows file) (repo_of rows)) (first_of (codes "FILE") rows)
+
+abbrev pub restore_of : List Row → Option Asked
+restore_of rows = option_and_then (λ repo. option_map (Restore repo) (first_of (codes "OUT") rows)) (repo_of rows)
+
 abbrev pub by_name : Text → List Row → Option Asked
 by_name name rows =
     if bytes_eq name (codes "init") then init_of rows
     else (if bytes_eq name (codes "replay") then replay_of rows
     else (if bytes_eq name (codes "serve") then serve_of rows
     else (if bytes_eq name (codes "check") then check_of rows
-    else (if bytes_eq name (codes "dump") then dump_of rows else None))))
+    else (if bytes_eq name (codes "dump") then dump_of rows
+    else (if bytes_eq name (codes "backup") then backup_of rows
+    else (if bytes_eq name (codes "restore") then restore_of rows else None))))))
 
 abbrev pub by_subcommand : Option (Text × List Row) → Option Asked
 by_subcommand found = option_and_then (λ p. by_name p.0 p.1) found
 
--- none where clap's definition refuses the words, or where a number breaks its rule
+-- none where clap's definition refuses the words, or where a number or a repository's name breaks its rule
 abbrev pub asked_of : List Text → Option Asked
 asked_of words = if length (fault_of zope words) == 0 then by_subcommand (subcommand_of zope words) else None

@@ -1,7 +1,7 @@
 -- Command lines, by computing.
-use Rattle.std.specs.Prelude.{◌≡◌, List, [], ◌∷◌, Option, Some, None, codes, refl}
+use Rattle.std.specs.Prelude.{◌≡◌, [], ◌∷◌, Some, None, codes, false, refl, true}
 use Rattle.clap.proofs.OnLiterals.{clap_on_literals}
-use Rattle.words.specs.Asking.{Asked, Init, Replay, Serve, Check, Dump, asked_of}
+use Rattle.words.specs.Asking.{Init, Replay, Serve, Backup, Restore, asked_of}
 
 init_is : asked_of (codes "init" ∷ codes "f" ∷ codes "admin" ∷ codes "secret" ∷ []) ≡ Some (Init (codes "f") (codes "admin") (codes "secret"))
 unfolding clap_on_literals
@@ -46,3 +46,31 @@ no_port = refl
 port_too_great : asked_of (codes "serve" ∷ codes "f" ∷ codes "--port=65536" ∷ codes "--connections=3" ∷ codes "--record=t" ∷ []) ≡ None
 unfolding clap_on_literals
 port_too_great = refl
+
+backup_is : asked_of (codes "backup" ∷ codes "f" ∷ codes "r" ∷ []) ≡ Some (Backup (codes "f") (codes "r") false)
+unfolding clap_on_literals
+backup_is = refl
+
+full_anywhere : asked_of (codes "backup" ∷ codes "--full" ∷ codes "f" ∷ codes "r" ∷ []) ≡ Some (Backup (codes "f") (codes "r") true)
+unfolding clap_on_literals
+full_anywhere = refl
+
+full_has_no_value : asked_of (codes "backup" ∷ codes "f" ∷ codes "r" ∷ codes "--full=true" ∷ []) ≡ None
+unfolding clap_on_literals
+full_has_no_value = refl
+
+full_once : asked_of (codes "backup" ∷ codes "--full" ∷ codes "f" ∷ codes "r" ∷ codes "--full" ∷ []) ≡ None
+unfolding clap_on_literals
+full_once = refl
+
+own_index : asked_of (codes "backup" ∷ codes "r.dat" ∷ codes "r" ∷ []) ≡ None
+unfolding clap_on_literals
+own_index = refl
+
+restore_is : asked_of (codes "restore" ∷ codes "r" ∷ codes "f" ∷ []) ≡ Some (Restore (codes "r") (codes "f"))
+unfolding clap_on_literals
+restore_is = refl
+
+two_lines : asked_of (codes "restore" ∷ (114 ∷ 10 ∷ []) ∷ codes "f" ∷ []) ≡ None
+unfolding clap_on_literals
+two_lines = refl

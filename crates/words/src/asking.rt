@@ -4,6 +4,7 @@ ghost use Rattle.words.specs.Asking as asking;
 ghost use Rattle.words.specs.Views.{view};
 
 use crate::command_line::zope;
+use crate::names::{is_index_of, is_one_line};
 use crate::numbers::{number_of, short_number_of};
 use clap::ArgMatches;
 use clap::error::ErrorKind;
@@ -22,7 +23,7 @@ pub enum WordsRefusal {
     Memory,
 }
 
-/// What words ask for, over the file of a name.
+/// What words ask for, over a file or a repository of a name.
 #[derive(Debug, Drop)]
 pub enum Asked<'a> {
     /// A new site with a manager of this name and password.
@@ -52,6 +53,17 @@ pub enum Asked<'a> {
     /// The history of the file.
     Dump {
         file: &'a str,
+    },
+    /// A backup of the file in a repository: of what is new of it, or of all of it where `full` says so.
+    Backup {
+        file: &'a str,
+        repo: &'a str,
+        full: bool,
+    },
+    /// The file that a repository's pieces are a backup of, made again as a new file of the name `out`.
+    Restore {
+        repo: &'a str,
+        out: &'a str,
     },
 }
 
@@ -153,6 +165,44 @@ fn dump_of<'a>(matches: &ArgMatches<'a>) -> Option<Asked<'a>>
     Some(Asked::Dump { file })
 }
 
+// Whether a flag is given, whose value is a word, too.
+fn is_given(matches: &ArgMatches, id: &str) -> bool
+    ensures { result ≡ asking.is_given id.now (rows_of (found_of matches.now)) }
+{
+    match word_of(matches, id) {
+        Some(value) => value == "true",
+        None => false,
+    }
+}
+
+// The name of a repository, where it keeps its rule.
+fn repo_of<'a>(matches: &ArgMatches<'a>) -> Option<&'a str>
+    ensures { option_map (λ s. s.now) result ≡ asking.repo_of (rows_of (found_of matches.now)) }
+{
+    let repo = word_of(matches, "REPO")?;
+    if is_one_line(repo) { Some(repo) } else { None }
+}
+
+fn backup_of<'a>(matches: &ArgMatches<'a>) -> Option<Asked<'a>>
+    ensures { option_map view result ≡ asking.backup_of (rows_of (found_of matches.now)) }
+{
+    let file = word_of(matches, "FILE")?;
+    let repo = repo_of(matches)?;
+    if is_index_of(repo, file) {
+        return None;
+    }
+    let full = is_given(matches, "full");
+    Some(Asked::Backup { file, repo, full })
+}
+
+fn restore_of<'a>(matches: &ArgMatches<'a>) -> Option<Asked<'a>>
+    ensures { option_map view result ≡ asking.restore_of (rows_of (found_of matches.now)) }
+{
+    let repo = repo_of(matches)?;
+    let out = word_of(matches, "OUT")?;
+    Some(Asked::Restore { repo, out })
+}
+
 // What the subcommand asks for that was found.
 fn asked_of<'a>(matches: &ArgMatches<'a>) -> Option<Asked<'a>>
     ensures { option_map view result ≡ asking.by_subcommand (subcommand_rows_of matches.now) }
@@ -168,6 +218,10 @@ fn asked_of<'a>(matches: &ArgMatches<'a>) -> Option<Asked<'a>>
         check_of(within)
     } else if name == "dump" {
         dump_of(within)
+    } else if name == "backup" {
+        backup_of(within)
+    } else if name == "restore" {
+        restore_of(within)
     } else {
         None
     }

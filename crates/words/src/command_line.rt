@@ -30,6 +30,14 @@ fn needed<'a>(alloc: Global, id: &'a str) -> Arg<'a>
     option(alloc, id).required(true)
 }
 
+// `--ID`, which may be left out.
+fn flag<'a>(alloc: Global, id: &'a str) -> Arg<'a>
+    ensures rule { rule_of result ≡ lines.flag id.entry.now }
+    ensures global { result.global ≡ false }
+{
+    Arg::new(alloc, id).long(id).action(ArgAction::SetTrue)
+}
+
 // A subcommand over a file, with nothing else.
 fn over_file<'a>(alloc: Global, name: &'a str) -> Result<Command<'a>, AllocError>
     ensures app { IfOk result (λ c. app_of c ≡ lines.over_file name.entry.now) }
@@ -68,6 +76,24 @@ fn serve<'a>(alloc: Global) -> Result<Command<'a>, AllocError>
         .arg(needed(alloc, "record"))
 }
 
+fn backup<'a>(alloc: Global) -> Result<Command<'a>, AllocError>
+    ensures app { IfOk result (λ c. app_of c ≡ lines.backup) }
+    ensures globals { IfOk result (λ c. (fields_of c).has_globals ≡ false) }
+{
+    over_file(alloc, "backup")?
+        .arg(positional(alloc, "REPO"))?
+        .arg(flag(alloc, "full"))
+}
+
+fn restore<'a>(alloc: Global) -> Result<Command<'a>, AllocError>
+    ensures app { IfOk result (λ c. app_of c ≡ lines.restore) }
+    ensures globals { IfOk result (λ c. (fields_of c).has_globals ≡ false) }
+{
+    Command::new(alloc, "restore")
+        .arg(positional(alloc, "REPO"))?
+        .arg(positional(alloc, "OUT"))
+}
+
 // The program's words, none of which is its name.
 fn bare<'a>(alloc: Global) -> Command<'a>
     ensures { app_of result ≡ lines.bare }
@@ -89,5 +115,7 @@ pub(crate) fn zope<'a>(alloc: Global) -> Result<Command<'a>, AllocError>
         .subcommand(replay(alloc)?)?
         .subcommand(serve(alloc)?)?
         .subcommand(over_file(alloc, "check")?)?
-        .subcommand(over_file(alloc, "dump")?)
+        .subcommand(over_file(alloc, "dump")?)?
+        .subcommand(backup(alloc)?)?
+        .subcommand(restore(alloc)?)
 }

@@ -4,15 +4,21 @@ use Rattle.std.proofs.lemmas.Bool.Decides.{nat_tests}
 use Rattle.std.specs.Io.KnownBytes.{append_known}
 use Rattle.zbase.specs.Faults.{Counter, Rose}
 use Rattle.zope.specs.declared.refusal.Refusal.{Refusal}
+use Rattle.backups.specs.declared.refusal.BackupRefusal.{BackupRefusal}
+use Rattle.backups.specs.declared.refusal.BackupRefusal.TheVariants as backup
+use Rattle.backups.specs.declared.refusal.RestoreRefusal.{RestoreRefusal}
+use Rattle.backups.specs.declared.refusal.RestoreRefusal.TheVariants as restore
 use Rattle.file_server.specs.declared.refusal.FileRefusal.{FileRefusal}
-use Rattle.words.specs.Asking.{Asked, Check, Dump, Init, Replay, Serve}
+use Rattle.words.specs.Asking.{Asked, Backup, Check, Dump, Init, Replay, Restore, Serve}
+use Rattle.zope.specs.BackupCauses.{of_backup}
 use Rattle.zope.specs.Causes.{Cause, CauseOf, Names, NoCause, last_line}
 use Rattle.zope.specs.Ends.{Ends, status_of}
 use Rattle.zope.specs.Outside.{OutsideView, SinkFailed, told}
+use Rattle.zope.specs.RestoreCauses.{of_restore}
 use Rattle.zope.specs.ServeCauses.{of_served}
 use Rattle.zope.specs.Words.{IsCommand, IsNamed}
 use Rattle.zope.proofs.Commands.{some_name}
-use Rattle.zope.proofs.NoCauses.{NotBoth, NotDamaged, OneSchedule, only_memory, sink_is_calm}
+use Rattle.zope.proofs.NoCauses.{Laws, only_memory, sink_is_calm}
 
 -- no refusal of a server is the sink's
 not_sinks : (refusal : FileRefusal) → Refusal.Output ≡ of_served refusal → ⊥
@@ -23,6 +29,23 @@ not_sinks (FileRefusal.Damaged kind place) is = cc
 not_sinks FileRefusal.Disk is = cc
 not_sinks FileRefusal.Hub is = cc
 not_sinks FileRefusal.Memory is = cc
+
+-- and none of a backup or of a restore
+not_backups : (refusal : BackupRefusal) → Refusal.Output ≡ of_backup refusal → ⊥
+not_backups backup.Missing is = cc
+not_backups (backup.TooLong n) is = cc
+not_backups (backup.Damaged kind place) is = cc
+not_backups backup.NamesSpent is = cc
+not_backups backup.Disk is = cc
+not_backups backup.Memory is = cc
+
+not_restores : (refusal : RestoreRefusal) → Refusal.Output ≡ of_restore refusal → ⊥
+not_restores restore.Missing is = cc
+not_restores (restore.BadIndex n) is = cc
+not_restores (restore.BadPiece name) is = cc
+not_restores restore.Exists is = cc
+not_restores restore.Disk is = cc
+not_restores restore.Memory is = cc
 
 sink_of : (asked : Asked) (old mid : OutsideView) → CauseOf asked old mid Refusal.Output → SinkFailed old mid
 sink_of (Init file name password) old mid (inl legible) = absurd legible.0
@@ -36,6 +59,10 @@ sink_of (Serve file port connections clients record_) old mid (inr print) = prin
 sink_of (Check file) old mid (inl scan) = absurd scan.0
 sink_of (Check file) old mid (inr print) = print.2.0
 sink_of (Dump file) old mid dump = dump
+sink_of (Backup file repo full) old mid (inl refused) = absurd (not_backups refused.0.refusal refused.0.is)
+sink_of (Backup file repo full) old mid (inr print) = print.printed.0
+sink_of (Restore repo name) old mid (inl refused) = absurd (not_restores refused.0.refusal refused.0.is)
+sink_of (Restore repo name) old mid (inr print) = print.printed.0
 
 -- a refusal for the sink has it that the sink failed
 sink_cause : (words : List (List ℕ)) (old mid : OutsideView) → Cause words old mid Refusal.Output → SinkFailed old mid
@@ -91,14 +118,18 @@ refused_ends words old mid line sink Refusal.Missing status c le later six named
 refused_ends words old mid line sink Refusal.InputTooLarge status c le later six named = let other : Refusal.InputTooLarge ≡ Refusal.Output → ⊥ = λ is. let bad = is in cc in other_ends words old mid line sink Refusal.InputTooLarge status c le later (named other)
 refused_ends words old mid line sink (Refusal.FileTooLarge n) status c le later six named = let other : (Refusal.FileTooLarge n) ≡ Refusal.Output → ⊥ = λ is. let bad = is in cc in other_ends words old mid line sink (Refusal.FileTooLarge n) status c le later (named other)
 refused_ends words old mid line sink (Refusal.TooLong n) status c le later six named = let other : (Refusal.TooLong n) ≡ Refusal.Output → ⊥ = λ is. let bad = is in cc in other_ends words old mid line sink (Refusal.TooLong n) status c le later (named other)
+refused_ends words old mid line sink Refusal.MissingIndex status c le later six named = let other : Refusal.MissingIndex ≡ Refusal.Output → ⊥ = λ is. let bad = is in cc in other_ends words old mid line sink Refusal.MissingIndex status c le later (named other)
+refused_ends words old mid line sink (Refusal.BadIndex n) status c le later six named = let other : (Refusal.BadIndex n) ≡ Refusal.Output → ⊥ = λ is. let bad = is in cc in other_ends words old mid line sink (Refusal.BadIndex n) status c le later (named other)
+refused_ends words old mid line sink (Refusal.BadPiece piece) status c le later six named = let other : (Refusal.BadPiece piece) ≡ Refusal.Output → ⊥ = λ is. let bad = is in cc in other_ends words old mid line sink (Refusal.BadPiece piece) status c le later (named other)
+refused_ends words old mid line sink Refusal.NamesSpent status c le later six named = let other : Refusal.NamesSpent ≡ Refusal.Output → ⊥ = λ is. let bad = is in cc in other_ends words old mid line sink Refusal.NamesSpent status c le later (named other)
 
 other_than_output : (e : Refusal) → e ≡ Refusal.Memory → e ≡ Refusal.Output → ⊥
 other_than_output e a b = cc
 
 -- where there was no cause, memory was wanting
-pub calm_ends : (words : List (List ℕ)) (old mid : OutsideView) (line : Option (List ℕ)) (sink : Counter) (e : Refusal) (status : ℕ) → OneSchedule → NotBoth → NotDamaged → Cause words old mid e → old.sink.count ≤ mid.sink.count → mid.sink.count ≤ sink.count → OtherRefused words mid line sink e status → NoCause words old (told mid line sink) → (status ≡ 0) ⊎ (status ≡ 7)
-calm_ends words old mid line sink e status one both law c le later named meets =
-    let memory = only_memory words old mid line sink e one both law later c meets in
+pub calm_ends : (words : List (List ℕ)) (old mid : OutsideView) (line : Option (List ℕ)) (sink : Counter) (e : Refusal) (status : ℕ) → Laws → Cause words old mid e → old.sink.count ≤ mid.sink.count → mid.sink.count ≤ sink.count → OtherRefused words mid line sink e status → NoCause words old (told mid line sink) → (status ≡ 0) ⊎ (status ≡ 7)
+calm_ends words old mid line sink e status laws c le later named meets =
+    let memory = only_memory words old mid line sink e laws later c meets in
     elim (named (other_than_output e memory)) [
       | inl told_so ↦ inr (told_so.0 ∙ ap status_of memory)
       | inr (inl six) ↦ absurd (sink_is_calm words old (told mid line sink) meets (rose_before old.sink mid.sink sink le six.1))

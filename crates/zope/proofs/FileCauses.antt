@@ -72,6 +72,10 @@ unscanned files name failed Refusal.Input missing damaged long disk there others
 unscanned files name failed Refusal.Output missing damaged long disk there others = absurd others
 unscanned files name failed Refusal.InputTooLarge missing damaged long disk there others = absurd others
 unscanned files name failed (Refusal.FileTooLarge n) missing damaged long disk there others = absurd others
+unscanned files name failed Refusal.MissingIndex missing damaged long disk there others = absurd others
+unscanned files name failed (Refusal.BadIndex n) missing damaged long disk there others = absurd others
+unscanned files name failed (Refusal.BadPiece piece) missing damaged long disk there others = absurd others
+unscanned files name failed Refusal.NamesSpent missing damaged long disk there others = absurd others
 
 -- the damage that a scan of the disk's bytes met is the command's
 pub damaged_told : {T U : Type 0} (told : Option Told) (r : ScanRefusal) (result : Result U Refusal) → result ≡ Err (of_scan r) → IfSome told (λ t. length (content t) ≤ most_length) → ((kind : Damage) (place : ℕ) → IsErrOf {T = T} (Err r) (ScanRefusal.Damaged kind place) → IfSome told (λ t. Damaged (content t) place kind))
@@ -119,3 +123,7 @@ module _ {T : Type 0} (files : Option (List Entry)) (name : List ℕ) (told : Op
   undumped (Err Refusal.Input) damaged long missing failed rose others = absurd others
   undumped (Err Refusal.InputTooLarge) damaged long missing failed rose others = absurd others
   undumped (Err (Refusal.FileTooLarge n)) damaged long missing failed rose others = absurd others
+  undumped (Err Refusal.MissingIndex) damaged long missing failed rose others = absurd others
+  undumped (Err (Refusal.BadIndex n)) damaged long missing failed rose others = absurd others
+  undumped (Err (Refusal.BadPiece piece)) damaged long missing failed rose others = absurd others
+  undumped (Err Refusal.NamesSpent) damaged long missing failed rose others = absurd others

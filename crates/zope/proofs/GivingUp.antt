@@ -10,7 +10,7 @@ use Rattle.zope.specs.Ends.{Ends, status_of}
 use Rattle.zope.specs.Numbers.{NumbersPrinted}
 use Rattle.zope.specs.Outside.{told}
 use Rattle.zope.specs.Worked.{calm, checking, untouched}
-use Rattle.zope.proofs.NoCauses.{NotBoth, NotDamaged, OneSchedule, only_memory}
+use Rattle.zope.proofs.NoCauses.{Laws, only_memory}
 
 opens : Cut magic (front_of []) 4
 unfolding is_end
@@ -48,10 +48,10 @@ unprinted did = let printed = did.printed in cc
 asks_one : (o : Option Asked) (a b : Asked) → o ≡ Some a → o ≡ Some b → a ≡ b
 asks_one o a b p q = cc
 
-pub only_want_of_memory : OneSchedule → NotBoth → NotDamaged → (status : ℕ) → Ends checking untouched untouched status → status ≡ 7
-only_want_of_memory one both law status (inl (zero, (asked, is, did))) =
+pub only_want_of_memory : Laws → (status : ℕ) → Ends checking untouched untouched status → status ≡ 7
+only_want_of_memory laws status (inl (zero, (asked, is, did))) =
     absurd (unprinted (subst (λ (a : Asked). DidAs a untouched untouched) (asks_one (asked_of checking) asked (Check (codes "a")) is asks) did))
-only_want_of_memory one both law status (inr (inl (e, is, comes))) =
-    is ∙ ap status_of (only_memory checking untouched (told untouched comes.0 comes.1) (Some []) calm e one both law comes.2 comes.3 sound)
-only_want_of_memory one both law status (inr (inr (inl six))) = absurd (omega (arith, six.1))
-only_want_of_memory one both law status (inr (inr (inr seven))) = seven
+only_want_of_memory laws status (inr (inl (e, is, comes))) =
+    is ∙ ap status_of (only_memory checking untouched (told untouched comes.0 comes.1) (Some []) calm e laws comes.2 comes.3 sound)
+only_want_of_memory laws status (inr (inr (inl six))) = absurd (omega (arith, six.1))
+only_want_of_memory laws status (inr (inr (inr seven))) = seven

@@ -11,3 +11,4 @@ pub mod NoCauses
 pub mod Endings
 pub mod GivingUp
 pub mod Showing
+pub mod Leaving

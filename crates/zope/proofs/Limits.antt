@@ -7,7 +7,7 @@ use Rattle.std.proofs.lemmas.Bool.Decides.{nat_tests}
 use Rattle.clap.specs.Words.{Row, Text, first_of, subcommand_of}
 use Rattle.fs_store.specs.Stores.{most_length}
 use Rattle.words.specs.CommandLine.{zope}
-use Rattle.words.specs.Asking.{Asked, Check, Dump, Init, Replay, Serve, above_zero, asked_of, by_name, by_subcommand, check_of, clients_in, clients_of, connections_of, dump_of, init_of, limit_in, limit_of, number_of, port_of, replay_of, serve_of}
+use Rattle.words.specs.Asking.{Asked, Backup, Check, Dump, Init, Replay, Restore, Serve, above_zero, asked_of, backup_in, backup_of, by_name, by_subcommand, check_of, clients_in, clients_of, connections_of, dump_of, init_of, is_given, is_index_of, limit_in, limit_of, number_of, port_of, replay_of, repo_of, restore_of, serve_of}
 
 abbrev IsWithin : Asked → Type 0
 IsWithin (Init file name password) = Unit {0}
@@ -15,6 +15,8 @@ IsWithin (Replay file limit) = limit ≤ most_length
 IsWithin (Serve file port connections clients record_) = (1 ≤ clients) × (clients ≤ 16)
 IsWithin (Check file) = Unit {0}
 IsWithin (Dump file) = Unit {0}
+IsWithin (Backup file repo full) = Unit {0}
+IsWithin (Restore repo name) = Unit {0}
 
 Within : Option Asked → Type 0
 Within o = IfSome o IsWithin
@@ -85,13 +87,31 @@ unfolding Within
 dumps None = tt
 dumps (Some file) = tt
 
+backup : (rows : List Row) (file repo : Text) (own : Bool) → Within (if own then None else Some (Backup file repo (is_given (codes "full") rows)))
+unfolding Within
+backup rows file repo true = tt
+backup rows file repo false = tt
+
+backups : (rows : List Row) (f r : Option Text) → Within (option_and_then (λ file. option_and_then (backup_in rows file) r) f)
+backups rows None r = none
+backups rows (Some file) None = none
+backups rows (Some file) (Some repo) = backup rows file repo (is_index_of repo file)
+
+restores : (r o : Option Text) → Within (option_and_then (λ repo. option_map (Restore repo) o) r)
+unfolding Within
+restores None o = tt
+restores (Some repo) None = tt
+restores (Some repo) (Some name) = tt
+
 named : (name : Text) (rows : List Row) → Within (by_name name rows)
 named name rows =
     either _ (init_of rows) _ (inits (first_of (codes "FILE") rows) (first_of (codes "NAME") rows) (first_of (codes "PASSWORD") rows))
     (either _ (replay_of rows) _ (replays (first_of (codes "FILE") rows) (limit_of rows) (limited (first_of (codes "limit") rows)))
     (either _ (serve_of rows) _ (serves (first_of (codes "FILE") rows) (port_of rows) (connections_of rows) (clients_of rows) (first_of (codes "record") rows) (clients (first_of (codes "clients") rows)))
     (either _ (check_of rows) _ (checks (first_of (codes "FILE") rows))
-    (either _ (dump_of rows) None (dumps (first_of (codes "FILE") rows)) none))))
+    (either _ (dump_of rows) _ (dumps (first_of (codes "FILE") rows))
+    (either _ (backup_of rows) _ (backups rows (first_of (codes "FILE") rows) (repo_of rows))
+    (either _ (restore_of rows) None (restores (repo_of rows) (first_of (codes "OUT") rows)) none))))))
 
 found : (o : Option (Text × List Row)) → Within (by_subcommand o)
 found None = none

@@ -1,6 +1,6 @@
 -- Where a command meets no cause, it ends well or for want of memory.
 use Rattle.std.proofs.Common.{◌≡◌, ◌∙◌, ℕ, ◌≤◌, ◌<◌, List, length, Option, None, Some, refl, sym, ap, subst, arith, inl, inr}
-use Rattle.std.specs.Prelude.{◌⊎◌, IfSome}
+use Rattle.std.specs.Prelude.{◌⊎◌, Bool, IfSome}
 use Rattle.std.specs.Option.{option_map}
 use Rattle.zbase.specs.Faults.{Counter, Rose}
 use Rattle.zio.specs.Shelves.{Entry, file_at}
@@ -12,14 +12,27 @@ use Rattle.schedule.specs.BadLines.{IsBadAt}
 use Rattle.schedule.specs.Items.{IsSchedule}
 use Rattle.zope.specs.declared.refusal.Refusal.{Refusal}
 use Rattle.fs_store.specs.Stores.{most_length}
+use Rattle.repozo.specs.declared.index.PieceRow.{PieceRow}
+use Rattle.repozo.specs.BadLines as Rows
+use Rattle.repozo.specs.Index.{IsIndex}
+use Rattle.backups.specs.BackedUp as Backing
+use Rattle.backups.specs.Restored as Restoring
+use Rattle.backups.specs.Names.{index_name}
+use Rattle.backups.specs.Standing.{HasBadIndex, Stands, first_wrong}
+use Rattle.backups.specs.declared.refusal.BackupRefusal.{BackupRefusal}
+use Rattle.backups.specs.declared.refusal.BackupRefusal.TheVariants as backup
+use Rattle.backups.specs.declared.refusal.RestoreRefusal.{RestoreRefusal}
+use Rattle.backups.specs.declared.refusal.RestoreRefusal.TheVariants as restore
 use Rattle.file_server.specs.Kept as Serving
 use Rattle.file_server.specs.Shelved.{IsThere}
 use Rattle.file_server.specs.declared.refusal.FileRefusal.{FileRefusal}
 use Rattle.zope.specs.Causes.{Cause, CauseOf, NoCause, NoCauseOf, WordsCause}
 use Rattle.zope.specs.MakeCauses.{LegibleCause, MakeCause, NewCause, NoMakeCause}
-use Rattle.words.specs.Asking.{Asked, Check, Dump, Init, Replay, Serve, asked_of}
+use Rattle.words.specs.Asking.{Asked, Backup, Check, Dump, Init, Replay, Restore, Serve, asked_of}
 use Rattle.zope.specs.Outside.{DiskFailed, HubFailed, OutsideView, ShelfFailed, SinkFailed, SourceFailed, told}
 use Rattle.zope.specs.ServeCauses.{NoServeCause, of_served}
+use Rattle.zope.specs.BackupCauses.{BackupCause, NoBackupCause, of_backup}
+use Rattle.zope.specs.RestoreCauses.{NoRestoreCause, RestoreCause, of_restore}
 use Rattle.zope.specs.CheckCauses.{CheckCause, PrintCause, ScanCause}
 use Rattle.zope.specs.DumpCauses.{DumpCause}
 use Rattle.zope.specs.Given.{IfKept, IsSound, most_file, most_input}
@@ -35,6 +48,20 @@ NotBoth = (text : List ℕ) (items : List Item2) (n : ℕ) → IsSchedule text i
 
 abbrev pub NotDamaged : Type 0
 NotDamaged = (bytes : List ℕ) (front : Front) (m n : ℕ) (kind : Damage) → Cut bytes front m → Damaged bytes n kind → ⊥
+
+abbrev pub OneIndex : Type 0
+OneIndex = (text : List ℕ) (a b : List PieceRow) → IsIndex text a → IsIndex text b → a ≡ b
+
+abbrev pub NotBadIndex : Type 0
+NotBadIndex = (text : List ℕ) (rows : List PieceRow) (n : ℕ) → IsIndex text rows → Rows.IsBadAt text n → ⊥
+
+-- what is proved elsewhere: a text is one schedule, and one index, and none that has a bad line, and a file that opens has no damage
+pub record Laws : Type 0 where
+  pub schedule : OneSchedule
+  pub line : NotBoth
+  pub opening : NotDamaged
+  pub index : OneIndex
+  pub row : NotBadIndex
 
 same_bytes : {X : Type 0} (o : Option X) (a b : X) → o ≡ Some a → o ≡ Some b → a ≡ b
 same_bytes o a b p q = cc
@@ -60,6 +87,10 @@ of_input input text failed items given within spells law calm Refusal.Output cau
 of_input input text failed items given within spells law calm Refusal.Missing cause = absurd cause
 of_input input text failed items given within spells law calm (Refusal.FileTooLarge n) cause = absurd cause
 of_input input text failed items given within spells law calm (Refusal.TooLong n) cause = absurd cause
+of_input input text failed items given within spells law calm Refusal.MissingIndex cause = absurd cause
+of_input input text failed items given within spells law calm (Refusal.BadIndex n) cause = absurd cause
+of_input input text failed items given within spells law calm (Refusal.BadPiece piece) cause = absurd cause
+of_input input text failed items given within spells law calm Refusal.NamesSpent cause = absurd cause
 
 has_same : (files : Option (List Entry)) (entries : List Entry) (name a b : List ℕ) → files ≡ Some entries → file_at entries name ≡ Some a → HasFile files name b → a ≡ b
 has_same files entries name a b shelf there has = same_bytes (file_at entries name) a b there (subst (λ f. HasFile f name b) shelf has)
@@ -81,6 +112,10 @@ of_file files entries name bytes failed shelf there fits calm Refusal.Input caus
 of_file files entries name bytes failed shelf there fits calm Refusal.Output cause = absurd cause
 of_file files entries name bytes failed shelf there fits calm Refusal.InputTooLarge cause = absurd cause
 of_file files entries name bytes failed shelf there fits calm (Refusal.TooLong n) cause = absurd cause
+of_file files entries name bytes failed shelf there fits calm Refusal.MissingIndex cause = absurd cause
+of_file files entries name bytes failed shelf there fits calm (Refusal.BadIndex n) cause = absurd cause
+of_file files entries name bytes failed shelf there fits calm (Refusal.BadPiece piece) cause = absurd cause
+of_file files entries name bytes failed shelf there fits calm Refusal.NamesSpent cause = absurd cause
 
 of_run : (limit : ℕ) (bytes : List ℕ) (items : List Item2) (failed : Type 0) (old new : Option (List ℕ)) (front : Front) (end : ℕ) → Cut bytes front end → NotDamaged → ((n : ℕ) → Broke limit bytes items old new n → ⊥) → (failed → ⊥) → (e : Refusal) → RunCause limit bytes items failed old new e → e ≡ Refusal.Memory
 of_run limit bytes items failed old new front end opens law runs calm Refusal.Memory cause = refl
@@ -96,6 +131,10 @@ of_run limit bytes items failed old new front end opens law runs calm Refusal.Mi
 of_run limit bytes items failed old new front end opens law runs calm Refusal.InputTooLarge cause = absurd cause
 of_run limit bytes items failed old new front end opens law runs calm (Refusal.FileTooLarge n) cause = absurd cause
 of_run limit bytes items failed old new front end opens law runs calm (Refusal.TooLong n) cause = absurd cause
+of_run limit bytes items failed old new front end opens law runs calm Refusal.MissingIndex cause = absurd cause
+of_run limit bytes items failed old new front end opens law runs calm (Refusal.BadIndex n) cause = absurd cause
+of_run limit bytes items failed old new front end opens law runs calm (Refusal.BadPiece piece) cause = absurd cause
+of_run limit bytes items failed old new front end opens law runs calm Refusal.NamesSpent cause = absurd cause
 
 kept_same : (files : Option (List Entry)) (entries : List Entry) (name bytes : List ℕ) (P : List ℕ → Type 0) → files ≡ Some entries → file_at entries name ≡ Some bytes → IfKept files name P → P bytes
 kept_same files entries name bytes P shelf there kept =
@@ -119,6 +158,10 @@ of_scan files entries name bytes front end failed shelf there fits opens law cal
 of_scan files entries name bytes front end failed shelf there fits opens law calm Refusal.Output cause = absurd cause
 of_scan files entries name bytes front end failed shelf there fits opens law calm Refusal.InputTooLarge cause = absurd cause
 of_scan files entries name bytes front end failed shelf there fits opens law calm (Refusal.FileTooLarge n) cause = absurd cause
+of_scan files entries name bytes front end failed shelf there fits opens law calm Refusal.MissingIndex cause = absurd cause
+of_scan files entries name bytes front end failed shelf there fits opens law calm (Refusal.BadIndex n) cause = absurd cause
+of_scan files entries name bytes front end failed shelf there fits opens law calm (Refusal.BadPiece piece) cause = absurd cause
+of_scan files entries name bytes front end failed shelf there fits opens law calm Refusal.NamesSpent cause = absurd cause
 
 of_print : (failed : Type 0) (text : List ℕ) (old new : Option (List ℕ)) → (failed → ⊥) → (e : Refusal) → PrintCause failed text old new e → e ≡ Refusal.Memory
 of_print failed text old new calm Refusal.Memory cause = refl
@@ -134,6 +177,10 @@ of_print failed text old new calm Refusal.Missing cause = absurd cause
 of_print failed text old new calm Refusal.InputTooLarge cause = absurd cause
 of_print failed text old new calm (Refusal.FileTooLarge n) cause = absurd cause
 of_print failed text old new calm (Refusal.TooLong n) cause = absurd cause
+of_print failed text old new calm Refusal.MissingIndex cause = absurd cause
+of_print failed text old new calm (Refusal.BadIndex n) cause = absurd cause
+of_print failed text old new calm (Refusal.BadPiece piece) cause = absurd cause
+of_print failed text old new calm Refusal.NamesSpent cause = absurd cause
 
 -- the sink of the whole run has failed where that of the command has
 replay_memory : (name : List ℕ) (limit : ℕ) (files : Option (List Entry)) (input : Option (List ℕ)) (source sink more disk : Type 0) (old new : Option (List ℕ)) (e : Refusal) → OneSchedule → NotBoth → NotDamaged → (sink → more) → ReplayCause name limit files input source sink disk old new e → NoReplayCause name limit files input source more disk → e ≡ Refusal.Memory
@@ -169,6 +216,10 @@ dump_memory name files sink more disk old new (Refusal.BadLine n) law wider c me
 dump_memory name files sink more disk old new Refusal.Input law wider c meets = absurd c
 dump_memory name files sink more disk old new Refusal.InputTooLarge law wider c meets = absurd c
 dump_memory name files sink more disk old new (Refusal.FileTooLarge n) law wider c meets = absurd c
+dump_memory name files sink more disk old new Refusal.MissingIndex law wider c meets = absurd c
+dump_memory name files sink more disk old new (Refusal.BadIndex n) law wider c meets = absurd c
+dump_memory name files sink more disk old new (Refusal.BadPiece piece) law wider c meets = absurd c
+dump_memory name files sink more disk old new Refusal.NamesSpent law wider c meets = absurd c
 
 of_legible : (file name password : List ℕ) (files : Option (List Entry)) (sink disk : Type 0) → (e : Refusal) → LegibleCause name password e → NoMakeCause file name password files sink disk → e ≡ Refusal.Memory
 of_legible file name password files sink disk Refusal.NotLegible cause meets = absurd (cause meets.legible)
@@ -184,6 +235,10 @@ of_legible file name password files sink disk Refusal.Exists cause meets = absur
 of_legible file name password files sink disk Refusal.InputTooLarge cause meets = absurd cause
 of_legible file name password files sink disk (Refusal.FileTooLarge n) cause meets = absurd cause
 of_legible file name password files sink disk (Refusal.TooLong n) cause meets = absurd cause
+of_legible file name password files sink disk Refusal.MissingIndex cause meets = absurd cause
+of_legible file name password files sink disk (Refusal.BadIndex n) cause meets = absurd cause
+of_legible file name password files sink disk (Refusal.BadPiece piece) cause meets = absurd cause
+of_legible file name password files sink disk Refusal.NamesSpent cause meets = absurd cause
 
 of_new : (files : Option (List Entry)) (entries : List Entry) (file : List ℕ) (failed : Type 0) → files ≡ Some entries → file_at entries file ≡ None → (failed → ⊥) → (e : Refusal) → NewCause files file failed e → e ≡ Refusal.Memory
 of_new files entries file failed shelf absent calm Refusal.Memory cause = refl
@@ -199,6 +254,10 @@ of_new files entries file failed shelf absent calm Refusal.Missing cause = absur
 of_new files entries file failed shelf absent calm Refusal.InputTooLarge cause = absurd cause
 of_new files entries file failed shelf absent calm (Refusal.FileTooLarge n) cause = absurd cause
 of_new files entries file failed shelf absent calm (Refusal.TooLong n) cause = absurd cause
+of_new files entries file failed shelf absent calm Refusal.MissingIndex cause = absurd cause
+of_new files entries file failed shelf absent calm (Refusal.BadIndex n) cause = absurd cause
+of_new files entries file failed shelf absent calm (Refusal.BadPiece piece) cause = absurd cause
+of_new files entries file failed shelf absent calm Refusal.NamesSpent cause = absurd cause
 
 make_memory : (file name password : List ℕ) (files : Option (List Entry)) (sink more disk : Type 0) (old new : Option (List ℕ)) (e : Refusal) → (sink → more) → MakeCause file name password files sink disk old new e → NoMakeCause file name password files more disk → e ≡ Refusal.Memory
 make_memory file name password files sink more disk old new e wider (inl c) meets = of_legible file name password files more disk e c.0 meets
@@ -219,6 +278,10 @@ of_words words Refusal.Exists is cause = absurd cause
 of_words words Refusal.InputTooLarge is cause = absurd cause
 of_words words (Refusal.FileTooLarge n) is cause = absurd cause
 of_words words (Refusal.TooLong n) is cause = absurd cause
+of_words words Refusal.MissingIndex is cause = absurd cause
+of_words words (Refusal.BadIndex n) is cause = absurd cause
+of_words words (Refusal.BadPiece piece) is cause = absurd cause
+of_words words Refusal.NamesSpent is cause = absurd cause
 
 -- ---- a server
 
@@ -236,6 +299,50 @@ of_served_file files file record_ hub sink shelf disks meets law (FileRefusal.Da
 of_served_file files file record_ hub sink shelf disks meets law FileRefusal.Disk cause = absurd (elim cause.1 [ inl failed ↦ meets.disk_calm (inl failed) | inr unsound ↦ meets.disk_calm (inr unsound.0) ])
 of_served_file files file record_ hub sink shelf disks meets law FileRefusal.Hub cause = absurd (meets.hub_calm cause.0)
 
+-- ---- a backup
+
+of_unbacked : (file repo : List ℕ) (full : Bool) (files now : Option (List Entry)) (sink disk : Type 0) → NotDamaged → NoBackupCause file repo files sink disk → (refusal : BackupRefusal) → Backing.BackupCause file repo full files now disk refusal → of_backup refusal ≡ Refusal.Memory
+of_unbacked file repo full files now sink disk law meets backup.Memory cause = refl
+of_unbacked file repo full files now sink disk law meets backup.Missing cause = absurd (not_none (file_at meets.entries file) meets.bytes meets.there (subst (λ f. IfSome f (λ all. file_at all file ≡ None)) meets.shelf cause))
+of_unbacked file repo full files now sink disk law meets (backup.TooLong n) cause =
+    let held = subst (λ f. IfSome f (λ all. Backing.HasFile all file (λ bytes. n ≡ length bytes))) meets.shelf cause.1 in
+    let long : n ≡ length meets.bytes = held.2 ∙ ap length (same_bytes (file_at meets.entries file) held.0 meets.bytes held.1 meets.there) in
+    absurd (omega (arith, cause.0, long, meets.fits))
+of_unbacked file repo full files now sink disk law meets (backup.Damaged kind place) cause =
+    let held = subst (λ f. IfSome f (λ all. Backing.HasFile all file (λ bytes. Backing.Fits bytes × Damaged bytes place kind))) meets.shelf cause in
+    let same : held.0 ≡ meets.bytes = same_bytes (file_at meets.entries file) held.0 meets.bytes held.1 meets.there in
+    absurd (law meets.bytes meets.front meets.end place kind meets.opens (subst (λ (b : List ℕ). Damaged b place kind) same held.2.1))
+of_unbacked file repo full files now sink disk law meets backup.NamesSpent cause =
+    absurd (meets.named now (subst (λ f. IfSome f (λ all. Backing.HasDue all file repo full × Backing.Spends all now repo)) meets.shelf cause).1)
+of_unbacked file repo full files now sink disk law meets backup.Disk cause = absurd (meets.disk_calm cause)
+
+backup_memory : (file repo : List ℕ) (full : Bool) (files now : Option (List Entry)) (sink more disk : Type 0) (old new : Option (List ℕ)) (e : Refusal) → NotDamaged → (sink → more) → BackupCause file repo full files now sink disk old new e → NoBackupCause file repo files more disk → e ≡ Refusal.Memory
+backup_memory file repo full files now sink more disk old new e law wider (inl c) meets = c.0.is ∙ of_unbacked file repo full files now more disk law meets c.0.refusal c.0.cause
+backup_memory file repo full files now sink more disk old new e law wider (inr c) meets = of_print sink _ old new (λ rose. meets.sink_calm (wider rose)) e c.printed
+
+-- ---- a restore
+
+of_unrestored : (repo name : List ℕ) (files : Option (List Entry)) (sink disk : Type 0) → OneIndex → NotBadIndex → NoRestoreCause repo name files sink disk → (refusal : RestoreRefusal) → Restoring.RestoreCause repo name files disk refusal → of_restore refusal ≡ Refusal.Memory
+of_unrestored repo name files sink disk one not_both meets restore.Memory cause = refl
+of_unrestored repo name files sink disk one not_both meets restore.Missing cause =
+    absurd (not_none (file_at meets.entries (index_name repo)) meets.stands.text meets.stands.there (subst (λ f. IfSome f (λ all. file_at all (index_name repo) ≡ None)) meets.shelf cause))
+of_unrestored repo name files sink disk one not_both meets (restore.BadIndex n) cause =
+    let bad = subst (λ f. IfSome f (λ all. HasBadIndex all (index_name repo) n)) meets.shelf cause in
+    let same : meets.stands.text ≡ bad.text = same_bytes (file_at meets.entries (index_name repo)) meets.stands.text bad.text meets.stands.there bad.there in
+    absurd (not_both bad.text meets.rows n (subst (λ (t : List ℕ). IsIndex t meets.rows) same meets.stands.is) bad.bad)
+of_unrestored repo name files sink disk one not_both meets (restore.BadPiece piece) cause =
+    let wrong = subst (λ f. IfSome f (λ all. (rows : List PieceRow) × Stands all repo rows × (first_wrong all rows ≡ Some piece))) meets.shelf cause in
+    let text : wrong.1.text ≡ meets.stands.text = same_bytes (file_at meets.entries (index_name repo)) wrong.1.text meets.stands.text wrong.1.there meets.stands.there in
+    let same : wrong.0 ≡ meets.rows = one meets.stands.text wrong.0 meets.rows (subst (λ (t : List ℕ). IsIndex t wrong.0) text wrong.1.is) meets.stands.is in
+    absurd (not_none (first_wrong meets.entries meets.rows) piece (subst (λ (rows : List PieceRow). first_wrong meets.entries rows ≡ Some piece) same wrong.2) meets.right)
+of_unrestored repo name files sink disk one not_both meets restore.Exists cause =
+    absurd ((subst (λ f. IfSome f (λ all. (rows : List PieceRow) × Stands all repo rows × (first_wrong all rows ≡ None) × (file_at all name ≡ None → ⊥))) meets.shelf cause).3 meets.absent)
+of_unrestored repo name files sink disk one not_both meets restore.Disk cause = absurd (meets.disk_calm cause)
+
+restore_memory : (repo name : List ℕ) (files now : Option (List Entry)) (sink more disk : Type 0) (old new : Option (List ℕ)) (e : Refusal) → OneIndex → NotBadIndex → (sink → more) → RestoreCause repo name files now sink disk old new e → NoRestoreCause repo name files more disk → e ≡ Refusal.Memory
+restore_memory repo name files now sink more disk old new e one not_both wider (inl c) meets = c.0.is ∙ of_unrestored repo name files more disk one not_both meets c.0.refusal c.0.cause
+restore_memory repo name files now sink more disk old new e one not_both wider (inr c) meets = of_print sink _ old new (λ rose. meets.sink_calm (wider rose)) e c.printed
+
 -- ---- words ask for one thing
 
 asks_one : (o : Option Asked) (a b : Asked) → o ≡ Some a → o ≡ Some b → a ≡ b
@@ -245,24 +352,28 @@ rose_after : (a b c : Counter) → b.count ≤ c.count → Rose a b → Rose a c
 rose_after a b c le rose = omega (arith, rose)
 
 -- a command was refused that meets no cause
-of_command : (asked : Asked) (old mid : OutsideView) (line : Option (List ℕ)) (sink : Counter) (e : Refusal) → OneSchedule → NotBoth → NotDamaged → mid.sink.count ≤ sink.count → CauseOf asked old mid e → NoCauseOf asked old (told mid line sink) → e ≡ Refusal.Memory
-of_command (Init file name password) old mid line sink e one both law later cause meets =
+of_command : (asked : Asked) (old mid : OutsideView) (line : Option (List ℕ)) (sink : Counter) (e : Refusal) → Laws → mid.sink.count ≤ sink.count → CauseOf asked old mid e → NoCauseOf asked old (told mid line sink) → e ≡ Refusal.Memory
+of_command (Init file name password) old mid line sink e laws later cause meets =
     make_memory file name password old.files (SinkFailed old mid) (Rose old.sink sink) (DiskFailed old mid) old.written mid.written e (rose_after old.sink mid.sink sink later) cause meets
-of_command (Replay file limit) old mid line sink e one both law later cause meets =
-    replay_memory file limit old.files old.input (SourceFailed old mid) (SinkFailed old mid) (Rose old.sink sink) (DiskFailed old mid) old.written mid.written e one both law (rose_after old.sink mid.sink sink later) cause meets
-of_command (Serve file port connections clients record_) old mid line sink e one both law later (inl c) meets =
-    c.0.is ∙ of_served_file old.files file record_ (HubFailed old mid) (Rose old.sink sink) (ShelfFailed old mid) (old.sound_disks → ⊥) meets law c.0.refusal c.0.cause
-of_command (Serve file port connections clients record_) old mid line sink e one both law later (inr c) meets =
+of_command (Replay file limit) old mid line sink e laws later cause meets =
+    replay_memory file limit old.files old.input (SourceFailed old mid) (SinkFailed old mid) (Rose old.sink sink) (DiskFailed old mid) old.written mid.written e laws.schedule laws.line laws.opening (rose_after old.sink mid.sink sink later) cause meets
+of_command (Serve file port connections clients record_) old mid line sink e laws later (inl c) meets =
+    c.0.is ∙ of_served_file old.files file record_ (HubFailed old mid) (Rose old.sink sink) (ShelfFailed old mid) (old.sound_disks → ⊥) meets laws.opening c.0.refusal c.0.cause
+of_command (Serve file port connections clients record_) old mid line sink e laws later (inr c) meets =
     of_print (SinkFailed old mid) _ old.written mid.written (λ rose. meets.sink_calm (rose_after old.sink mid.sink sink later rose)) e c.printed
-of_command (Check file) old mid line sink e one both law later cause meets =
-    check_memory file old.files (SinkFailed old mid) (Rose old.sink sink) (DiskFailed old mid) old.written mid.written e law (rose_after old.sink mid.sink sink later) cause meets
-of_command (Dump file) old mid line sink e one both law later cause meets =
-    dump_memory file old.files (SinkFailed old mid) (Rose old.sink sink) (DiskFailed old mid) old.written mid.written e law (rose_after old.sink mid.sink sink later) cause meets
+of_command (Check file) old mid line sink e laws later cause meets =
+    check_memory file old.files (SinkFailed old mid) (Rose old.sink sink) (DiskFailed old mid) old.written mid.written e laws.opening (rose_after old.sink mid.sink sink later) cause meets
+of_command (Dump file) old mid line sink e laws later cause meets =
+    dump_memory file old.files (SinkFailed old mid) (Rose old.sink sink) (DiskFailed old mid) old.written mid.written e laws.opening (rose_after old.sink mid.sink sink later) cause meets
+of_command (Backup file repo full) old mid line sink e laws later cause meets =
+    backup_memory file repo full old.files mid.files (SinkFailed old mid) (Rose old.sink sink) (DiskFailed old mid) old.written mid.written e laws.opening (rose_after old.sink mid.sink sink later) cause meets
+of_command (Restore repo name) old mid line sink e laws later cause meets =
+    restore_memory repo name old.files mid.files (SinkFailed old mid) (Rose old.sink sink) (DiskFailed old mid) old.written mid.written e laws.index laws.row (rose_after old.sink mid.sink sink later) cause meets
 
-pub only_memory : (words : List (List ℕ)) (old mid : OutsideView) (line : Option (List ℕ)) (sink : Counter) (e : Refusal) → OneSchedule → NotBoth → NotDamaged → mid.sink.count ≤ sink.count → Cause words old mid e → NoCause words old (told mid line sink) → e ≡ Refusal.Memory
-only_memory words old mid line sink e one both law later (inl c) meets = of_words words e (meets.0, meets.1) c.0
-only_memory words old mid line sink e one both law later (inr c) meets =
-    of_command meets.0 old mid line sink e one both law later (subst (λ (a : Asked). CauseOf a old mid e) (asks_one (asked_of words) c.0 meets.0 c.1 meets.1) c.2) meets.2
+pub only_memory : (words : List (List ℕ)) (old mid : OutsideView) (line : Option (List ℕ)) (sink : Counter) (e : Refusal) → Laws → mid.sink.count ≤ sink.count → Cause words old mid e → NoCause words old (told mid line sink) → e ≡ Refusal.Memory
+only_memory words old mid line sink e laws later (inl c) meets = of_words words e (meets.0, meets.1) c.0
+only_memory words old mid line sink e laws later (inr c) meets =
+    of_command meets.0 old mid line sink e laws later (subst (λ (a : Asked). CauseOf a old mid e) (asks_one (asked_of words) c.0 meets.0 c.1 meets.1) c.2) meets.2
 
 calm_sink : (asked : Asked) (old new : OutsideView) → NoCauseOf asked old new → SinkFailed old new → ⊥
 calm_sink (Init file name password) old new meets = meets.sink_calm
@@ -270,6 +381,8 @@ calm_sink (Replay file limit) old new meets = meets.sink_calm
 calm_sink (Serve file port connections clients record_) old new meets = meets.sink_calm
 calm_sink (Check file) old new meets = meets.sink_calm
 calm_sink (Dump file) old new meets = meets.sink_calm
+calm_sink (Backup file repo full) old new meets = meets.sink_calm
+calm_sink (Restore repo name) old new meets = meets.sink_calm
 
 pub sink_is_calm : (words : List (List ℕ)) (old new : OutsideView) → NoCause words old new → SinkFailed old new → ⊥
 sink_is_calm words old new meets = calm_sink meets.0 old new meets.2

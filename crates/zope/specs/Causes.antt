@@ -4,8 +4,9 @@ use Rattle.std.specs.Io.KnownBytes.{append_known}
 use Rattle.zbase.specs.Faults.{Counter}
 use Rattle.zio.specs.Shelves.{Entry}
 use Rattle.fs_record.specs.Damages.{kind_number}
-use Rattle.words.specs.Asking.{Asked, Check, Dump, Init, Replay, Serve, asked_of}
+use Rattle.words.specs.Asking.{Asked, Backup, Check, Dump, Init, Replay, Restore, Serve, asked_of}
 use Rattle.zope.specs.declared.refusal.Refusal.{Refusal}
+use Rattle.zope.specs.BackupCauses.{BackupCause, FileBackedUp, LeavesBackup, NoBackupCause}
 use Rattle.zope.specs.CheckCauses.{CheckCause}
 use Rattle.zope.specs.DumpCauses.{DumpCause, Dumped}
 use Rattle.zope.specs.Given.{IsSound, most_input}
@@ -14,6 +15,7 @@ use Rattle.zope.specs.Numbers.{NumbersPrinted}
 use Rattle.zope.specs.Outside.{DiskFailed, HubFailed, OutsideView, ShelfFailed, SinkFailed, SourceFailed, told}
 use Rattle.zope.specs.ReplayCauses.{NoReplayCause, ReplayCause}
 use Rattle.zope.specs.Replayed.{Replayed}
+use Rattle.zope.specs.RestoreCauses.{FileRestored, LeavesRestored, NoRestoreCause, RestoreCause}
 use Rattle.zope.specs.ServeCauses.{LeavesServed, NoServeCause, ServeCause, SiteServed}
 use Rattle.zope.specs.Words.{IsCommand, IsNamed}
 
@@ -25,15 +27,19 @@ DidAs (Serve file port connections clients record_) old new =
     SiteServed old.sound_disks file record_ port connections clients old.files new.files old.ticks old.clock new.ticks new.clock old.peers new.peers old.written new.written
 DidAs (Check file) old new = NumbersPrinted file old.files old.written new.written
 DidAs (Dump file) old new = Dumped file old.files old.written new.written
+DidAs (Backup file repo full) old new = FileBackedUp file repo full old.files new.files old.written new.written
+DidAs (Restore repo name) old new = FileRestored repo name old.files new.files old.written new.written
 
 abbrev pub Did : List (List ℕ) → OutsideView → OutsideView → Type 0
 Did words old new = (asked : Asked) × (asked_of words ≡ Some asked) × DidAs asked old new
 
 -- What a command leaves in the files, however it ends, where the shelf tells: each that was there, as it was, and nothing else, but for
--- the new site that was asked for, or the site that was served and its record.
+-- the new site that was asked for, the site that was served and its record, a backup's piece and index, or the file that is restored.
 abbrev pub LeavesBy : Asked → Option (List Entry) → Option (List Entry) → Type 0
 LeavesBy (Init file name password) old new = LeavesNew file name password old new
 LeavesBy (Serve file port connections clients record_) old new = LeavesServed file record_ old new
+LeavesBy (Backup file repo full) old new = LeavesBackup file repo full old new
+LeavesBy (Restore repo name) old new = LeavesRestored name old new
 LeavesBy _ old new = new ≡ old
 
 abbrev pub LeavesFiles : List (List ℕ) → Option (List Entry) → Option (List Entry) → Type 0
@@ -53,6 +59,10 @@ CauseOf (Serve file port connections clients record_) old new e =
     ServeCause old.sound_disks file record_ port connections clients old.files new.files old.ticks old.clock new.ticks new.clock old.peers new.peers (HubFailed old new) (SinkFailed old new) (ShelfFailed old new) old.written new.written e
 CauseOf (Check file) old new e = CheckCause file old.files (SinkFailed old new) (DiskFailed old new) old.written new.written e
 CauseOf (Dump file) old new e = DumpCause file old.files (SinkFailed old new) (DiskFailed old new) old.written new.written e
+CauseOf (Backup file repo full) old new e =
+    BackupCause file repo full old.files new.files (SinkFailed old new) (DiskFailed old new) old.written new.written e
+CauseOf (Restore repo name) old new e =
+    RestoreCause repo name old.files new.files (SinkFailed old new) (DiskFailed old new) old.written new.written e
 
 -- the cause of a refusal, at the moment before the last line: of the words, or of what they ask for
 abbrev pub Cause : List (List ℕ) → OutsideView → OutsideView → Refusal → Type 0
@@ -73,8 +83,12 @@ last_line name Refusal.Exists = codes "exists " ++ name ++ 10 ∷ []
 last_line name Refusal.InputTooLarge = codes "too large " ++ decimal most_input ++ 10 ∷ []
 last_line name (Refusal.FileTooLarge n) = codes "too large " ++ decimal n ++ 10 ∷ []
 last_line name (Refusal.TooLong n) = codes "too long " ++ decimal n ++ 10 ∷ []
+last_line name Refusal.MissingIndex = codes "missing " ++ (name ++ (codes ".dat" ++ 10 ∷ []))
+last_line name (Refusal.BadIndex n) = codes "bad index " ++ decimal n ++ 10 ∷ []
+last_line name (Refusal.BadPiece piece) = codes "bad piece " ++ piece ++ 10 ∷ []
+last_line name Refusal.NamesSpent = codes "names spent" ++ 10 ∷ []
 
--- the last line was written; only `missing` and `exists` name a file
+-- the last line was written; only `missing` and `exists` name a file of the words, or the index of their repository
 abbrev pub Names : List (List ℕ) → Refusal → Option (List ℕ) → Option (List ℕ) → Type 0
 Names words e mid new = (name : List ℕ) × (IsNamed words e name ⊎ (IsCommand words → ⊥)) × (new ≡ append_known mid (last_line name e))
 
@@ -89,6 +103,8 @@ NoCauseOf (Replay file limit) old new = NoReplayCause file limit old.files old.i
 NoCauseOf (Serve file port connections clients record_) old new = NoServeCause file record_ old.files (HubFailed old new) (SinkFailed old new) (DiskFailed old new)
 NoCauseOf (Check file) old new = IsSound file old.files (SinkFailed old new) (DiskFailed old new)
 NoCauseOf (Dump file) old new = IsSound file old.files (SinkFailed old new) (DiskFailed old new)
+NoCauseOf (Backup file repo full) old new = NoBackupCause file repo old.files (SinkFailed old new) (DiskFailed old new)
+NoCauseOf (Restore repo name) old new = NoRestoreCause repo name old.files (SinkFailed old new) (DiskFailed old new)
 
 abbrev pub NoCause : List (List ℕ) → OutsideView → OutsideView → Type 0
 NoCause words old new = (asked : Asked) × (asked_of words ≡ Some asked) × NoCauseOf asked old new

@@ -9,6 +9,8 @@ pub mod DumpCauses
 pub mod MakeCauses
 pub mod Outside
 pub mod ServeCauses
+pub mod BackupCauses
+pub mod RestoreCauses
 pub mod Causes
 pub mod Ends
 pub mod Worked

@@ -6,11 +6,13 @@ ghost use Rattle.zope.specs.Causes.{Cause, Did, LeavesFiles};
 ghost use Rattle.zope.specs.Outside.{outside};
 ghost use Rattle.zope.specs.Words.{IsInit, IsReplay, IsServe, file_in, named_in, new_in};
 
+use crate::backing_up::back_up_file;
 use crate::checking::check_file;
 use crate::dumping::dump_file;
 use crate::making::make_new;
 use crate::refusal::Refusal;
 use crate::replaying::replay_file;
+use crate::restoring::restore_file;
 use crate::serving::serve_site;
 use file_server::FileJob;
 use std::alloc::Global;
@@ -18,10 +20,10 @@ use words::Asked;
 use zio::{Clock, Hub, Shelf, Sink, Source};
 use zserve::ServePlan;
 
-/// The files that the last line of a command may name.
+/// The files, or the repository, that the last line of a command may name.
 #[derive(Clone, Copy, Debug)]
 pub struct Names<'a> {
-    /// The file that the command is over.
+    /// The file that the command is over, or the repository.
     pub file: &'a str,
     /// The file that it makes, where it makes one.
     pub new: &'a str,
@@ -29,8 +31,8 @@ pub struct Names<'a> {
 
 impl<'a> Names<'a> {
     /// The one that a refusal names: where there is one already that was to be made, that.
-    pub fn of(self, refusal: Refusal) -> &'a str
-        ensures { (asked : AskedView) → self.entry.file.now ≡ file_in asked → self.entry.new.now ≡ new_in asked → result.now ≡ named_in asked refusal }
+    pub fn of(self, refusal: &Refusal) -> &'a str
+        ensures { (asked : AskedView) → self.entry.file.now ≡ file_in asked → self.entry.new.now ≡ new_in asked → result.now ≡ named_in asked refusal.now }
     {
         match refusal {
             Refusal::Exists => self.new,
@@ -50,11 +52,14 @@ pub fn names_of<'a>(asked: &Asked<'a>) -> Names<'a>
         Asked::Serve { file, record, .. } => (*file, *record),
         Asked::Check { file } => (*file, *file),
         Asked::Dump { file } => (*file, *file),
+        Asked::Backup { file, .. } => (*file, *file),
+        Asked::Restore { repo, out } => (*repo, *out),
     };
     Names { file, new }
 }
 
-/// Runs a command: `init`, `replay`, `serve`, `check` or `dump`. What is said of words holds of all that ask for it.
+/// Runs a command: `init`, `replay`, `serve`, `check`, `dump`, `backup` or `restore`. What is said of words holds of all that ask for
+/// it.
 pub fn run_command<F: Shelf, S: Source, K: Sink, H: Hub, C: Clock>(
     alloc: Global,
     asked: Asked<'_>,
@@ -112,5 +117,7 @@ where
         }
         Asked::Check { file } => check_file(alloc, file, files, out),
         Asked::Dump { file } => dump_file(alloc, file, files, out),
+        Asked::Backup { file, repo, full } => back_up_file(alloc, file, repo, full, files, out),
+        Asked::Restore { repo, out: name } => restore_file(alloc, repo, name, files, out),
     }
 }

@@ -9,7 +9,7 @@ use crate::refusal::Refusal;
 use std::alloc::Global;
 use zio::{OutsideRefusal, Sink};
 
-/// Writes the last line of a command over the file of that name, which says why it did not end well. The sink's own fault has
+/// Writes the last line of a command over the file or repository of that name, which says why it did not end well. The sink's own fault has
 /// none.
 pub fn put_last_line<K: Sink>(
     alloc: Global,
@@ -37,6 +37,12 @@ pub fn put_last_line<K: Sink>(
         Refusal::InputTooLarge => put_text(format!(in alloc; "too large {MAX_INPUT}\n"), out),
         Refusal::FileTooLarge(size) => put_text(format!(in alloc; "too large {size}\n"), out),
         Refusal::TooLong(size) => put_text(format!(in alloc; "too long {size}\n"), out),
+        Refusal::MissingIndex => put_text(format!(in alloc; "missing {name}.dat\n"), out),
+        Refusal::BadIndex(line) => put_text(format!(in alloc; "bad index {line}\n"), out),
+        Refusal::BadPiece(piece) => {
+            put_text(format!(in alloc; "bad piece {}\n", piece.as_str()), out)
+        }
+        Refusal::NamesSpent => out.write_all(b"names spent\n"),
     }
 }
 

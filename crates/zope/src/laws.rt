@@ -13,6 +13,7 @@ ghost use Rattle.zope.specs.Worked.{checking, untouched};
 
 use fs_record::one_opening;
 use publisher::{changes_are_granted, pages_show_rightly};
+use repozo::{one_bad_line as one_bad_row, one_index};
 use schedule::{one_bad_line, one_schedule};
 
 /// A run that gives up at once isn't one that ends: over a file that opens, where nothing fails, no status but want of
@@ -23,6 +24,8 @@ pub fn giving_up_is_refuted()
     one_schedule();
     one_bad_line();
     one_opening();
+    one_index();
+    one_bad_row();
 }
 
 /// Of what a replay prints, also of one that is broken off at a line that can't be run, each reading reply and the lines

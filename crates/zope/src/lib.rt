@@ -1,6 +1,7 @@
 //! The commands of the program, over a shelf of files, an input, an output, a hub and a clock: `run` is the top call.
 #![tactic(auto)]
 
+mod backing_up;
 mod checking;
 mod command;
 mod dumping;
@@ -10,6 +11,7 @@ mod laws;
 mod making;
 mod refusal;
 mod replaying;
+mod restoring;
 mod serving;
 mod top;
 

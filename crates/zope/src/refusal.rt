@@ -1,4 +1,5 @@
 ghost use Rattle.std.specs.Prelude.{◌≡◌};
+ghost use Rattle.zope.specs.BackupCauses.{of_backup, of_restore};
 ghost use Rattle.zope.specs.CheckCauses.{of_scan};
 ghost use Rattle.zope.specs.DumpCauses.{of_dump};
 ghost use Rattle.zope.specs.MakeCauses.{of_make};
@@ -8,6 +9,7 @@ ghost use Rattle.zope.specs.declared.refusal.FileRefusal.TheVariants.{Memory as 
 ghost use Rattle.zope.specs.declared.refusal.InputRefusal.TheVariants.{Memory as InputMemory};
 ghost use Rattle.zope.specs.declared.refusal.Refusal.TheVariants.{Memory as RefusedMemory};
 
+use backups::{BackupRefusal, RestoreRefusal};
 use file_server::FileRefusal as ServedRefusal;
 use fs_record::Damage;
 use fs_scan::ScanRefusal;
@@ -15,10 +17,10 @@ use new_site::MakeRefusal;
 use replay::{DumpRefusal, RunRefusal};
 use schedule::ScheduleRefusal;
 use std::alloc::{AllocError, AllocFailed};
-use zbase::Memory;
+use zbase::{Memory, Text};
 
 /// Why a command did not end well.
-#[derive(Clone, Copy, Debug, PartialEq, Eq)]
+#[derive(Debug, Drop)]
 pub enum Refusal {
     /// The words are none of the program's.
     Usage,
@@ -46,6 +48,14 @@ pub enum Refusal {
     FileTooLarge(u64),
     /// The file has so many bytes, which no file may have.
     TooLong(u64),
+    /// The shelf has no index of that repository.
+    MissingIndex,
+    /// The line of the index with this number fits no rule.
+    BadIndex(u64),
+    /// The piece of this name isn't there, or has another length or digest than its row says.
+    BadPiece(Text),
+    /// The shelf has all names already that a new piece, or a new index, may have.
+    NamesSpent,
 }
 
 /// Why the input was not read.
@@ -209,6 +219,36 @@ impl From<DumpRefusal> for Refusal {
             DumpRefusal::Disk => Refusal::Disk,
             DumpRefusal::Output => Refusal::Output,
             DumpRefusal::Memory => Refusal::Memory,
+        }
+    }
+}
+
+impl From<BackupRefusal> for Refusal {
+    ghost from_gives = { λ refusal e. e ≡ of_backup refusal };
+
+    fn from(refusal: BackupRefusal) -> Refusal {
+        match refusal {
+            BackupRefusal::Missing => Refusal::Missing,
+            BackupRefusal::TooLong(size) => Refusal::TooLong(size),
+            BackupRefusal::Damaged(kind, place) => Refusal::Damaged(kind, place),
+            BackupRefusal::NamesSpent => Refusal::NamesSpent,
+            BackupRefusal::Disk => Refusal::Disk,
+            BackupRefusal::Memory => Refusal::Memory,
+        }
+    }
+}
+
+impl From<RestoreRefusal> for Refusal {
+    ghost from_gives = { λ refusal e. e ≡ of_restore refusal };
+
+    fn from(refusal: RestoreRefusal) -> Refusal {
+        match refusal {
+            RestoreRefusal::Missing => Refusal::MissingIndex,
+            RestoreRefusal::BadIndex(line) => Refusal::BadIndex(line),
+            RestoreRefusal::BadPiece(name) => Refusal::BadPiece(name),
+            RestoreRefusal::Exists => Refusal::Exists,
+            RestoreRefusal::Disk => Refusal::Disk,
+            RestoreRefusal::Memory => Refusal::Memory,
         }
     }
 }

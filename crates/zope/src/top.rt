@@ -10,6 +10,7 @@ use crate::command::{names_of, run_command};
 use crate::last_lines::put_last_line;
 use crate::refusal::Refusal;
 use fs_record::one_opening;
+use repozo::{one_bad_line as one_bad_row, one_index};
 use schedule::{one_bad_line, one_schedule};
 use std::alloc::Global;
 use words::{WordsRefusal, read_words};
@@ -20,8 +21,8 @@ use zio::{Clock, Hub, OutsideRefusal, Shelf, Sink, Source};
 pub struct Status(pub u8);
 
 // The status of a refusal.
-fn status_of(refusal: Refusal) -> Status
-    ensures { result.0 ≡ status_of refusal }
+fn status_of(refusal: &Refusal) -> Status
+    ensures { result.0 ≡ status_of refusal.now }
 {
     match refusal {
         Refusal::Usage => Status(2),
@@ -37,10 +38,14 @@ fn status_of(refusal: Refusal) -> Status
         Refusal::InputTooLarge => Status(9),
         Refusal::FileTooLarge(_) => Status(9),
         Refusal::TooLong(_) => Status(12),
+        Refusal::MissingIndex => Status(8),
+        Refusal::BadIndex(_) => Status(15),
+        Refusal::BadPiece(_) => Status(16),
+        Refusal::NamesSpent => Status(17),
     }
 }
 
-// The status of a refusal of a command over the file of that name. The last line names the refusal, but for one of the sink
+// The status of a refusal of a command over the file or repository of that name. The last line names the refusal, but for one of the sink
 // itself. Where the sink fails in this, that is the status; where memory is wanting, that.
 fn refuse<K: Sink>(alloc: Global, refusal: Refusal, name: &str, out: &mut K) -> Status
     ensures sink { refusal ≡ Refusal.Output → result.0 ≡ 6 }
@@ -53,8 +58,9 @@ fn refuse<K: Sink>(alloc: Global, refusal: Refusal, name: &str, out: &mut K) -> 
     if let Refusal::Output = refusal {
         return Status(6);
     }
+    let status = status_of(&refusal);
     match put_last_line(alloc, refusal, name, out) {
-        Ok(()) => status_of(refusal),
+        Ok(()) => status,
         Err(OutsideRefusal::Failed) => Status(6),
         Err(OutsideRefusal::Memory) => Status(7),
     }
@@ -77,7 +83,8 @@ pub fn run<F: Shelf, S: Source, K: Sink, H: Hub, C: Clock>(
 where
     F::D: Drop,
     // With 0 the words' command did what it says: a replay wrote a report that explains the schedule, a server gave each connection
-    // the reply of the report that its tape's items have, a check wrote the file's numbers, a dump its history, a new site its file.
+    // the reply of the report that its tape's items have, a check wrote the file's numbers, a dump its history, a new site its file,
+    // a backup put what is due of the file into its repository, and a restore made the file again.
     // Each other status is that of a refusal with its cause, which the last line names.
     ensures ends { let old = outside (F.files files.old) (F.sound_disks files.old) (F.counter files.old)
         (S.left input.old) (S.counter input.old) (K.written out.old) (K.counter out.old)
@@ -96,8 +103,9 @@ where
         (S.left input.new) (S.counter input.new) (K.written out.new) (K.counter out.new)
         (H.peers hub.new) (H.listening hub.new) (C.ticks clock.new) (C.counter clock.new) in
         NoCause (map string_bytes words.now) old new → (result.0 ≡ 0) ⊎ (result.0 ≡ 7) }
-    // Whatever the status, each file that was there stays as it was, but for the site that is served, and the only new one is that of
-    // a new site, or what there is of it where its making broke off, or a server's record.
+    // Whatever the status, each file that was there stays as it was, but for the site that is served and for an index that a whole new
+    // one replaces, and the only new ones are that of a new site, or what there is of it where its making broke off, a server's record, a
+    // backup's piece and index, and the file that is restored.
     ensures files { LeavesFiles (map string_bytes words.now) (F.files files.old) (F.files files.new) }
     // Only a server asks the hub, only a replay reads its input, and only a new site and a server ask the clock.
     ensures alone { ((IsServe (map string_bytes words.now) → ⊥) → hub.new ≡ hub.old)
@@ -107,12 +115,17 @@ where
     one_schedule();
     one_bad_line();
     one_opening();
+    one_index();
+    one_bad_row();
     match read_words(alloc, words) {
         Ok(asked) => {
             let names = names_of(&asked);
             match run_command(alloc, asked, files, input, out, hub, clock) {
                 Ok(()) => Status(0),
-                Err(refusal) => refuse(alloc, refusal, names.of(refusal), out),
+                Err(refusal) => {
+                    let name = names.of(&refusal);
+                    refuse(alloc, refusal, name, out)
+                }
             }
         }
         Err(WordsRefusal::Usage) => refuse(alloc, Refusal::Usage, "", out),

@@ -8,7 +8,7 @@ use zbase::{Bytes, FaultPlan, Text};
 use zio::{MemoryClock, MemoryFile, MemoryHub, MemoryShelf, MemorySink, MemorySource};
 use zope::{Status, run};
 
-/// The program: `words`, each `file NAME` with its bytes, `input`, `connection` with the bytes of one that comes to the hub, `clock
+/// The program: `words`, each `file NAME` with its bytes, `taken BASE FROM TO` for empty files under numbered names, `input`, `connection` with the bytes of one that comes to the hub, `clock
 /// SECONDS NANOSECONDS` since 1970, one for each question (behind the last one the first moment), and `failing KIND NUMBER`, where a
 /// kind is `opening` (also of a new file), `disk` and `new` (the disks of files that are there, and of new ones; one number each at
 /// most), `input`, `output`, `hub` or `clock`; `status NUMBER`, `output`, `left NAME` with what stands in each file, and `written`
@@ -25,6 +25,20 @@ fn failing_of(alloc: Global, case: &Case, kind: &str) -> Result<Option<u64>, Cas
     Ok(numbers.first().copied())
 }
 
+// Adds empty files under numbered names: the numbers from the one on and below the other, with four digits.
+fn add_taken(alloc: Global, files: &mut Vec<MemoryFile>, part: &Part) -> Result<(), CasesRefusal> {
+    let base = part.word(1).unwrap_or("");
+    for n in part.number(2)?..part.number(3)? {
+        let name = format!(in alloc; "{base}.{n:04}")?;
+        files.push(MemoryFile {
+            name: Text::from_str(alloc, name.as_str())?,
+            bytes: Bytes::new(alloc),
+            failing: None,
+        })?;
+    }
+    Ok(())
+}
+
 // The files of the case.
 fn files_of(alloc: Global, case: &Case) -> Result<Vec<MemoryFile>, CasesRefusal> {
     let failing = failing_of(alloc, case, "disk")?;
@@ -36,6 +50,8 @@ fn files_of(alloc: Global, case: &Case) -> Result<Vec<MemoryFile>, CasesRefusal>
                 bytes: part.bytes.copy()?,
                 failing,
             })?;
+        } else if part.key() == "taken" {
+            add_taken(alloc, &mut files, part)?;
         }
     }
     Ok(files)
@@ -164,7 +180,7 @@ impl Runner for Program {
     fn knows(&self, key: &str) -> bool {
         matches!(
             key,
-            "words" | "file" | "input" | "connection" | "clock" | "failing"
+            "words" | "file" | "taken" | "input" | "connection" | "clock" | "failing"
         )
     }
 

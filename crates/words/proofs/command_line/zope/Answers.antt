@@ -9,4 +9,6 @@ returns c =
     let e2 = c.in_ok-subcommand-2.ensures.shape c.in_ok-replay.ensures.globals ∙ ap₂ with_subcommand e1 (ap (λ (a : App). a.top) c.in_ok-replay.ensures.app) in
     let e3 = c.in_ok-subcommand-3.ensures.shape c.in_ok-serve.ensures.globals ∙ ap₂ with_subcommand e2 (ap (λ (a : App). a.top) c.in_ok-serve.ensures.app) in
     let e4 = c.in_ok-subcommand-4.ensures.shape c.in_ok-over_file.ensures.globals ∙ ap₂ with_subcommand e3 (ap (λ (a : App). a.top) c.in_ok-over_file.ensures.app) in
-    IfOk-weaker c.subcommand-5.result _ _ (λ r a. a.shape c.in_ok-over_file-2.ensures.globals ∙ ap₂ with_subcommand e4 (ap (λ (a : App). a.top) c.in_ok-over_file-2.ensures.app)) c.subcommand-5.ensures
+    let e5 = c.in_ok-subcommand-5.ensures.shape c.in_ok-over_file-2.ensures.globals ∙ ap₂ with_subcommand e4 (ap (λ (a : App). a.top) c.in_ok-over_file-2.ensures.app) in
+    let e6 = c.in_ok-subcommand-6.ensures.shape c.in_ok-backup.ensures.globals ∙ ap₂ with_subcommand e5 (ap (λ (a : App). a.top) c.in_ok-backup.ensures.app) in
+    IfOk-weaker c.subcommand-7.result _ _ (λ r a. a.shape c.in_ok-restore.ensures.globals ∙ ap₂ with_subcommand e6 (ap (λ (a : App). a.top) c.in_ok-restore.ensures.app)) c.subcommand-7.ensures

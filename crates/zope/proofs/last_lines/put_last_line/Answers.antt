@@ -22,3 +22,9 @@ returns-in-FileTooLarge-clause-ok g c = rw c.in-FileTooLarge.is (put_is c.put_te
 
 pub returns-in-TooLong-clause-ok : goal.returns-in-TooLong-clause-ok
 returns-in-TooLong-clause-ok g c = rw c.in-TooLong.is (put_is c.put_text-in-TooLong.result c.format-in-TooLong.result string_bytes _ _ _ c.put_text-in-TooLong.ensures.ok c.format-in-TooLong.ensures.ok)
+
+pub returns-in-MissingIndex-clause-ok : goal.returns-in-MissingIndex-clause-ok
+returns-in-MissingIndex-clause-ok g c = rw c.in-MissingIndex.is (put_is c.put_text-in-MissingIndex.result c.format-in-MissingIndex.result string_bytes _ _ _ c.put_text-in-MissingIndex.ensures.ok c.format-in-MissingIndex.ensures.ok)
+
+pub returns-in-NamesSpent-clause-ok : goal.returns-in-NamesSpent-clause-ok
+returns-in-NamesSpent-clause-ok g c = rw c.in-NamesSpent.is c.write_all-in-NamesSpent.ensures.ok
