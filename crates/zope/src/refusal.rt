@@ -1,9 +1,10 @@
 ghost use Rattle.std.specs.Prelude.{◌≡◌};
-ghost use Rattle.zope.specs.BackupCauses.{of_backup, of_restore};
+ghost use Rattle.zope.specs.BackupCauses.{of_backup};
 ghost use Rattle.zope.specs.CheckCauses.{of_scan};
 ghost use Rattle.zope.specs.DumpCauses.{of_dump};
 ghost use Rattle.zope.specs.MakeCauses.{of_make};
 ghost use Rattle.zope.specs.ReplayCauses.{of_file, of_input, of_run, of_schedule};
+ghost use Rattle.zope.specs.RestoreCauses.{of_restore};
 ghost use Rattle.zope.specs.ServeCauses.{of_served};
 ghost use Rattle.zope.specs.declared.refusal.FileRefusal.TheVariants.{Memory as FileMemory};
 ghost use Rattle.zope.specs.declared.refusal.InputRefusal.TheVariants.{Memory as InputMemory};
