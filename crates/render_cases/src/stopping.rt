@@ -1,3 +1,7 @@
+ghost use Rattle.std.specs.Prelude.{◌≡◌, true, IfOk};
+ghost use Rattle.dtml_values.specs.declared.refusal.RenderRefusal.TheVariants as refusals;
+ghost use Rattle.render_cases.specs.Stopping.{Stands};
+
 use crate::asking::{budget_of, template_of};
 use crate::running::{is_question, put_answer, put_state, rendered};
 use case_sites::{bytes_text, known_of_these};
@@ -12,8 +16,16 @@ use zknown::Known;
 // How many objects a case's pages may ask for.
 const MOST_ASKS: usize = 100;
 
+// The object that a refusal wants.
+fn wanted(refusal: &RenderRefusal) -> Option<u64> {
+    match refusal {
+        RenderRefusal::Need(oid) => Some(oid.0),
+        _ => None,
+    }
+}
+
 // The object for which the first page of a case stops, where these are known.
-fn next_need(alloc: Global, case: &Case, oids: &[Oid]) -> Result<Option<Oid>, CasesRefusal> {
+fn next_need(alloc: Global, case: &Case, oids: &[Oid]) -> Result<Option<u64>, CasesRefusal> {
     let mut budget = budget_of(case)?;
     let known = known_of_these(alloc, case, oids)?;
     let mut stack = stack_of(alloc, &known, case)?;
@@ -21,8 +33,12 @@ fn next_need(alloc: Global, case: &Case, oids: &[Oid]) -> Result<Option<Oid>, Ca
     for part in &case.parts {
         if is_question(part.key()) {
             let page = rendered(alloc, part, &mut stack, &mut budget)?;
-            if let Err(RenderRefusal::Need(oid)) = page {
-                return Ok(Some(oid));
+            let need = match &page {
+                Ok(_) => None,
+                Err(refusal) => wanted(refusal),
+            };
+            if need.is_some() {
+                return Ok(need);
             }
         }
     }
@@ -43,7 +59,7 @@ fn known_in_turn(alloc: Global, case: &Case, first: &Part) -> Result<Vec<Oid>, C
     let mut oids = known_at_first(alloc, first)?;
     for _ in 0..MOST_ASKS {
         match next_need(alloc, case, oids.as_slice())? {
-            Some(oid) if !oids.iter().any(|one| one.0 == oid.0) => oids.push(oid)?,
+            Some(oid) if !oids.iter().any(|one| one.0 == oid) => oids.push(Oid(oid))?,
             _ => return Ok(oids),
         }
     }
@@ -64,7 +80,9 @@ fn page_begun(
     alloc: Global,
     case: &Case,
     known: &Known,
-) -> Result<(Page<'static>, Resting), CasesRefusal> {
+) -> Result<(Page<'static>, Resting), CasesRefusal>
+    ensures { IfOk result (λ begun. Stands begun.0 begun.1) }
+{
     let Some(part) = case.part("template") else {
         return Err(CasesRefusal::BadPart(0));
     };
@@ -78,6 +96,16 @@ fn page_begun(
     Ok((page, stack.rest()))
 }
 
+// Whether a refusal is for want of this object.
+fn wants(refusal: &RenderRefusal, oid: Oid) -> bool
+    ensures { result ≡ true → refusal.now ≡ refusals.Need oid }
+{
+    match refusal {
+        RenderRefusal::Need(need) => need.0 == oid.0,
+        _ => false,
+    }
+}
+
 // The page goes on over what is known, and stops for an object.
 fn stopped_for(
     alloc: Global,
@@ -85,12 +113,19 @@ fn stopped_for(
     page: &mut Page<'static>,
     resting: Resting,
     known: &Known,
-) -> Result<Resting, CasesRefusal> {
+) -> Result<Resting, CasesRefusal>
+    requires { Stands page.old resting }
+    ensures { IfOk result (λ rested. Stands page.new rested) }
+{
     let mut stack = resting.on(known);
-    match page.go_on(alloc, &mut stack) {
-        Err(RenderRefusal::Need(need)) if need.0 == oid.0 => Ok(stack.rest()),
-        _ => Err(CasesRefusal::BadPart(0)),
+    let Err(refusal) = page.go_on(alloc, &mut stack) else {
+        return Err(CasesRefusal::BadPart(0));
+    };
+    let stopped = wants(&refusal, oid);
+    if !stopped {
+        return Err(CasesRefusal::BadPart(0));
     }
+    Ok(stack.rest())
 }
 
 /// What comes of the template of a case whose objects become known one at a time: it goes on at each stop.
@@ -105,7 +140,7 @@ pub(crate) fn put_stopping(
     let mut so_far = known_at_first(alloc, first)?;
     let known = known_of_these(alloc, case, so_far.as_slice())?;
     let (mut page, mut resting) = page_begun(alloc, case, &known)?;
-    for oid in oids.iter().skip(so_far.len()) {
+    'stops: for oid in oids.iter().skip(so_far.len()) {
         let known = known_of_these(alloc, case, so_far.as_slice())?;
         resting = stopped_for(alloc, *oid, &mut page, resting, &known)?;
         so_far.push(*oid)?;
