@@ -3,17 +3,22 @@
 edits of the folders' titles.
 
 An edit of the title reads the folder's record and writes it, once each, and looks at no child. Each schedule has one call for
-each folder, so that all meet as many children; a call's cost is its run's time without that of a run that has no request, by
-the number of calls. The printing of what a call wrote, the folder's record among it, is part of its cost and of the edit's.
+each folder, so that all meet as many children; a call's cost is its run's seconds of the processor without those of a run that
+has no request, by the number of calls. The printing of what a call wrote, the folder's record among it, is part of its cost and
+of the edit's. All runs are made once in each round, so that a slow moment meets them alike, and the middle of the rounds'
+ratios is taken. With --instructions valgrind counts instructions in place of seconds, once: the same number in each run.
 """
 
 import argparse
 import pathlib
+import re
+import resource
+import statistics
 import subprocess
 import tempfile
 from urllib.parse import urlencode
 
-from replay import PROGRAM, Writer, be, build, least, run_of, text
+from replay import PROGRAM, Writer, be, build, text
 
 DOCUMENT, FIRST_FOLDER = 1, 2
 # Add Folders, Delete objects, Manage properties
@@ -66,11 +71,37 @@ def commits(site, lines):
     return shown.count(b"reply 0 commit ")
 
 
+def seconds_of(site, lines):
+    """Seconds of the processor, the system's among them, of a replay."""
+    before = resource.getrusage(resource.RUSAGE_CHILDREN)
+    with open(lines, "rb") as given:
+        subprocess.run([PROGRAM, "replay", site], stdin=given, stdout=subprocess.DEVNULL, check=True)
+    after = resource.getrusage(resource.RUSAGE_CHILDREN)
+    return after.ru_utime - before.ru_utime + after.ru_stime - before.ru_stime
+
+
+def instructions_of(site, lines):
+    """How many instructions a replay takes, in millions, by valgrind."""
+    with open(lines, "rb") as given:
+        words = ["valgrind", "--tool=callgrind", "--callgrind-out-file=/dev/null", PROGRAM, "replay", site]
+        said = subprocess.run(words, stdin=given, stdout=subprocess.DEVNULL, stderr=subprocess.PIPE, text=True, check=True).stderr
+    return int(re.search(r"Collected : (\d+)", said).group(1)) / 1e6
+
+
+def ratios(cost_of, runs, folders):
+    """What an edit of the title costs, and each call in edits, in one round over all runs."""
+    costs = {title: cost_of(site, lines) for title, (site, lines) in runs.items()}
+    opened = costs.pop("none")
+    edit = (costs.pop("title") - opened) / folders
+    return edit, {title: (cost - opened) / folders / edit for title, cost in costs.items()}
+
+
 def main():
     options = argparse.ArgumentParser(description=__doc__)
     options.add_argument("--children", type=int, default=10_000)
     options.add_argument("--folders", type=int, default=40)
-    options.add_argument("--rounds", type=int, default=7)
+    options.add_argument("--rounds", type=int, default=21)
+    options.add_argument("--instructions", action="store_true")
     given = options.parse_args()
     build()
     tenth = [("ids:list", name.decode()) for name in names(given.children)[::10]]
@@ -87,20 +118,22 @@ def main():
     ]
     with tempfile.TemporaryDirectory() as made:
         at = pathlib.Path(made)
-        seconds = {}
+        runs = {}
         for title, children, call, fields, facts in rows:
-            site, lines = at / f"{children}.fs", at / "schedule"
+            site, lines = at / f"{children}.fs", at / f"{len(runs)}.schedule"
             if not site.exists():
                 write_site(site, given.folders, children)
             lines.write_bytes(schedule(given.folders, call, fields, facts))
             assert commits(site, lines) == (given.folders if call else 0), f"{title}: a call wasn't answered"
-            seconds[title], _ = least(run_of(site, lines), given.rounds)
-    opened = seconds.pop("none")
-    costs = {title: (took - opened) / given.folders for title, took in seconds.items()}
-    edit = costs.pop("title")
-    print(f"{given.folders} folders of {given.children} children; an edit of a title: {edit * 1000:.2f} ms")
-    for title, cost in costs.items():
-        print(f"{title}: {cost * 1000:.2f} ms, {cost / edit:.2f} times an edit of the title")
+            runs[title] = site, lines
+        cost_of = instructions_of if given.instructions else seconds_of
+        rounds = [ratios(cost_of, runs, given.folders) for _ in range(1 if given.instructions else given.rounds)]
+    edit = statistics.median(edit for edit, _ in rounds)
+    what = f"{edit:.2f} million instructions" if given.instructions else f"{edit * 1000:.2f} ms"
+    print(f"{given.folders} folders of {given.children} children; an edit of a title: {what}")
+    for title in rounds[0][1]:
+        found = [calls[title] for _, calls in rounds]
+        print(f"{title}: {statistics.median(found):.2f} times an edit of the title, {min(found):.2f} to {max(found):.2f}")
 
 
 if __name__ == "__main__":

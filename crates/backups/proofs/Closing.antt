@@ -7,7 +7,7 @@ use Rattle.std.proofs.lemmas.Slice.Eq.{bytes_eq-Decides}
 use Rattle.zbase.specs.Faults.{Counter, Counts, IsFaultless, Rose, counts_as}
 use Rattle.zdisk.specs.Crashes.{Becomes}
 use Rattle.zdisk.specs.Disk.{Told, content, synced}
-use Rattle.zio.specs.Shelves.{Entry, TakesBack, file_at, with_bytes}
+use Rattle.zio.specs.Shelves.{Entry, Holds, TakesBack, file_at, with_bytes}
 use Rattle.repozo.specs.Disks.{AllCalm, OneCounts}
 use Rattle.repozo.specs.Refusals.{IsOfCheck}
 use Rattle.repozo.specs.declared.refusal.RepoRefusal.{RepoRefusal}
@@ -18,7 +18,7 @@ use Rattle.backups.specs.Refusals.{IsToldOf}
 use Rattle.backups.specs.declared.refusal.RestoreRefusal.{RestoreRefusal}
 use Rattle.backups.specs.declared.refusal.RestoreRefusal.TheVariants as restore
 use Rattle.backups.specs.Restored.{LeavesOne, Turns}
-use Rattle.backups.specs.Standing.{Holds, IsMissing}
+use Rattle.backups.specs.Standing.{IsMissing}
 
 -- ---- a file that was there
 

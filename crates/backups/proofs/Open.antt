@@ -5,10 +5,10 @@ use Rattle.std.proofs.Common.{Result, length-append, ◌≡◌, ◌++◌, ◌∙
 use Rattle.std.specs.Option.{option_map}
 use Rattle.zbase.specs.Faults.{Counter, IsFaultless}
 use Rattle.zdisk.specs.Disk.{Told, synced}
-use Rattle.zio.specs.Shelves.{Entry, TakesBack, file_at}
+use Rattle.zio.specs.Shelves.{Entry, Holds, TakesBack, file_at}
 use Rattle.repozo.specs.declared.index.PieceRow.{PieceRow}
 use Rattle.backups.specs.Opened.{AreSound, IsMissingAt}
-use Rattle.backups.specs.Standing.{AreOpen, Holds}
+use Rattle.backups.specs.Standing.{AreOpen}
 use Rattle.backups.proofs.Closing.{opened, unchanged}
 
 pub open_more : (all : List Entry) (rows : List PieceRow) (ds : List (Option Told)) (e : PieceRow) (d : Option Told) → length ds < length rows → Holds all (get_or rows (length ds) e).name d → AreOpen all rows ds → AreOpen all rows (ds ++ d ∷ [])

@@ -5,21 +5,21 @@ use Rattle.zdisk.specs.Disk.{Told, content}
 use Rattle.fs_record.specs.declared.damage.Damage.{Damage as Kind}
 use Rattle.fs_record.specs.declared.layout.TheConstants.{MAX_LENGTH}
 use Rattle.fs_record.specs.Opening.{Damaged}
-use Rattle.zio.specs.Shelves.{Entry, TakesBack, file_at}
+use Rattle.zio.specs.Shelves.{Entry, Holds, Lasts, TakesBack, file_at}
 use Rattle.repozo.specs.declared.index.PieceRow.{PieceRow}
 use Rattle.repozo.specs.declared.planning.BackupPlan.{BackupPlan}
 use Rattle.repozo.specs.Disks.{Reads}
+use Rattle.backups.specs.declared.backed.Backed.TheVariants as backed
 use Rattle.backups.specs.declared.backed.Made.{Made}
 use Rattle.backups.specs.declared.backed.Made.TheVariants as made
 use Rattle.backups.specs.declared.refusal.BackupRefusal.{BackupRefusal}
 use Rattle.backups.specs.declared.refusal.BackupRefusal.TheVariants as refusals
-use Rattle.backups.specs.BackedUp.{AddsPiece, Fits, HasFile, IsMade}
+use Rattle.backups.specs.BackedUp.{AddsPiece, Fits, HasFile, IsMade, LastsNext}
 use Rattle.backups.specs.Putting.{FileCause, IsEarly, IsOfDisk, MakesDue, SpendsDue}
 use Rattle.backups.specs.Restored.{Turns}
-use Rattle.backups.specs.Standing.{Holds}
 use Rattle.backups.proofs.Backing.{Makes}
 use Rattle.backups.proofs.Closing.{at_more, unchanged}
-use Rattle.backups.proofs.Turning.{if_held, of_held, still}
+use Rattle.backups.proofs.Turning.{if_held, of_held, still, still_held}
 
 -- ---- it stays
 
@@ -56,6 +56,27 @@ pub unmade_of : {T E : Type 0} (r : Result Made BackupRefusal) (q : Result T E) 
     → IfErr r (λ refusal. IsEarly refusal → mid ≡ opens) → OnOk q (TakesBack mid name told now) → OnErr q (now ≡ mid) → IfErr r (λ refusal. IsEarly refusal → now ≡ old)
 unmade_of (Ok it) q old opens mid now name was told held same reads un back failed = tt
 unmade_of (Err e) q old opens mid now name was told held same reads un back failed = λ early. unchanged old mid now name was told q held (un early ∙ same) reads back failed
+
+-- ---- what lasts
+
+lasts_next : (old new : List ℕ → Type 0) (it : Made) → Lasts old new → LastsNext old it → LastsNext new it
+lasts_next old new made.Nothing keeps last = tt
+lasts_next old new (made.Piece next backed.Nothing) keeps last = tt
+lasts_next old new (made.Piece next (backed.Full name n)) keeps last = keeps name last
+lasts_next old new (made.Piece next (backed.More name n)) keeps last = keeps name last
+
+-- the piece that was made lasts still once the file is given back
+pub lasting_of : (r : Result Made BackupRefusal) (old opens mid : Option (List Entry)) (name repo index : List ℕ) (asked : Bool) (was told : Option Told) (before now : List ℕ → Type 0) → IfSome old (λ all. Holds all name was) → opens ≡ old → told ≡ was
+    → IfOk r (λ it. Turns opens mid (λ all n. (bytes : List ℕ) → Reads was bytes → Fits bytes × MakesDue all n repo index asked bytes it)) → (IfSome mid (λ all. Holds all name told) → Lasts before now)
+    → IfOk r (LastsNext before) → IfOk r (LastsNext now)
+lasting_of (Err e) old opens mid name repo index asked was told before now held same reads turns keeps lasts = tt
+lasting_of (Ok it) old opens mid name repo index asked was told before now held same reads turns keeps lasts =
+    lasts_next before now it
+    (keeps (still_held old mid name was told (λ all n. HasFile all name (λ bytes. Fits bytes × MakesDue all n repo index asked bytes it)) held
+        (of_held old mid name was (λ bytes all n. Fits bytes × MakesDue all n repo index asked bytes it) held
+        (subst (λ (o : Option (List Entry)). Turns o mid (λ all n. (bytes : List ℕ) → Reads was bytes → Fits bytes × MakesDue all n repo index asked bytes it)) same turns))
+        (λ a b p bytes is. stays_due a b name repo index asked it p bytes is) reads))
+    lasts
 
 -- ---- why it is not
 

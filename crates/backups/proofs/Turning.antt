@@ -3,11 +3,10 @@ use Rattle.std.proofs.Common.{◌≡◌, ◌∙◌, ℕ, List, Option, None, Som
 use Rattle.std.specs.Prelude.{OnErr, OnOk}
 use Rattle.std.specs.Option.{option_map}
 use Rattle.zdisk.specs.Disk.{Told, content}
-use Rattle.zio.specs.Shelves.{Entry, TakesBack, file_at}
+use Rattle.zio.specs.Shelves.{Entry, Holds, TakesBack, file_at}
 use Rattle.repozo.specs.Disks.{Reads}
 use Rattle.backups.specs.BackedUp.{HasFile, Turned}
 use Rattle.backups.specs.Restored.{Turns}
-use Rattle.backups.specs.Standing.{Holds}
 use Rattle.backups.proofs.Closing.{unchanged}
 
 pub turns_same : (old new : Option (List Entry)) (P : List Entry → List Entry → Type 0) → new ≡ old → ((all : List Entry) → P all all) → Turns old new P
@@ -52,6 +51,13 @@ still None mid now name was told (Err e) P held turns stays same back failed = f
 still (Some all) mid now name was told r P held (m, is, p) stays same back failed =
     let holds : IfSome mid (λ x. Holds x name was) = subst (λ (o : Option (List Entry)). IfSome o (λ x. Holds x name was)) (sym is) (held.0, stays all m p held.0 held.1, held.2) in
     (m, unchanged mid mid now name was told r holds refl same back failed ∙ is, p)
+
+-- and until then its disk holds it
+pub still_held : (old mid : Option (List Entry)) (name : List ℕ) (was told : Option Told) (P : List Entry → List Entry → Type 0) → IfSome old (λ all. Holds all name was) → Turns old mid P
+    → ((a b : List Entry) → P a b → (bytes : List ℕ) → file_at a name ≡ Some bytes → file_at b name ≡ Some bytes) → told ≡ was → IfSome mid (λ all. Holds all name told)
+still_held None mid name was told P held turns stays same = subst (λ (o : Option (List Entry)). IfSome o (λ all. Holds all name told)) (sym turns) tt
+still_held (Some all) mid name was told P held (m, is, p) stays same =
+    subst (λ (o : Option (List Entry)). IfSome o (λ all. Holds all name told)) (sym is) (held.0, stays all m p held.0 held.1, same ∙ held.2)
 
 -- what is so of all bytes that the disk reads is so of its file's
 pub of_held : (old mid : Option (List Entry)) (name : List ℕ) (was : Option Told) (P : List ℕ → List Entry → List Entry → Type 0) → IfSome old (λ all. Holds all name was) → Turns old mid (λ all now. (bytes : List ℕ) → Reads was bytes → P bytes all now)

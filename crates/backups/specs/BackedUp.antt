@@ -105,6 +105,25 @@ IsMade all now repo file rows plan made.Nothing = (plan ≡ plans.Nothing) × (n
 IsMade all now repo file rows plan (made.Piece next done) =
     (name : List ℕ) × (piece : List ℕ) × IsNext file rows plan name piece next done × IsFirstFree all repo name × (now ≡ all ++ (name, piece) ∷ [])
 
+-- ---- what a stop leaves
+
+-- the piece that was made lasts
+abbrev pub LastsMade : (List ℕ → Type 0) → Backed → Type 0
+LastsMade lasts backed.Nothing = Unit {0}
+LastsMade lasts (backed.Full name n) = lasts name
+LastsMade lasts (backed.More name n) = lasts name
+
+-- the piece lasts that the index is to name next
+abbrev pub LastsNext : (List ℕ → Type 0) → Made → Type 0
+LastsNext lasts made.Nothing = Unit {0}
+LastsNext lasts (made.Piece next done) = LastsMade lasts done
+
+-- the piece that was made lasts, and the index that names it
+abbrev pub LastsBoth : (List ℕ → Type 0) → List ℕ → Backed → Type 0
+LastsBoth lasts repo backed.Nothing = Unit {0}
+LastsBoth lasts repo (backed.Full name n) = lasts name × lasts (index_name repo)
+LastsBoth lasts repo (backed.More name n) = lasts name × lasts (index_name repo)
+
 -- ---- and where it was refused
 
 -- nothing is new, or a piece under the first free name, in which there may be anything

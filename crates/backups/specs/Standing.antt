@@ -1,7 +1,7 @@
 -- What stands in a repository.
 use Rattle.std.specs.Prelude.{◌≡◌, ℕ, List, [], ◌∷◌, length, IfSome, Option, None, Some, if◌then◌else◌}
-use Rattle.zdisk.specs.Disk.{Told, synced}
-use Rattle.zio.specs.Shelves.{Entry, file_at}
+use Rattle.zdisk.specs.Disk.{Told}
+use Rattle.zio.specs.Shelves.{Entry, Holds, file_at}
 use Rattle.repozo.specs.declared.index.PieceRow.{PieceRow}
 use Rattle.repozo.specs.BadLines.{IsBadAt}
 use Rattle.repozo.specs.Index.{IsIndex}
@@ -50,10 +50,6 @@ first_wrong all [] = None
 first_wrong all (r ∷ rs) = wrong_or r (file_at all r.name) (first_wrong all rs)
 
 -- ---- pieces that are open
-
--- the disk holds the file of that name
-abbrev pub Holds : List Entry → List ℕ → Option Told → Type 0
-Holds all name disk = (bytes : List ℕ) × (file_at all name ≡ Some bytes) × (disk ≡ Some (synced bytes))
 
 -- each of the disks holds the piece of its row, of as many rows as there are disks
 abbrev pub AreOpen : List Entry → List PieceRow → List (Option Told) → Type 0

@@ -5,7 +5,7 @@ ghost use Rattle.fs_record.specs.declared.damage.Damage.{Damage as Kind};
 ghost use Rattle.fs_record.specs.declared.layout.TheConstants.{MAX_LENGTH as most_length};
 ghost use Rattle.fs_record.specs.Opening.{Damaged};
 ghost use Rattle.repozo.specs.Disks.{Reads};
-ghost use Rattle.backups.specs.BackedUp.{AddsPiece, BackedUp, BackupCause, Fits, HasFile, IsUnmade, LeavesOld, Turned};
+ghost use Rattle.backups.specs.BackedUp.{AddsPiece, BackedUp, BackupCause, Fits, HasFile, IsUnmade, LastsBoth, LastsNext, LeavesOld, Turned};
 ghost use Rattle.backups.specs.Calls.{Calls};
 ghost use Rattle.backups.specs.Putting.{FileCause, IsEarly, IsOfDisk, MakesDue, SpendsDue};
 ghost use Rattle.backups.specs.Restored.{Turns};
@@ -32,6 +32,7 @@ fn make_from<F: Shelf>(
 ) -> Result<Made, BackupRefusal>
     ensures made { IfOk result (λ made. Turns (F.files files.old) (F.files files.new)
         (λ all now. (bytes : List ℕ) → Reads (F.D.told file.old) bytes → Fits bytes × MakesDue all now repo.now index.now full bytes made)) }
+    ensures lasting { IfOk result (LastsNext (F.lasts files.new)) }
     ensures left { OnErr result (Turns (F.files files.old) (F.files files.new) (AddsPiece repo.now)) }
     ensures spent { IsErrOf result BackupRefusal.NamesSpent → (bytes : List ℕ) → Reads (F.D.told file.old) bytes
         → IfSome (F.files files.old) (λ all. Fits bytes × SpendsDue all repo.now index.now full bytes) }
@@ -62,6 +63,7 @@ fn make_of<F: Shelf>(
 ) -> Result<Made, BackupRefusal>
     ensures made { IfOk result (λ made. Turns (F.files files.old) (F.files files.new)
         (λ all now. HasFile all file.now (λ bytes. Fits bytes × MakesDue all now repo.now index.now full bytes made))) }
+    ensures lasting { IfOk result (LastsNext (F.lasts files.new)) }
     ensures left { OnErr result (Turns (F.files files.old) (F.files files.new) (AddsPiece repo.now)) }
     ensures cause { IfErr result (FileCause file.now repo.now index.now full (F.files files.old)) }
     ensures unmade { IfErr result (λ refusal. IsEarly refusal → F.files files.new ≡ F.files files.old) }
@@ -95,6 +97,7 @@ pub fn back_up<F: Shelf>(
     files: &mut F,
 ) -> Result<Backed, BackupRefusal>
     ensures backed { IfOk result (λ done. Turned (F.files files.old) (F.files files.new) (λ all now. BackedUp all now file.now repo.now full done)) }
+    ensures lasting { IfOk result (LastsBoth (F.lasts files.new) repo.now) }
     ensures cause { IfErr result (BackupCause file.now repo.now full (F.files files.old) (F.files files.new)
         (Rose (F.counter files.old) (F.counter files.new) ⊎ (F.sound_disks files.old → ⊥))) }
     ensures left { OnErr result (Turned (F.files files.old) (F.files files.new) (LeavesOld file.now repo.now full)) }

@@ -4,7 +4,7 @@ ghost use Rattle.zdisk.specs.Disk.{HasRange, content};
 ghost use Rattle.fs_record.specs.declared.damage.Damage.{Damage as Kind};
 ghost use Rattle.fs_record.specs.Opening.{Damaged};
 ghost use Rattle.repozo.specs.Disks.{HasPart, Reads};
-ghost use Rattle.backups.specs.BackedUp.{AddsPiece, AreSpent, IsMade};
+ghost use Rattle.backups.specs.BackedUp.{AddsPiece, AreSpent, IsMade, LastsNext};
 ghost use Rattle.backups.specs.Calls.{Calls};
 ghost use Rattle.backups.specs.Putting.{HasPiece, IsEarly, IsOfMaking, IsOfNaming, MakesDue, SpendsDue};
 ghost use Rattle.backups.specs.Restored.{Turns};
@@ -32,6 +32,7 @@ fn make_piece<F: Shelf>(
     requires within { HasRange (F.D.told file.old) start (end - start) }
     ensures made { IfOk result (λ row. Turns (F.files files.old) (F.files files.new)
         (λ all now. (bytes : List ℕ) → Reads (F.D.told file.old) bytes → HasPiece all now repo.now start end bytes row)) }
+    ensures lasting { IfOk result (λ row. F.lasts files.new row.name) }
     ensures left { Turns (F.files files.old) (F.files files.new) (AddsPiece repo.now) }
     ensures spent { IsErrOf result BackupRefusal.NamesSpent → IfSome (F.files files.old) (λ all. AreSpent all repo.now) }
     ensures unmade { IfErr result (λ refusal. IsEarly refusal → F.files files.new ≡ F.files files.old) }
@@ -71,6 +72,7 @@ fn make_due<F: Shelf>(
     requires within { HasPart (F.D.told file.old) due.plan }
     ensures made { IfOk result (λ made. Turns (F.files files.old) (F.files files.new)
         (λ all now. (bytes : List ℕ) → Reads (F.D.told file.old) bytes → IsMade all now repo.now bytes due.rows due.plan made)) }
+    ensures lasting { IfOk result (LastsNext (F.lasts files.new)) }
     ensures left { OnErr result (Turns (F.files files.old) (F.files files.new) (AddsPiece repo.now)) }
     ensures spent { IsErrOf result BackupRefusal.NamesSpent
         → (due.plan ≡ BackupPlan.Nothing → ⊥) × IfSome (F.files files.old) (λ all. AreSpent all repo.now) }
@@ -111,6 +113,7 @@ pub(crate) fn make_next<F: Shelf>(
 ) -> Result<Made, BackupRefusal>
     ensures made { IfOk result (λ made. Turns (F.files files.old) (F.files files.new)
         (λ all now. (bytes : List ℕ) → Reads (F.D.told file.old) bytes → MakesDue all now repo.now index.now full bytes made)) }
+    ensures lasting { IfOk result (LastsNext (F.lasts files.new)) }
     ensures left { OnErr result (Turns (F.files files.old) (F.files files.new) (AddsPiece repo.now)) }
     ensures spent { IsErrOf result BackupRefusal.NamesSpent → (bytes : List ℕ) → Reads (F.D.told file.old) bytes
         → IfSome (F.files files.old) (λ all. SpendsDue all repo.now index.now full bytes) }

@@ -2,6 +2,7 @@ ghost use Rattle.std.specs.Prelude.{◌≡◌, ◌++◌, ◌∷◌, [], IfErr, I
 ghost use Rattle.std.specs.Option.{ForSome, option_map};
 ghost use Rattle.zbase.specs.Faults.{IsFaultless};
 ghost use Rattle.zdisk.specs.Disk.{synced};
+ghost use Rattle.zio.specs.Shelves.{Lasts};
 ghost use Rattle.backups.specs.BackedUp.{AreSpent, IsFirstFree};
 ghost use Rattle.backups.specs.Calls.{Calls};
 ghost use Rattle.backups.specs.Putting.{IsOfNaming};
@@ -32,6 +33,7 @@ pub(crate) fn create_numbered<F: Shelf>(
     ensures spent { IsErrOf result BackupRefusal.NamesSpent → IfSome (F.files files.old) (λ all. AreSpent all base.now) }
     ensures others { IfErr result IsOfNaming }
     ensures kept { OnErr result (F.files files.new ≡ F.files files.old) }
+    ensures lasting { Lasts (F.lasts files.old) (F.lasts files.new) }
     ensures calls { Calls (F.sound_disks files.old) (F.sound_disks files.new) (F.counter files.old) (F.counter files.new) (IsErrOf result BackupRefusal.Disk) }
 {
     'trying: for n in 0..NAMES {

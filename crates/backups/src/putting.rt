@@ -3,7 +3,7 @@ ghost use Rattle.std.specs.Option.{ForSome};
 ghost use Rattle.zbase.specs.Faults.{Counts, IsFaultless};
 ghost use Rattle.zdisk.specs.Crashes.{Becomes};
 ghost use Rattle.zdisk.specs.Disk.{synced};
-ghost use Rattle.zio.specs.Shelves.{file_at, with_bytes};
+ghost use Rattle.zio.specs.Shelves.{Lasts, file_at, with_bytes};
 ghost use Rattle.backups.specs.BackedUp.{AddsIndex, AreSpent, Puts, Turned};
 ghost use Rattle.backups.specs.Calls.{Calls};
 ghost use Rattle.backups.specs.Putting.{Fills, IsOfFilling, IsOfNaming};
@@ -39,6 +39,7 @@ fn fill_file<F: Shelf>(
     requires empty { ForSome (F.D.told disk) (λ told. told ≡ synced []) }
     requires told { IfSome (F.files files.old) (λ _. F.D.told disk ≡ Some (synced [])) }
     ensures filled { OnOk result (Turns (F.files files.old) (F.files files.new) (λ all now. now ≡ with_bytes name.now text.now all)) }
+    ensures lasting { OnOk result (F.lasts files.new name.now × Lasts (F.lasts files.old) (F.lasts files.new)) }
     ensures left { Turns (F.files files.old) (F.files files.new) (Fills name.now) }
     ensures others { IfErr result IsOfFilling }
     ensures calls { Calls (F.sound_disks files.old × IsFaultless (F.D.counter disk)) (F.sound_disks files.new) (F.counter files.old) (F.counter files.new)
@@ -60,6 +61,7 @@ fn replace_index<F: Shelf>(
 ) -> Result<(), BackupRefusal>
     requires there { IsPresent (F.files files.old) index.now }
     ensures put { OnOk result (Turned (F.files files.old) (F.files files.new) (Puts index.now text.now)) }
+    ensures lasting { OnOk result (F.lasts files.new index.now × Lasts (F.lasts files.old) (F.lasts files.new)) }
     ensures left { OnErr result (Turned (F.files files.old) (F.files files.new) (AddsIndex index.now)) }
     ensures spent { IsErrOf result BackupRefusal.NamesSpent
         → Turned (F.files files.old) (F.files files.new) (λ all now. (now ≡ all) × (file_at all index.now ≡ None → ⊥) × AreSpent all index.now) }
@@ -89,6 +91,7 @@ pub(crate) fn put_index<F: Shelf>(
     files: &mut F,
 ) -> Result<(), BackupRefusal>
     ensures put { OnOk result (Turned (F.files files.old) (F.files files.new) (Puts index.now text.now)) }
+    ensures lasting { OnOk result (F.lasts files.new index.now × Lasts (F.lasts files.old) (F.lasts files.new)) }
     ensures left { OnErr result (Turned (F.files files.old) (F.files files.new) (AddsIndex index.now)) }
     ensures spent { IsErrOf result BackupRefusal.NamesSpent
         → Turned (F.files files.old) (F.files files.new) (λ all now. (now ≡ all) × (file_at all index.now ≡ None → ⊥) × AreSpent all index.now) }

@@ -74,7 +74,8 @@ fn put_file<F: Shelf>(
     ensures exists { IsErrOf result RestoreRefusal.Exists → IsPresent (F.files files.old) out.now × (F.files files.new ≡ F.files files.old) }
     ensures others { IfErr result IsOfPutting }
     ensures same_pieces { map F.D.told pieces.new.items ≡ map F.D.told pieces.old.items }
-    ensures calls { Calls (F.sound_disks files.old × AreSound (map F.D.counter pieces.old.items)) (F.sound_disks files.new) (F.counter files.old) (F.counter files.new)
+    ensures calls { Calls (F.sound_disks files.old × AreSound (map F.D.counter pieces.old.items)) (F.sound_disks files.new)
+        (F.counter files.old) (F.counter files.new)
         (IsErrOf result RestoreRefusal.Disk) }
 {
     match files.create(out) {
@@ -111,7 +112,8 @@ fn join_into<F: Shelf>(
     ensures joins { IfOk result (λ size. Turns (F.files files.old) (F.files files.new) (λ all now. Joins all now rows.now out.now size)) }
     ensures left { Turns (F.files files.old) (F.files files.new) (LeavesOne out.now) }
     ensures bad { (name : List ℕ) → IsErrOf result (RestoreRefusal.BadPiece name) → IfSome (F.files files.old) (λ all. first_wrong all rows.now ≡ Some name) }
-    ensures exists { IsErrOf result RestoreRefusal.Exists → IfSome (F.files files.old) (λ all. (first_wrong all rows.now ≡ None) × (file_at all out.now ≡ None → ⊥)) }
+    ensures exists { IsErrOf result RestoreRefusal.Exists
+        → IfSome (F.files files.old) (λ all. (first_wrong all rows.now ≡ None) × (file_at all out.now ≡ None → ⊥)) }
     ensures unmade { IfErr result (λ refusal. IsBefore refusal → F.files files.new ≡ F.files files.old) }
     ensures others { IfErr result IsOfJoining }
     ensures open { IfSome (F.files files.new) (λ now. AreOpen now rows.now (map F.D.told pieces.new.items)) }
@@ -142,7 +144,8 @@ pub fn restore<F: Shelf>(
     files: &mut F,
 ) -> Result<u64, RestoreRefusal>
     ensures restored { IfOk result (λ size. Turns (F.files files.old) (F.files files.new) (λ all now. Restored all now repo.now out.now size)) }
-    ensures cause { IfErr result (RestoreCause repo.now out.now (F.files files.old) (Rose (F.counter files.old) (F.counter files.new) ⊎ (F.sound_disks files.old → ⊥))) }
+    ensures cause { IfErr result (RestoreCause repo.now out.now (F.files files.old)
+        (Rose (F.counter files.old) (F.counter files.new) ⊎ (F.sound_disks files.old → ⊥))) }
     ensures left { Turns (F.files files.old) (F.files files.new) (LeavesOne out.now) }
     ensures unmade { IfErr result (λ refusal. IsBefore refusal → F.files files.new ≡ F.files files.old) }
     ensures count { (F.counter files.old).count ≤ (F.counter files.new).count }

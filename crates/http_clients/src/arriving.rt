@@ -18,7 +18,8 @@ fn admit<H: Hub>(
     ensures none { result ≡ Ok false → (numbers.new.items ≡ numbers.old.items) × (asked.new.items ≡ asked.old.items) × (H.peers hub.new ≡ H.peers hub.old)
         × IfSome (H.peers hub.old) (λ p. p.coming ≡ []) }
     ensures some { result ≡ Ok true → Admits numbers.old.items numbers.new.items asked.old.items asked.new.items (H.peers hub.old) (H.peers hub.new) }
-    ensures err { IsErr result → (numbers.new.items ≡ numbers.old.items) × (asked.new.items ≡ asked.old.items) × Tells (H.peers hub.old) (H.peers hub.new) Leaves }
+    ensures err { IsErr result → (numbers.new.items ≡ numbers.old.items) × (asked.new.items ≡ asked.old.items)
+        × Tells (H.peers hub.old) (H.peers hub.new) Leaves }
     ensures listening { Counts (H.listening hub.old) (H.listening hub.new) (IsErrOf result OutsideRefusal.Failed) }
 {
     if numbers.reserve(1).is_err() || asked.reserve(1).is_err() {

@@ -20,7 +20,8 @@ fn read_piece<H: Hub>(
 ) -> Result<bool, Memory>
     requires open { WasOpen conn (H.peers hub.old) }
     requires some { 0 < length piece.old }
-    ensures more { result ≡ Ok true → (given : List ℕ) × (0 < length given) × (reader.new.rest ≡ reader.old.rest ++ given) × TellsStill (H.peers hub.old) (H.peers hub.new) (Comes conn given) }
+    ensures more { result ≡ Ok true → (given : List ℕ) × (0 < length given) × (reader.new.rest ≡ reader.old.rest ++ given)
+        × TellsStill (H.peers hub.old) (H.peers hub.new) (Comes conn given) }
     ensures stops { result ≡ Ok false → (reader.new.rest ≡ reader.old.rest) × TellsStill (H.peers hub.old) (H.peers hub.new) (Stops conn) }
     ensures err { IsErr result → (given : List ℕ) × TellsStill (H.peers hub.old) (H.peers hub.new) (λ p q. (q ≡ p) ⊎ Comes conn given p q) }
     ensures long { length piece.new ≡ length piece.old }

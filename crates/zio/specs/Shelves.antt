@@ -1,7 +1,7 @@
 -- Files by their names.
 use Rattle.std.specs.Prelude.{◌≡◌, ◌&&◌, ◌++◌, Bool, filter, ℕ, List, [], ◌∷◌, Option, None, Some, IfSome, not, if◌then◌else◌}
 use Rattle.std.specs.Str.{bytes_eq}
-use Rattle.zdisk.specs.Disk.{Told, content}
+use Rattle.zdisk.specs.Disk.{Told, content, synced}
 
 -- a file: its name and its bytes
 abbrev pub Entry : Type 0
@@ -21,6 +21,14 @@ with_bytes name bytes (file ∷ files) = if bytes_eq file.0 name then (file.0, b
 abbrev pub TakesBack : Option (List Entry) → List ℕ → Option Told → Option (List Entry) → Type 0
 TakesBack None name disk now = now ≡ None
 TakesBack (Some all) name disk now = IfSome disk (λ told. now ≡ Some (with_bytes name (content told) all))
+
+-- the disk holds the file of that name, as the shelf tells it, and all of it is synced
+abbrev pub Holds : List Entry → List ℕ → Option Told → Type 0
+Holds all name disk = (bytes : List ℕ) × (file_at all name ≡ Some bytes) × (disk ≡ Some (synced bytes))
+
+-- each file that lasted before lasts still
+abbrev pub Lasts : (List ℕ → Type 0) → (List ℕ → Type 0) → Type 0
+Lasts old new = (name : List ℕ) → old name → new name
 
 -- neither of these two names is the file's
 abbrev pub is_other : List ℕ → List ℕ → Entry → Bool

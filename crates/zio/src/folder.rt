@@ -40,6 +40,8 @@ impl<R: Files> Shelf for Folder<R> {
 
     ghost sound_disks = { λ _. ⊥ };
 
+    ghost lasts = { λ _ _. Unit {0} };
+
     fn open(&mut self, name: &str) -> Result<FileDisk<R::File>, ShelfRefusal> {
         match open_file(&self.rt, name) {
             Ok(file) => Ok(FileDisk::new(file)),

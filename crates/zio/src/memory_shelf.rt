@@ -89,6 +89,8 @@ impl Shelf for MemoryShelf {
 
     ghost sound_disks = { λ shelf. HaveSoundDisks shelf.files.items × (shelf.failing_new ≡ None) };
 
+    ghost lasts = { λ _ _. Unit {0} };
+
     fn open(&mut self, name: &str) -> Result<MemoryDisk, ShelfRefusal> {
         let Some(file) = find_file(&self.files, name) else {
             return Err(ShelfRefusal::Missing);

@@ -2,8 +2,9 @@ ghost use Rattle.std.specs.Prelude.{◌≡◌, ◌⊎◌, ◌++◌, ◌∷◌, [
 ghost use Rattle.std.specs.Option.{ForSome};
 ghost use Rattle.std.specs.declared.option.Option.{Option};
 ghost use Rattle.zbase.specs.Faults.{Counter, Counts, IsFaultless};
+ghost use Rattle.zdisk.specs.Crashes.{IsSynced};
 ghost use Rattle.zdisk.specs.Disk.{synced};
-ghost use Rattle.zio.specs.Shelves.{Entry, Replaces, TakesBack, file_at};
+ghost use Rattle.zio.specs.Shelves.{Entry, Holds, Lasts, Replaces, TakesBack, file_at};
 
 use crate::ShelfRefusal;
 use zbase::Memory;
@@ -25,6 +26,9 @@ pub trait Shelf {
     /// No disk over a file of the shelf can fail.
     ghost sound_disks: { Self → Type 0 };
 
+    /// A stop at any later moment leaves the file of that name as the shelf tells it, where it tells.
+    ghost lasts: { Self → List ℕ → Type 0 };
+
     /// A disk over the file of that name.
     ///
     /// `Missing` comes exactly where the shelf, if it tells, has no such file, want of memory aside.
@@ -38,6 +42,7 @@ pub trait Shelf {
         ensures stays_sound { sound_disks self.old → sound_disks self.new }
         ensures opens { IsErrOf result ShelfRefusal.Exists → ⊥ }
         ensures same { files self.new ≡ files self.old }
+        ensures lasting { Lasts (lasts self.old) (lasts self.new) }
         ensures counts { Counts (counter self.old) (counter self.new) (IsErrOf result ShelfRefusal.Failed) };
 
     /// A disk over a new file of that name, which is empty. The name stands behind a stop at any later moment. Until the
@@ -54,15 +59,20 @@ pub trait Shelf {
             → IsErrOf result ShelfRefusal.Exists ⊎ IsErrOf result ShelfRefusal.Memory) }
         ensures creates { IsErrOf result ShelfRefusal.Missing → ⊥ }
         ensures kept { OnErr result (files self.new ≡ files self.old) }
+        ensures lasting { Lasts (lasts self.old) (lasts self.new) }
         ensures sound { sound_disks self.old → IfOk result (λ disk. IsFaultless (Self.D.counter disk)) }
         ensures stays_sound { sound_disks self.old → sound_disks self.new }
         ensures counts { Counts (counter self.old) (counter self.new) (IsErrOf result ShelfRefusal.Failed) };
 
     /// Takes back a disk over the file of that name, for which it was handed out. Where the shelf tells, the file has from
-    /// then on the bytes that the disk reads; for want of memory it tells what it told.
+    /// then on the bytes that the disk reads; for want of memory it tells what it told. The file lasts where all of the disk is
+    /// synced, or where the disk was only read and it lasted before.
     fn close(&mut self, name: &str, disk: Self::D) -> Result<(), Memory>
         ensures closed { OnOk result (TakesBack (files self.old) name.now (Self.D.told disk) (files self.new)) }
         ensures kept { OnErr result (files self.new ≡ files self.old) }
+        ensures lasting { OnOk result (IfSome (Self.D.told disk) IsSynced → lasts self.new name.now × Lasts (lasts self.old) (lasts self.new)) }
+        ensures unwritten { IfSome (files self.old) (λ all. Holds all name.now (Self.D.told disk)) → Lasts (lasts self.old) (lasts self.new) }
+        ensures others { (other : List ℕ) → (other ≡ name.now → ⊥) → lasts self.old other → lasts self.new other }
         ensures stays_sound { sound_disks self.old → sound_disks self.new }
         ensures uncounted { counter self.new ≡ counter self.old };
 
@@ -78,6 +88,7 @@ pub trait Shelf {
             → IsErrOf result ShelfRefusal.Missing ⊎ IsErrOf result ShelfRefusal.Memory) }
         ensures replaces { IsErrOf result ShelfRefusal.Exists → ⊥ }
         ensures kept { OnErr result (files self.new ≡ files self.old) }
+        ensures lasting { OnOk result (lasts self.old new.now → lasts self.new main.now × Lasts (lasts self.old) (lasts self.new)) }
         ensures stays_sound { sound_disks self.old → sound_disks self.new }
         ensures counts { Counts (counter self.old) (counter self.new) (IsErrOf result ShelfRefusal.Failed) };
 }

@@ -22,10 +22,12 @@ backed_line backed.Nothing = codes "nothing" ++ 10 ∷ []
 backed_line (backed.Full name size) = codes "full " ++ (name ++ (codes " " ++ (decimal size ++ 10 ∷ [])))
 backed_line (backed.More name size) = codes "more " ++ (name ++ (codes " " ++ (decimal size ++ 10 ∷ [])))
 
--- Where the shelf tells, what was due of the file was put into the repository; and that was printed.
-pub record FileBackedUp (file repo : List ℕ) (full : Bool) (files new_files : Option (List Entry)) (old new : Option (List ℕ)) : Type 0 where
+-- Where the shelf tells, what was due of the file was put into the repository: the new piece and the index last whatever stop comes
+-- later, and where that had failed, the former index would stand; and what was done was printed.
+pub record FileBackedUp (file repo : List ℕ) (full : Bool) (files new_files : Option (List Entry)) (lasts : List ℕ → Type 0) (old new : Option (List ℕ)) : Type 0 where
   pub done : Backed
   pub backed_up : made.Turned files new_files (λ all now. made.BackedUp all now file repo full done)
+  pub lasting : made.LastsBoth lasts repo done
   pub printed : new ≡ append_known old (backed_line done)
 
 -- what a backup makes of the files, or where it broke off

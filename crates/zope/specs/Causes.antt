@@ -27,7 +27,7 @@ DidAs (Serve file port connections clients record_) old new =
     SiteServed old.sound_disks file record_ port connections clients old.files new.files old.ticks old.clock new.ticks new.clock old.peers new.peers old.written new.written
 DidAs (Check file) old new = NumbersPrinted file old.files old.written new.written
 DidAs (Dump file) old new = Dumped file old.files old.written new.written
-DidAs (Backup file repo full) old new = FileBackedUp file repo full old.files new.files old.written new.written
+DidAs (Backup file repo full) old new = FileBackedUp file repo full old.files new.files new.lasts old.written new.written
 DidAs (Restore repo name) old new = FileRestored repo name old.files new.files old.written new.written
 
 abbrev pub Did : List (List ℕ) → OutsideView → OutsideView → Type 0

@@ -10,6 +10,8 @@ pub record OutsideView : Type 1 where
   -- the files of the shelf, where it tells, and whether none of the disks that it hands out can fail
   pub files : Option (List Entry)
   pub sound_disks : Type 0
+  -- a stop at any later moment leaves the file of that name as the shelf tells it, where it tells
+  pub lasts : List ℕ → Type 0
   pub shelf : Counter
   -- what the source has left, where it tells
   pub input : Option (List ℕ)
@@ -24,10 +26,11 @@ pub record OutsideView : Type 1 where
   pub ticks : Option (List Tick)
   pub clock : Counter
 
-abbrev pub outside : Option (List Entry) → Type 0 → Counter → Option (List ℕ) → Counter → Option (List ℕ) → Counter → Option Peers → Counter → Option (List Tick) → Counter → OutsideView
-outside files sound_disks shelf input source written sink peers hub ticks clock = record {
+abbrev pub outside : Option (List Entry) → Type 0 → (List ℕ → Type 0) → Counter → Option (List ℕ) → Counter → Option (List ℕ) → Counter → Option Peers → Counter → Option (List Tick) → Counter → OutsideView
+outside files sound_disks lasts shelf input source written sink peers hub ticks clock = record {
   files = files;
   sound_disks = sound_disks;
+  lasts = lasts;
   shelf = shelf;
   input = input;
   source = source;
@@ -41,7 +44,7 @@ outside files sound_disks shelf input source written sink peers hub ticks clock 
 
 -- the moment, with this written and this count of the sink's faults
 abbrev pub told : OutsideView → Option (List ℕ) → Counter → OutsideView
-told at written sink = outside at.files at.sound_disks at.shelf at.input at.source written sink at.peers at.hub at.ticks at.clock
+told at written sink = outside at.files at.sound_disks at.lasts at.shelf at.input at.source written sink at.peers at.hub at.ticks at.clock
 
 -- the source's count rose from one moment to the other
 abbrev pub SourceFailed : OutsideView → OutsideView → Type 0

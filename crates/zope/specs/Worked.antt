@@ -16,4 +16,4 @@ nobody = record { port = None; accepted = []; coming = [] }
 
 -- the moment before the run, and behind one that gave up at once
 abbrev pub untouched : OutsideView
-untouched = outside (Some ((codes "a", magic) ∷ [])) (Unit {0}) calm (Some []) calm (Some []) calm (Some nobody) calm (Some []) calm
+untouched = outside (Some ((codes "a", magic) ∷ [])) (Unit {0}) (λ name. Unit {0}) calm (Some []) calm (Some []) calm (Some nobody) calm (Some []) calm

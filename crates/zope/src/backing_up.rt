@@ -45,7 +45,8 @@ pub fn back_up_file<F: Shelf, K: Sink>(
     files: &mut F,
     out: &mut K,
 ) -> Result<(), Refusal>
-    ensures ok { OnOk result (FileBackedUp file.now repo.now full (F.files files.old) (F.files files.new) (K.written out.old) (K.written out.new)) }
+    ensures ok { OnOk result (FileBackedUp file.now repo.now full (F.files files.old) (F.files files.new) (F.lasts files.new)
+        (K.written out.old) (K.written out.new)) }
     ensures cause { IfErr result (BackupCause file.now repo.now full (F.files files.old) (F.files files.new) (Rose (K.counter out.old) (K.counter out.new))
         (Rose (F.counter files.old) (F.counter files.new) ⊎ (F.sound_disks files.old → ⊥)) (K.written out.old) (K.written out.new)) }
     ensures left { LeavesBackup file.now repo.now full (F.files files.old) (F.files files.new) }

@@ -72,17 +72,17 @@ pub fn run_command<F: Shelf, S: Source, K: Sink, H: Hub, C: Clock>(
 where
     F::D: Drop,
     requires asked { (words : List (List ℕ)) × (asked_of words ≡ Some (view asked)) }
-    ensures ok { let old = outside (F.files files.old) (F.sound_disks files.old) (F.counter files.old)
+    ensures ok { let old = outside (F.files files.old) (F.sound_disks files.old) (F.lasts files.old) (F.counter files.old)
         (S.left input.old) (S.counter input.old) (K.written out.old) (K.counter out.old)
         (H.peers hub.old) (H.listening hub.old) (C.ticks clock.old) (C.counter clock.old) in
-        let new = outside (F.files files.new) (F.sound_disks files.new) (F.counter files.new)
+        let new = outside (F.files files.new) (F.sound_disks files.new) (F.lasts files.new) (F.counter files.new)
         (S.left input.new) (S.counter input.new) (K.written out.new) (K.counter out.new)
         (H.peers hub.new) (H.listening hub.new) (C.ticks clock.new) (C.counter clock.new) in
         (words : List (List ℕ)) → asked_of words ≡ Some (view asked.entry) → OnOk result (Did words old new) }
-    ensures cause { let old = outside (F.files files.old) (F.sound_disks files.old) (F.counter files.old)
+    ensures cause { let old = outside (F.files files.old) (F.sound_disks files.old) (F.lasts files.old) (F.counter files.old)
         (S.left input.old) (S.counter input.old) (K.written out.old) (K.counter out.old)
         (H.peers hub.old) (H.listening hub.old) (C.ticks clock.old) (C.counter clock.old) in
-        let new = outside (F.files files.new) (F.sound_disks files.new) (F.counter files.new)
+        let new = outside (F.files files.new) (F.sound_disks files.new) (F.lasts files.new) (F.counter files.new)
         (S.left input.new) (S.counter input.new) (K.written out.new) (K.counter out.new)
         (H.peers hub.new) (H.listening hub.new) (C.ticks clock.new) (C.counter clock.new) in
         (words : List (List ℕ)) → asked_of words ≡ Some (view asked.entry) → IfErr result (Cause words old new) }

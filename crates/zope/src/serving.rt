@@ -53,7 +53,8 @@ where
         (C.ticks clock.new) (C.counter clock.new) (H.peers hub.old) (H.peers hub.new) (K.written out.old) (K.written out.new)) }
     ensures cause { IfErr result (ServeCause (F.sound_disks files.old) job.entry.file.now job.entry.record.now job.entry.plan.port
         job.entry.plan.connections job.entry.plan.clients (F.files files.old) (F.files files.new) (C.ticks clock.old) (C.counter clock.old)
-        (C.ticks clock.new) (C.counter clock.new) (H.peers hub.old) (H.peers hub.new) (Rose (H.listening hub.old) (H.listening hub.new)) (Rose (K.counter out.old) (K.counter out.new))
+        (C.ticks clock.new) (C.counter clock.new) (H.peers hub.old) (H.peers hub.new)
+        (Rose (H.listening hub.old) (H.listening hub.new)) (Rose (K.counter out.old) (K.counter out.new))
         (Rose (F.counter files.old) (F.counter files.new)) (K.written out.old) (K.written out.new)) }
     ensures left { LeavesServed job.entry.file.now job.entry.record.now (F.files files.old) (F.files files.new) }
     ensures counts { Counts (K.counter out.old) (K.counter out.new) (IsErrOf result Refusal.Output) }

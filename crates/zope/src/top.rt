@@ -86,20 +86,20 @@ where
     // the reply of the report that its tape's items have, a check wrote the file's numbers, a dump its history, a new site its file,
     // a backup put what is due of the file into its repository, and a restore made the file again.
     // Each other status is that of a refusal with its cause, which the last line names.
-    ensures ends { let old = outside (F.files files.old) (F.sound_disks files.old) (F.counter files.old)
+    ensures ends { let old = outside (F.files files.old) (F.sound_disks files.old) (F.lasts files.old) (F.counter files.old)
         (S.left input.old) (S.counter input.old) (K.written out.old) (K.counter out.old)
         (H.peers hub.old) (H.listening hub.old) (C.ticks clock.old) (C.counter clock.old) in
-        let new = outside (F.files files.new) (F.sound_disks files.new) (F.counter files.new)
+        let new = outside (F.files files.new) (F.sound_disks files.new) (F.lasts files.new) (F.counter files.new)
         (S.left input.new) (S.counter input.new) (K.written out.new) (K.counter out.new)
         (H.peers hub.new) (H.listening hub.new) (C.ticks clock.new) (C.counter clock.new) in
         Ends (map string_bytes words.now) old new result.0 }
     // 6 comes whenever the sink failed, also in a last line.
     ensures sink_failed { (K.counter out.old).count < (K.counter out.new).count → result.0 ≡ 6 }
     // Where there is no cause, the run ends well, or for want of memory.
-    ensures complete { let old = outside (F.files files.old) (F.sound_disks files.old) (F.counter files.old)
+    ensures complete { let old = outside (F.files files.old) (F.sound_disks files.old) (F.lasts files.old) (F.counter files.old)
         (S.left input.old) (S.counter input.old) (K.written out.old) (K.counter out.old)
         (H.peers hub.old) (H.listening hub.old) (C.ticks clock.old) (C.counter clock.old) in
-        let new = outside (F.files files.new) (F.sound_disks files.new) (F.counter files.new)
+        let new = outside (F.files files.new) (F.sound_disks files.new) (F.lasts files.new) (F.counter files.new)
         (S.left input.new) (S.counter input.new) (K.written out.new) (K.counter out.new)
         (H.peers hub.new) (H.listening hub.new) (C.ticks clock.new) (C.counter clock.new) in
         NoCause (map string_bytes words.now) old new → (result.0 ≡ 0) ⊎ (result.0 ≡ 7) }

@@ -83,6 +83,8 @@ impl Shelf for LongShelf {
 
     ghost sound_disks = { λ _. ⊥ };
 
+    ghost lasts = { λ _ _. Unit {0} };
+
     fn open(&mut self, _name: &str) -> Result<LongDisk, ShelfRefusal> {
         Ok(LongDisk {
             length: self.length,

@@ -70,7 +70,8 @@ fn serve_rounds<D: Disk + Drop, E: Evaluator<Request = Message>, H: Hub, C: Cloc
         × ((left ≡ 0) ⊎ IfSome (H.peers hub.new) (λ q. q.coming ≡ []))) }
     ensures refused { IfErr result (λ refusal. (gone : RefusedRun E.takes E.meaning plan.port plan.connections plan.clients core.old core.new
         (C.ticks clock.old) (C.counter clock.old) (H.peers hub.old) (H.peers hub.new)) × AllByRecursion HasLine (items gone.all)
-        × Leaves (refusal ≡ ServeRefusal.Tape) (R.told tape.old) (flat_map item_text (items gone.all)) (flat_map item_text (items gone.more)) (R.told tape.new)) }
+        × Leaves (refusal ≡ ServeRefusal.Tape) (R.told tape.old) (flat_map item_text (items gone.all)) (flat_map item_text (items gone.more))
+        (R.told tape.new)) }
     ensures long { IfOk result (λ (_, end). IsLong (R.told tape.new) end) }
     ensures listening { Counts (H.listening hub.old) (H.listening hub.new) (IsErrOf result ServeRefusal.Hub) }
     ensures tells { is_some (R.told tape.new) ≡ is_some (R.told tape.old) }

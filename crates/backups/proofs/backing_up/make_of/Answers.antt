@@ -1,13 +1,18 @@
 use Rattle.std.proofs.Common.{inr}
 use Rattle.backups.specs.Calls.{calls_then}
 use Rattle.backups.proofs.Closing.{calls_back, calls_one, opened}
-use Rattle.backups.proofs.ReadFile.{cause_of, left_of, made_of, unmade_of}
+use Rattle.backups.proofs.ReadFile.{cause_of, lasting_of, left_of, made_of, unmade_of}
 use Rattle.backups.proofs.backing_up.make_of.Goals as goal
 
 pub returns-in-Ok-clause-made : goal.returns-in-Ok-clause-made
 returns-in-Ok-clause-made g c =
     made_of c.make_from-made.result c.close.result _ _ _ _ c.args.file.now c.args.repo.now c.args.index.now c.args.full _ _ (opened (g.F.Shelf.files c.args.files.now) c.args.file.now _ c.in-Ok.ensures.found c.in-Ok.ensures.there) c.in-Ok.ensures.same c.make_from-made.ensures.same_file
     c.make_from-made.ensures.made c.close.ensures.closed c.close.ensures.kept
+
+pub returns-in-Ok-clause-lasting : goal.returns-in-Ok-clause-lasting
+returns-in-Ok-clause-lasting g c =
+    lasting_of c.make_from-made.result _ _ _ c.args.file.now c.args.repo.now c.args.index.now c.args.full _ _ _ _ (opened (g.F.Shelf.files c.args.files.now) c.args.file.now _ c.in-Ok.ensures.found c.in-Ok.ensures.there) c.in-Ok.ensures.same c.make_from-made.ensures.same_file
+    c.make_from-made.ensures.made c.close.ensures.unwritten c.make_from-made.ensures.lasting
 
 pub returns-in-Ok-clause-left : goal.returns-in-Ok-clause-left
 returns-in-Ok-clause-left g c =

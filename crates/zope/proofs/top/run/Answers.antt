@@ -21,8 +21,8 @@ returns-in-Ok-run_command-clause-alone g c = ((λ other. c.run_command.ensures.u
 
 pub returns-in-Err-clause-ends : goal.returns-in-Err-clause-ends
 returns-in-Err-clause-ends g c =
-    let old : OutsideView = outside (g.F.Shelf.files c.args.files.now) (g.F.Shelf.sound_disks c.args.files.now) (g.F.Shelf.counter c.args.files.now) (g.S.Source.left c.args.input.now) (g.S.Source.counter c.args.input.now) (g.K.Sink.written c.args.out.now) (g.K.Sink.counter c.args.out.now) (g.H.Hub.peers c.args.hub.now) (g.H.Hub.listening c.args.hub.now) (g.C.Clock.ticks c.args.clock.now) (g.C.Clock.counter c.args.clock.now) in
-    let mid : OutsideView = outside (g.F.Shelf.files c.run_command.new.files) (g.F.Shelf.sound_disks c.run_command.new.files) (g.F.Shelf.counter c.run_command.new.files) (g.S.Source.left c.run_command.new.input) (g.S.Source.counter c.run_command.new.input) (g.K.Sink.written c.run_command.new.out) (g.K.Sink.counter c.run_command.new.out) (g.H.Hub.peers c.run_command.new.hub) (g.H.Hub.listening c.run_command.new.hub) (g.C.Clock.ticks c.run_command.new.clock) (g.C.Clock.counter c.run_command.new.clock) in
+    let old : OutsideView = outside (g.F.Shelf.files c.args.files.now) (g.F.Shelf.sound_disks c.args.files.now) (g.F.Shelf.lasts c.args.files.now) (g.F.Shelf.counter c.args.files.now) (g.S.Source.left c.args.input.now) (g.S.Source.counter c.args.input.now) (g.K.Sink.written c.args.out.now) (g.K.Sink.counter c.args.out.now) (g.H.Hub.peers c.args.hub.now) (g.H.Hub.listening c.args.hub.now) (g.C.Clock.ticks c.args.clock.now) (g.C.Clock.counter c.args.clock.now) in
+    let mid : OutsideView = outside (g.F.Shelf.files c.run_command.new.files) (g.F.Shelf.sound_disks c.run_command.new.files) (g.F.Shelf.lasts c.run_command.new.files) (g.F.Shelf.counter c.run_command.new.files) (g.S.Source.left c.run_command.new.input) (g.S.Source.counter c.run_command.new.input) (g.K.Sink.written c.run_command.new.out) (g.K.Sink.counter c.run_command.new.out) (g.H.Hub.peers c.run_command.new.hub) (g.H.Hub.listening c.run_command.new.hub) (g.C.Clock.ticks c.run_command.new.clock) (g.C.Clock.counter c.run_command.new.clock) in
     let over : IsNamed _ c.in-Err.refusal c.of-name.result.now = (view c.in-Ok.asked, c.in-Ok.ensures.ok, c.of-name.ensures (view c.in-Ok.asked) c.names_of-names.ensures.file c.names_of-names.ensures.new) in
     refused_ends _ old mid (g.K.Sink.written c.refuse.new.out) (g.K.Sink.counter c.refuse.new.out) c.in-Err.refusal _ (c.in-Err.ensures.cause _ c.in-Ok.ensures.ok) c.in-Err.ensures.counts.later c.refuse.ensures.count c.refuse.ensures.sink
     (named_by _ c.of-name.result.now mid (g.K.Sink.written c.refuse.new.out) (g.K.Sink.counter c.refuse.new.out) c.in-Err.refusal _ (inl over) c.refuse.ensures.named)
@@ -39,8 +39,8 @@ returns-in-Err-clause-sink_failed g c rose =
 
 pub returns-in-Err-clause-complete : goal.returns-in-Err-clause-complete
 returns-in-Err-clause-complete g c =
-    let old : OutsideView = outside (g.F.Shelf.files c.args.files.now) (g.F.Shelf.sound_disks c.args.files.now) (g.F.Shelf.counter c.args.files.now) (g.S.Source.left c.args.input.now) (g.S.Source.counter c.args.input.now) (g.K.Sink.written c.args.out.now) (g.K.Sink.counter c.args.out.now) (g.H.Hub.peers c.args.hub.now) (g.H.Hub.listening c.args.hub.now) (g.C.Clock.ticks c.args.clock.now) (g.C.Clock.counter c.args.clock.now) in
-    let mid : OutsideView = outside (g.F.Shelf.files c.run_command.new.files) (g.F.Shelf.sound_disks c.run_command.new.files) (g.F.Shelf.counter c.run_command.new.files) (g.S.Source.left c.run_command.new.input) (g.S.Source.counter c.run_command.new.input) (g.K.Sink.written c.run_command.new.out) (g.K.Sink.counter c.run_command.new.out) (g.H.Hub.peers c.run_command.new.hub) (g.H.Hub.listening c.run_command.new.hub) (g.C.Clock.ticks c.run_command.new.clock) (g.C.Clock.counter c.run_command.new.clock) in
+    let old : OutsideView = outside (g.F.Shelf.files c.args.files.now) (g.F.Shelf.sound_disks c.args.files.now) (g.F.Shelf.lasts c.args.files.now) (g.F.Shelf.counter c.args.files.now) (g.S.Source.left c.args.input.now) (g.S.Source.counter c.args.input.now) (g.K.Sink.written c.args.out.now) (g.K.Sink.counter c.args.out.now) (g.H.Hub.peers c.args.hub.now) (g.H.Hub.listening c.args.hub.now) (g.C.Clock.ticks c.args.clock.now) (g.C.Clock.counter c.args.clock.now) in
+    let mid : OutsideView = outside (g.F.Shelf.files c.run_command.new.files) (g.F.Shelf.sound_disks c.run_command.new.files) (g.F.Shelf.lasts c.run_command.new.files) (g.F.Shelf.counter c.run_command.new.files) (g.S.Source.left c.run_command.new.input) (g.S.Source.counter c.run_command.new.input) (g.K.Sink.written c.run_command.new.out) (g.K.Sink.counter c.run_command.new.out) (g.H.Hub.peers c.run_command.new.hub) (g.H.Hub.listening c.run_command.new.hub) (g.C.Clock.ticks c.run_command.new.clock) (g.C.Clock.counter c.run_command.new.clock) in
     let over : IsNamed _ c.in-Err.refusal c.of-name.result.now = (view c.in-Ok.asked, c.in-Ok.ensures.ok, c.of-name.ensures (view c.in-Ok.asked) c.names_of-names.ensures.file c.names_of-names.ensures.new) in
     calm_ends _ old mid (g.K.Sink.written c.refuse.new.out) (g.K.Sink.counter c.refuse.new.out) c.in-Err.refusal _ (record { schedule = c.one_schedule.ensures; line = c.one_bad_line.ensures.not_both; opening = c.one_opening.ensures.not_both; index = c.one_index.ensures; row = c.one_bad_line-2.ensures.not_both }) (c.in-Err.ensures.cause _ c.in-Ok.ensures.ok) c.in-Err.ensures.counts.later c.refuse.ensures.count
     (named_by _ c.of-name.result.now mid (g.K.Sink.written c.refuse.new.out) (g.K.Sink.counter c.refuse.new.out) c.in-Err.refusal _ (inl over) c.refuse.ensures.named)
@@ -53,26 +53,26 @@ returns-in-Err-clause-alone g c = ((λ other. c.run_command.ensures.unasked _ c.
 
 pub returns-in-Err-Usage-clause-ends : goal.returns-in-Err-Usage-clause-ends
 returns-in-Err-Usage-clause-ends g c =
-    let old : OutsideView = outside (g.F.Shelf.files c.args.files.now) (g.F.Shelf.sound_disks c.args.files.now) (g.F.Shelf.counter c.args.files.now) (g.S.Source.left c.args.input.now) (g.S.Source.counter c.args.input.now) (g.K.Sink.written c.args.out.now) (g.K.Sink.counter c.args.out.now) (g.H.Hub.peers c.args.hub.now) (g.H.Hub.listening c.args.hub.now) (g.C.Clock.ticks c.args.clock.now) (g.C.Clock.counter c.args.clock.now) in
+    let old : OutsideView = outside (g.F.Shelf.files c.args.files.now) (g.F.Shelf.sound_disks c.args.files.now) (g.F.Shelf.lasts c.args.files.now) (g.F.Shelf.counter c.args.files.now) (g.S.Source.left c.args.input.now) (g.S.Source.counter c.args.input.now) (g.K.Sink.written c.args.out.now) (g.K.Sink.counter c.args.out.now) (g.H.Hub.peers c.args.hub.now) (g.H.Hub.listening c.args.hub.now) (g.C.Clock.ticks c.args.clock.now) (g.C.Clock.counter c.args.clock.now) in
     let none = no_command _ (c.in-Err-Usage.ensures.usage (rw c.in-Err-Usage.field-0-is refl)) in
     refused_ends _ old old (g.K.Sink.written c.refuse-in-Err-Usage.new.out) (g.K.Sink.counter c.refuse-in-Err-Usage.new.out) Refusal.Usage _ (inl (none, refl)) (omega arith) c.refuse-in-Err-Usage.ensures.count c.refuse-in-Err-Usage.ensures.sink
     (named_by _ [] old (g.K.Sink.written c.refuse-in-Err-Usage.new.out) (g.K.Sink.counter c.refuse-in-Err-Usage.new.out) Refusal.Usage _ (inr none) c.refuse-in-Err-Usage.ensures.named)
 
 pub returns-in-Err-Usage-clause-complete : goal.returns-in-Err-Usage-clause-complete
 returns-in-Err-Usage-clause-complete g c =
-    let old : OutsideView = outside (g.F.Shelf.files c.args.files.now) (g.F.Shelf.sound_disks c.args.files.now) (g.F.Shelf.counter c.args.files.now) (g.S.Source.left c.args.input.now) (g.S.Source.counter c.args.input.now) (g.K.Sink.written c.args.out.now) (g.K.Sink.counter c.args.out.now) (g.H.Hub.peers c.args.hub.now) (g.H.Hub.listening c.args.hub.now) (g.C.Clock.ticks c.args.clock.now) (g.C.Clock.counter c.args.clock.now) in
+    let old : OutsideView = outside (g.F.Shelf.files c.args.files.now) (g.F.Shelf.sound_disks c.args.files.now) (g.F.Shelf.lasts c.args.files.now) (g.F.Shelf.counter c.args.files.now) (g.S.Source.left c.args.input.now) (g.S.Source.counter c.args.input.now) (g.K.Sink.written c.args.out.now) (g.K.Sink.counter c.args.out.now) (g.H.Hub.peers c.args.hub.now) (g.H.Hub.listening c.args.hub.now) (g.C.Clock.ticks c.args.clock.now) (g.C.Clock.counter c.args.clock.now) in
     let none = no_command _ (c.in-Err-Usage.ensures.usage (rw c.in-Err-Usage.field-0-is refl)) in
     calm_ends _ old old (g.K.Sink.written c.refuse-in-Err-Usage.new.out) (g.K.Sink.counter c.refuse-in-Err-Usage.new.out) Refusal.Usage _ (record { schedule = c.one_schedule.ensures; line = c.one_bad_line.ensures.not_both; opening = c.one_opening.ensures.not_both; index = c.one_index.ensures; row = c.one_bad_line-2.ensures.not_both }) (inl (none, refl)) (omega arith) c.refuse-in-Err-Usage.ensures.count
     (named_by _ [] old (g.K.Sink.written c.refuse-in-Err-Usage.new.out) (g.K.Sink.counter c.refuse-in-Err-Usage.new.out) Refusal.Usage _ (inr none) c.refuse-in-Err-Usage.ensures.named)
 
 pub returns-in-Err-Memory-clause-ends : goal.returns-in-Err-Memory-clause-ends
 returns-in-Err-Memory-clause-ends g c =
-    let old : OutsideView = outside (g.F.Shelf.files c.args.files.now) (g.F.Shelf.sound_disks c.args.files.now) (g.F.Shelf.counter c.args.files.now) (g.S.Source.left c.args.input.now) (g.S.Source.counter c.args.input.now) (g.K.Sink.written c.args.out.now) (g.K.Sink.counter c.args.out.now) (g.H.Hub.peers c.args.hub.now) (g.H.Hub.listening c.args.hub.now) (g.C.Clock.ticks c.args.clock.now) (g.C.Clock.counter c.args.clock.now) in
+    let old : OutsideView = outside (g.F.Shelf.files c.args.files.now) (g.F.Shelf.sound_disks c.args.files.now) (g.F.Shelf.lasts c.args.files.now) (g.F.Shelf.counter c.args.files.now) (g.S.Source.left c.args.input.now) (g.S.Source.counter c.args.input.now) (g.K.Sink.written c.args.out.now) (g.K.Sink.counter c.args.out.now) (g.H.Hub.peers c.args.hub.now) (g.H.Hub.listening c.args.hub.now) (g.C.Clock.ticks c.args.clock.now) (g.C.Clock.counter c.args.clock.now) in
     refused_ends _ old old (g.K.Sink.written c.refuse-in-Err-Memory.new.out) (g.K.Sink.counter c.refuse-in-Err-Memory.new.out) Refusal.Memory _ (inl (tt, refl)) (omega arith) c.refuse-in-Err-Memory.ensures.count c.refuse-in-Err-Memory.ensures.sink
     (memory_named _ [] old (g.K.Sink.written c.refuse-in-Err-Memory.new.out) (g.K.Sink.counter c.refuse-in-Err-Memory.new.out) _ c.refuse-in-Err-Memory.ensures.named)
 
 pub returns-in-Err-Memory-clause-complete : goal.returns-in-Err-Memory-clause-complete
 returns-in-Err-Memory-clause-complete g c =
-    let old : OutsideView = outside (g.F.Shelf.files c.args.files.now) (g.F.Shelf.sound_disks c.args.files.now) (g.F.Shelf.counter c.args.files.now) (g.S.Source.left c.args.input.now) (g.S.Source.counter c.args.input.now) (g.K.Sink.written c.args.out.now) (g.K.Sink.counter c.args.out.now) (g.H.Hub.peers c.args.hub.now) (g.H.Hub.listening c.args.hub.now) (g.C.Clock.ticks c.args.clock.now) (g.C.Clock.counter c.args.clock.now) in
+    let old : OutsideView = outside (g.F.Shelf.files c.args.files.now) (g.F.Shelf.sound_disks c.args.files.now) (g.F.Shelf.lasts c.args.files.now) (g.F.Shelf.counter c.args.files.now) (g.S.Source.left c.args.input.now) (g.S.Source.counter c.args.input.now) (g.K.Sink.written c.args.out.now) (g.K.Sink.counter c.args.out.now) (g.H.Hub.peers c.args.hub.now) (g.H.Hub.listening c.args.hub.now) (g.C.Clock.ticks c.args.clock.now) (g.C.Clock.counter c.args.clock.now) in
     calm_ends _ old old (g.K.Sink.written c.refuse-in-Err-Memory.new.out) (g.K.Sink.counter c.refuse-in-Err-Memory.new.out) Refusal.Memory _ (record { schedule = c.one_schedule.ensures; line = c.one_bad_line.ensures.not_both; opening = c.one_opening.ensures.not_both; index = c.one_index.ensures; row = c.one_bad_line-2.ensures.not_both }) (inl (tt, refl)) (omega arith) c.refuse-in-Err-Memory.ensures.count
     (memory_named _ [] old (g.K.Sink.written c.refuse-in-Err-Memory.new.out) (g.K.Sink.counter c.refuse-in-Err-Memory.new.out) _ c.refuse-in-Err-Memory.ensures.named)
