@@ -1,0 +1,5 @@
+pub mod Reachable
+pub mod Packed
+pub mod PackedLaws
+pub mod Worked
+pub mod Sizes
