@@ -185,6 +185,9 @@ pub anew : (disk : Option Told) (now : Course) → now ≡ begun → IfSome disk
 anew None now e = tt
 anew (Some told) now e = subst (IsOn (content told)) (sym e) (record { front = front_of []; stands = refl; records = refl; last = refl })
 
+stood_there : (x y z : List ℕ) → y ≡ x ++ z → y ≡ x ++ drop (length x) y
+stood_there x y z e = e ∙ ap (λ (r : List ℕ). x ++ r) (sym (ap (drop (length x)) e ∙ drop_at x z (length x) refl))
+
 -- ---- what a step answers
 
 module _ (bytes : List ℕ) (old now new : Course) (at : ℕ) (window : List ℕ) (e : Extent) (u : Underway bytes old now at) (w : Shows window (drop at bytes)) (says : Steps window at now new (steps.Right e)) where
@@ -236,6 +239,7 @@ module _ (bytes : List ℕ) (old now new : Course) (at : ℕ) (window : List ℕ
         block = b;
         right = next_right bytes at now.last now.records new.records u.on.front.history e r k;
         status = sym status;
+        spelled = subst (λ (n : ℕ). drop n bytes ≡ block_spelling b ++ drop (length (block_spelling b)) (drop n bytes)) (sym begins) (stood_there (block_spelling b) (drop at bytes) (drop (e.long + 8) (drop at bytes)) k.stands.spelled);
         behind = step_on.stands;
         counts = says_block r.front u.on.front.history b k.inside ds whole.status (transaction_in whole) is r.history (sym status) (x ∙ ap (λ (c : Block). transaction_of r.front.records c ds) (same_window (Records ds)));
       }

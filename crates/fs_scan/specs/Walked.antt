@@ -1,10 +1,11 @@
 -- A walk over the transactions of a file.
-use Rattle.std.specs.Prelude.{◌≡◌, ℕ, ◌+◌, ◌==◌, if◌then◌else◌, List, [], Option, Some, None, MatchOption}
+use Rattle.std.specs.Prelude.{◌≡◌, ℕ, ◌+◌, ◌++◌, ◌==◌, if◌then◌else◌, nat_lt, List, [], drop, length, Option, Some, None, MatchOption}
 use Rattle.zbase.specs.Values.{last}
 use Rattle.zbase.specs.declared.ids.Row.{Row}
-use Rattle.fs_record.specs.Spelling.{Block}
+use Rattle.fs_record.specs.Spelling.{Block, block_spelling}
 use Rattle.fs_record.specs.File.{Front, IsRight, rows, longer, after, front_of}
 use Rattle.fs_record.specs.Opening.{SplitsAt, Cut}
+use Rattle.fs_scan.specs.Rising.{row_at}
 use Rattle.fs_scan.specs.Taking.{StepSays}
 use Rattle.fs_scan.specs.Wholes.{transaction_in}
 use Rattle.fs_scan.specs.declared.step.Step.{Step}
@@ -30,6 +31,14 @@ begun = record { place = None; last = 0; records = [] }
 abbrev pub standing : ℕ → Course → Course
 standing place c = record { place = Some place; last = c.last; records = c.records }
 
+-- how many data records are behind the walk
+abbrev pub record_count : Course → ℕ
+record_count c = length c.records
+
+-- where the one with this number stands, counted from 0 for the oldest; none where there are not so many
+abbrev pub record_place : Course → ℕ → Option ℕ
+record_place c number = if nat_lt number (record_count c) then Some (row_at c.records number).place else None
+
 -- where the walk stands behind what a step found at the place
 abbrev pub behind : ℕ → Course → List Row → Step → Course
 behind at c records (steps.Right w) = record { place = Some (at + (w.long + 8)); last = if w.head.status == 117 then c.last else w.head.tid; records = records }
@@ -51,8 +60,8 @@ pub record IsOn (bytes : List ℕ) (course : Course) : Type 0 where
   pub records : rows front.records ≡ course.records
   pub last : last front.history ≡ course.last
 
--- the next transaction that counts is this one: it begins at its place, behind none but undone ones, and the history up
--- to the walk's new place is longer by it
+-- the next transaction that counts is this one: it begins at its place, behind none but undone ones, is spelled there with
+-- its status, and the history up to the walk's new place is longer by it
 pub record Passes (bytes : List ℕ) (old new : Course) (whole : Whole) : Type 0 where
   pub before : Front
   pub came : FrontAt bytes old.place before
@@ -62,6 +71,7 @@ pub record Passes (bytes : List ℕ) (old new : Course) (whole : Whole) : Type 0
   pub block : Block
   pub right : IsRight here block
   pub status : block.status ≡ whole.status
+  pub spelled : drop whole.place bytes ≡ block_spelling block ++ drop (length (block_spelling block)) (drop whole.place bytes)
   pub behind : FrontAt bytes new.place (after here block)
   pub counts : (after here block).history ≡ longer before.history whole.status (transaction_in whole)
 

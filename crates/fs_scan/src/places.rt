@@ -1,8 +1,8 @@
-ghost use Rattle.std.specs.Prelude.{◌≡◌, ◌<◌, ◌++◌, ◌∷◌, [], IfOk, IfErr, OnOk, OnErr};
+ghost use Rattle.std.specs.Prelude.{◌≡◌, ◌<◌, ◌++◌, ◌∷◌, [], length, nat_lt, if◌then◌else◌, IfOk, IfErr, None, OnOk, OnErr, Some};
 ghost use Rattle.std.specs.List.{list_any, All};
 ghost use Rattle.fs_record.specs.File.{last_place, is_row};
 ghost use Rattle.fs_scan.specs.Newest.{IsNewest, greatest_of, or_greater};
-ghost use Rattle.fs_scan.specs.Rising.{RiseFrom, IsAt, NoneAt, AddsFirst};
+ghost use Rattle.fs_scan.specs.Rising.{RiseFrom, IsAt, NoneAt, AddsFirst, row_at};
 
 use fs_index::Index;
 use fs_record::MAX_LENGTH;
@@ -50,6 +50,24 @@ impl Places {
     /// The allocator that the list keeps.
     pub fn alloc(&self) -> Global {
         *self.rows.allocator()
+    }
+
+    /// How many they are.
+    pub fn len(&self) -> usize
+        ensures { result ≡ length self.now }
+    {
+        self.rows.len()
+    }
+
+    /// Where the record with this number stands, none where there are not so many.
+    pub fn place(&self, number: usize) -> Option<u64>
+        ensures { result ≡ (if nat_lt number (length self.now) then Some (row_at self.now number).place else None) }
+    {
+        if number < self.rows.len() {
+            Some(self.rows[number].place)
+        } else {
+            None
+        }
     }
 
     /// The place of the object's last record, 0 where it has none.

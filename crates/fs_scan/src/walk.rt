@@ -10,7 +10,7 @@ ghost use Rattle.fs_scan.specs.Followed.{MeansWhole};
 ghost use Rattle.fs_scan.specs.Marked.{AreRecords};
 ghost use Rattle.fs_scan.specs.Newest.{IsNewest, greatest_of};
 ghost use Rattle.fs_scan.specs.OnlyReads.{OnlyReads};
-ghost use Rattle.fs_scan.specs.Walked.{IsOn, Steps, Walks, begun, place_on, standing};
+ghost use Rattle.fs_scan.specs.Walked.{IsOn, Steps, Walks, begun, place_on, record_count, record_place, standing};
 
 use crate::extent::{Extent, last_behind};
 use crate::magic::has_magic;
@@ -147,6 +147,21 @@ impl Walk {
         ensures { result ≡ greatest_of self.now.records }
     {
         self.places.greatest()
+    }
+
+    /// How many data records are behind the walk, those of undone transactions not counted.
+    pub fn record_count(&self) -> usize
+        ensures { result ≡ record_count self.now }
+    {
+        self.places.len()
+    }
+
+    /// Where the data record with this number stands, in bytes from the file's start; none where not so many are behind the
+    /// walk. The oldest has the number 0.
+    pub fn record_place(&self, number: usize) -> Option<u64>
+        ensures { result ≡ record_place self.now number }
+    {
+        self.places.place(number)
     }
 
     /// Where each object's last data record so far stands, without a copy.
