@@ -154,4 +154,5 @@ def main():
             print(f"{name}: {printed}; {serving.check_replay()} replies, each of them replayed")
 
 
-main()
+if __name__ == "__main__":
+    main()

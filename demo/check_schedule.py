@@ -43,6 +43,12 @@ MADE = [
         "request 0 138\nPOST /a HTTP/1.1\r\nHost: localhost\r\nContent-Type: application/x-www-form-urlencoded\r\n"
         "Content-Length: 32\r\n\r\ndata=%3Cb%3E%0A%5Cn&title=%C3%A9\n",
     ),
+    (
+        "a field that has the text of a file",
+        "0 GET / a@board/footer.dtml",
+        "request 0 143\nGET /?a=%3Cp%3EYou+are+%3Cdtml-var+AUTHENTICATED_USER+html_quote%3E.%3C%2Fp%3E%0A%3C%2Fbody%3E%0A%3C%2Fhtml%3E%0A"
+        " HTTP/1.1\r\nHost: localhost\r\n\r\n\n",
+    ),
     ("as many steps as a page of three facts needs", "1 GET /a\nrun 1 3", "request 1 36\nGET /a HTTP/1.1\r\nHost: localhost\r\n\r\n\n" + 5 * "step 1\n"),
     (
         "as many steps as a call that asks for one fact needs",
@@ -61,6 +67,7 @@ REFUSED = [
     ("a stamp of three digits", "clock 123", "line 1: this is none"),
     ("another method", "0 PUT /", "line 1: this is none"),
     ("a field without a value", "0 GET / a", "line 1: a field has the form"),
+    ("a file that there isn't", "0 GET / a@none", "line 1: none can't be read"),
     ("credentials without a password", "0 GET / as a", "line 1: behind `as`"),
     ("an open quote", "0 GET / 'a", "line 1: "),
     ("a run of no request", "run 0 1", "line 1: worker 0 has no request"),

@@ -5,7 +5,8 @@
 
 LINES has one of these in a line; empty lines and lines that begin with # mean nothing. W is a worker, 0 to 15.
 
-    W GET PATH [as NAME:PASSWORD] [FIELD=VALUE ..]     a request; HEAD and POST likewise
+    W GET PATH [as NAME:PASSWORD] [FIELD=VALUE ..]     a request; HEAD and POST likewise; FIELD@FILE has the text of a file,
+                        whose path begins in demo/ where it isn't absolute
     W step [COUNT]      so many steps of the worker, one where no count is given
     run W [FACTS]       as many steps as the worker needs for its reply: FACTS + 2 where the request reads, and FACTS + 4
                         where it is a call; without FACTS these are counted by a replay over FILE
@@ -56,11 +57,25 @@ def value(text):
     return re.sub(r"\\([n\\])", lambda found: "\n" if found[1] == "n" else "\\", text)
 
 
+def text_of(file):
+    try:
+        return (HERE / file).read_text(encoding="utf-8")
+    except (OSError, ValueError) as error:
+        raise Fault(f"{file} can't be read: {error}") from None
+
+
+def field(word):
+    """A field's name and value."""
+    found = re.match(r"([^=@]*)([=@])", word)
+    if not found:
+        raise Fault("a field has the form FIELD=VALUE or FIELD@FILE")
+    rest = word[found.end() :]
+    return found[1], value(rest) if found[2] == "=" else text_of(rest)
+
+
 def fields(words):
     """The fields of a form as they are sent."""
-    if any("=" not in word for word in words):
-        raise Fault("a field has the form FIELD=VALUE")
-    return urllib.parse.urlencode([(name, value(text)) for name, _, text in (word.partition("=") for word in words)])
+    return urllib.parse.urlencode([field(word) for word in words])
 
 
 def message(method, path, words):
