@@ -1,16 +1,20 @@
 #!/usr/bin/env python3
-"""Kills a server in the midst of edits, again and again, and looks whether each edit that was answered is there.
+"""Kills a server in the midst of edits, and lets its disk fail, again and again, and looks whether each answered edit is there.
 
-    checks/kill.py [TIMES]
+    checks/kill.py [TIMES [FAULTY]]
 
-Eight clients edit eight documents of one site. At a random moment the server is killed by SIGKILL; then the file has to open, and
-to hold of each document the text of the last edit that was answered, or of the one that was sent behind it. The tape, with `end`
-behind its last whole round, has to replay to replies among which is each that a client got. TIMES is 100 where it isn't said.
-Needs the built program alone.
+Eight clients edit eight documents of one site, 200 edits in all. In TIMES runs (100 where nothing is said) the server is killed by
+SIGKILL once a random number of them was answered; in FAULTY runs (a tenth of TIMES) `strace` lets writes, syncs, cuts and reads of
+the site's file fail now and then, and the server is killed when the clients are done. Each time the file has to open, and to hold of
+each document the text of the last edit that was answered, or of one behind it whose outcome the client doesn't know; never one that
+was answered 503. The tape of a run without faults, with `end` behind its last whole round, has to replay to replies among which is
+each that a client got. Needs the built program and, for faults, Debian's package `strace`.
 """
 
+import collections
 import pathlib
 import random
+import shutil
 import subprocess
 import sys
 import tempfile
@@ -28,24 +32,30 @@ class Client(threading.Thread):
     def __init__(self, number, port, times):
         super().__init__(daemon=True)
         self.number, self.port, self.times = number, port, times
-        self.sent = self.answered = None
-        self.replies = []
+        # the texts that the document may have: the last that was answered, and those behind it of which nothing is known
+        self.may_stand, self.replies, self.wrong, self.said = [b""], [], None, collections.Counter()
 
     def run(self):
         for n in range(self.times):
-            text = f"client {self.number} edit {n}"
-            self.sent = text
+            text = f"client {self.number} edit {n}".encode()
+            self.may_stand.append(text)
+            edit = message("POST", f"/d{self.number}/manage_edit", b"title=t&data=" + text.replace(b" ", b"+"), user=ADMIN)
             try:
-                came = ask(self.port, message("POST", f"/d{self.number}/manage_edit", f"title=t&data={text.replace(' ', '+')}".encode(), user=ADMIN))
+                came = ask(self.port, edit)
             except OSError:
                 return
-            if not came.endswith(b"\r\n\r\ndone\n"):
-                assert not came or b" 503 " in came, came
-                if not came:
-                    return
-                continue
-            self.answered = text
-            self.replies.append(came)
+            if not came:
+                return
+            body = came.partition(b"\r\n\r\n")[2]
+            self.said[body.split(b":")[0].strip().decode()] += 1
+            if body == b"done\n":
+                self.may_stand = [text]
+                self.replies.append(came)
+            elif came.startswith(b"HTTP/1.1 503 "):
+                self.may_stand.remove(text)
+            elif not body.startswith(b"unknown outcome: "):
+                self.wrong = came
+                return
 
 
 def whole_rounds(tape):
@@ -66,7 +76,8 @@ def whole_rounds(tape):
         good = at
 
 
-def once(folder, rng):
+def site_of_documents(folder):
+    """A site with a document for each client."""
     file = new_site(folder)
     setup = Serving(file, CLIENTS, tapped=False)
     for n in range(CLIENTS):
@@ -74,25 +85,52 @@ def once(folder, rng):
         assert came.endswith(b"done\n"), came
     setup.end()
     setup.tape.unlink()
-    serving = Serving(file, 100_000, tapped=False)
-    clients = [Client(n, serving.port, EDITS // CLIENTS) for n in range(CLIENTS)]
-    for client in clients:
-        client.start()
-    time.sleep(rng.uniform(0, 0.35))
-    serving.kill()
-    for client in clients:
-        client.join()
-    check = subprocess.run([PROGRAM, "check", file.name], cwd=folder, capture_output=True, check=False)
-    assert check.returncode == 0, check.stdout
-    # what the documents show now, by a schedule of one page each
+    return file
+
+
+def documents_now(file):
+    """What the documents show, by a schedule of a page for each."""
     lines = [b"zope schedule 1\n"]
     for n in range(CLIENTS):
         asked = message("GET", f"/d{n}")
         lines.append(b"request %d %d\n%s\n" % (n, len(asked), asked) + b"step %d\n" % n * 6)
-    shown = list(replies_in(zope("replay", file.name, cwd=folder, input=b"".join(lines) + b"end\n")))
+    shown = replies_in(zope("replay", file.name, cwd=file.parent, input=b"".join(lines) + b"end\n"))
+    return [reply.partition(b"\r\n\r\n")[2] for reply in shown.elements()]
+
+
+def edits_over(serving, kills_behind):
+    """Has the clients edit, and kills the server once so many edits were answered, or all clients are done."""
+    clients = [Client(n, serving.port, EDITS // CLIENTS) for n in range(CLIENTS)]
     for client in clients:
-        texts = {(client.answered or "").encode(), (client.sent or "").encode()}
-        assert any(reply.endswith(b"\r\n\r\n" + text) for reply in shown for text in texts), (client.number, texts, shown)
+        client.start()
+    while any(client.is_alive() for client in clients) and sum(len(client.replies) for client in clients) < kills_behind:
+        time.sleep(0.001)
+    lives = serving.process.poll() is None
+    serving.kill()
+    for client in clients:
+        client.join()
+    assert lives, f"the server ended by itself: {serving.process.returncode}"
+    for client in clients:
+        assert client.wrong is None, client.wrong
+    return clients
+
+
+def look_at(file, clients):
+    check = subprocess.run([PROGRAM, "check", file.name], cwd=file.parent, capture_output=True, check=False)
+    assert check.returncode == 0, check.stdout
+    shown = documents_now(file)
+    assert len(shown) == CLIENTS, shown
+    for client in clients:
+        assert any(text in shown for text in client.may_stand), (client.number, client.may_stand, shown)
+
+
+def killed(folder, rng):
+    """Kills a server, and gives how many edits were answered before."""
+    file = site_of_documents(folder)
+    serving = Serving(file, 100_000, tapped=False)
+    behind = rng.randrange(EDITS)
+    clients = edits_over(serving, behind)
+    look_at(file, clients)
     replayed = replies_in(zope("replay", serving.before.name, cwd=folder, input=whole_rounds(serving.tape.read_bytes())))
     for client in clients:
         for reply in client.replies:
@@ -100,13 +138,43 @@ def once(folder, rng):
     return sum(len(client.replies) for client in clients)
 
 
+def under_faults(file, rng):
+    """The words before the program's by which calls on a file fail: each kind from some call on, and then every so many."""
+    words = ["strace", "-D", "-f", "-qq", "-o", "/dev/null", "-P", str(file), "-e", "trace=write,pwrite64,fsync,fdatasync,ftruncate,read,pread64"]
+    for calls, most, error in (("fsync,fdatasync", 25, "EIO"), ("write,pwrite64", 25, "ENOSPC"), ("ftruncate", 4, "EIO"), ("read,pread64", 400, "EIO")):
+        # the opening at the start has to be spared, or no server comes
+        first = rng.randrange(200 if calls.startswith("read") else 4, 400 if calls.startswith("read") else 20)
+        words += ["-e", f"inject={calls}:error={error}:when={first}+{rng.randrange(most // 2, most) + 1}"]
+    return words
+
+
+def faulty(folder, rng):
+    """Lets the disk fail, and gives what was said to the clients."""
+    file = site_of_documents(folder)
+    serving = Serving(file, 100_000, tapped=False, before=under_faults(file, rng))
+    clients = edits_over(serving, EDITS + 1)
+    look_at(file, clients)
+    return sum((client.said for client in clients), collections.Counter())
+
+
 def main():
-    times, rng = int(sys.argv[1]) if len(sys.argv) > 1 else 100, random.Random(20260101)
-    edits = []
+    times = int(sys.argv[1]) if len(sys.argv) > 1 else 100
+    rounds = int(sys.argv[2]) if len(sys.argv) > 2 else times // 10
+    rng, edits, said = random.Random(20260101), [], collections.Counter()
     for _ in range(times):
         with tempfile.TemporaryDirectory() as folder:
-            edits.append(once(pathlib.Path(folder), rng))
-    print(f"kill: {times} times, behind {min(edits)} to {max(edits)} answered edits; each file opened and had every one of {sum(edits)}")
+            edits.append(killed(pathlib.Path(folder), rng))
+    if times:
+        print(f"kill: {times} times, behind {min(edits)} to {max(edits)} answered edits; each file opened and had every one of {sum(edits)}")
+    assert shutil.which("strace") or not rounds, "strace is wanted"
+    for _ in range(rounds):
+        with tempfile.TemporaryDirectory() as folder:
+            said += faulty(pathlib.Path(folder), rng)
+    if rounds:
+        assert said["disk fault"] and said["unknown outcome"], f"no fault of the one kind or the other came: {said}"
+        print(f"kill: {rounds} times over a failing disk, {said['done']} edits done, {said['disk fault']} times a disk fault and "
+              f"{said['unknown outcome']} times an unknown outcome; the server went on, and nothing that was done is lost")
 
 
-main()
+if __name__ == "__main__":
+    main()

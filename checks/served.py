@@ -136,14 +136,15 @@ class Tap:
 
 
 class Serving:
-    """A server over a file, which it changes; a copy of the file as it was stands beside it."""
+    """A server over a file, which it changes; a copy of the file as it was stands beside it. The words `before` stand before the
+    program's, as those of a program that starts it."""
 
-    def __init__(self, file, connections=1000, clients=16, tapped=True, seconds=20.0):
+    def __init__(self, file, connections=1000, clients=16, tapped=True, seconds=20.0, before=()):
         self.file, self.before, self.tape = file, file.with_suffix(".before"), file.with_suffix(".tape")
         shutil.copyfile(file, self.before)
         self.port, self.connections = free_port(), connections
         self.process = subprocess.Popen(
-            [PROGRAM, "serve", file.name, "--port", str(self.port), "--connections", str(connections), "--clients", str(clients),
+            [*before, PROGRAM, "serve", file.name, "--port", str(self.port), "--connections", str(connections), "--clients", str(clients),
              "--record", self.tape.name],
             cwd=file.parent, stdout=subprocess.PIPE, stdin=subprocess.DEVNULL)
         atexit.register(self.process.kill)

@@ -21,7 +21,7 @@ h1 { font-size: 1.3em; margin: 0 0 .3em } h2 { font-size: 1.1em; margin: 1.6em 0
 table { border-collapse: separate; border-spacing: 3px 0; table-layout: fixed }
 th { position: sticky; top: 0; background: #fff; text-align: left; padding: .3em .4em; border-bottom: 2px solid #888; z-index: 1 }
 td { padding: .05em .4em; vertical-align: top; overflow-wrap: anywhere }
-col.n { width: 3.6em } col.w { width: 19.5em } td.n { color: #999; text-align: right; font-size: 11px }
+col.n { width: 3.6em } col.w { width: 19.5em } td.n { color: #999; text-align: right; font-size: 11px; white-space: nowrap; overflow-wrap: normal }
 td.a { background: #e8f0fb } td.b { background: #dbe6d2 } td.c { background: #f5e9c9 } td.d { background: #f3d9d0 } td.v { background: #c3d9f7 }
 td.top { border-top: 2px solid #2f6fb5; border-radius: 5px 5px 0 0 } td.end { border-radius: 0 0 5px 5px }
 .wait { color: #8a5a00 } .bad { color: #b3261e; font-weight: 600 } .vote { color: #0b4f9e; font-weight: 600 } .dim { color: #777 }
