@@ -1,22 +1,28 @@
 #!/usr/bin/env python3
-"""A served site beside nginx, and edits on a real file beside the bare loop of write and sync.
+"""A served site beside nginx and beside a Python server, and edits on a real file beside the bare loop of write and sync.
 
-    bench/serving.py [SECONDS]
+    bench/serving.py [SECONDS [PART ..]]
 
-Pages without tags by `ab`, a connection for each, from 1 and 16 clients at once, of `zope serve` and of nginx with a static file of
-the same bytes and keep-alive off; edits from 1 and 8 clients, beside a loop that appends as many bytes as an edit's transaction has,
-syncs, writes one byte and syncs, on the same disk; and the longest time of a page beside 900 connections, of which half are silent
-and half send a byte a second. Each figure is the best of three runs of SECONDS (5). Needs the built program (`./zope check` builds
-it) and Debian's packages `nginx-light` and `apache2-utils`.
+By `ab`, a connection for each request, from 1, 4 and 16 clients at once. `pages`: pages without tags, of `zope serve` and of nginx
+with a static file of the same bytes and keep-alive off. `tags`: pages with a header, a footer and ten properties, for a user who
+logs in, beside waitress with Jinja2 over SQLite (waitress_site.py). `edits`: edits of documents, beside a loop that appends as many
+bytes as an edit's transaction has, syncs, writes one byte and syncs, on the same disk, and beside the Python server. `slow`: the
+longest time of a page beside 900 connections, of which half are silent and half send a byte a second; and pages beside 1,000 that
+are silent and 100 that send a byte a second. Each figure is the best of three runs of SECONDS (5); all parts where none is named.
+Needs the built program (`./zope check` builds it) and Debian's packages `nginx-light`, `apache2-utils`, `python3-waitress` and
+`python3-jinja2`.
 """
 
+import contextlib
 import os
 import pathlib
 import re
+import resource
 import socket
 import subprocess
 import sys
 import tempfile
+import threading
 import time
 
 HERE = pathlib.Path(__file__).resolve().parent
@@ -26,22 +32,37 @@ from served import PASSWORD, USER, Serving, ask, free_port, listens, message, ne
 
 ADMIN, PAGE = f"{USER}:{PASSWORD}", b"<html><body><h1>A page without tags</h1>" + b"<p>Some words of it.</p>" * 20 + b"</body></html>"
 SECONDS = float(sys.argv[1]) if len(sys.argv) > 1 else 5.0
+CLIENTS = (1, 4, 16)
+HEADER, FOOTER = b"<html><body><h1>&dtml-title;</h1>", b"<p>You are &dtml-AUTHENTICATED_USER;.</p></body></html>"
+TAGS = b"<dtml-var header><dl>" + b"".join(b"<dt>p%d</dt><dd>&dtml-p%d;</dd>" % (n, n) for n in range(10)) + b"</dl><dtml-var footer>"
 
 
-def edit(path, text):
-    return message("POST", path + "/manage_edit", b"title=t&data=" + text, user=ADMIN)
+def form(**fields):
+    """A form's body."""
+    return b"&".join(name.encode() + b"=" + b"".join(b"%%%02x" % byte for byte in text) for name, text in fields.items())
 
 
-def by_ab(port, clients, count):
+def calls(port, path, **fields):
+    came = ask(port, message("POST", path, form(**fields), user=ADMIN))
+    assert came.endswith(b"done\n"), came
+
+
+def by_ab(port, path, clients, count, login):
     """Replies a second that ab gets, and the time within which ninety-nine of a hundred came, in milliseconds."""
-    came = subprocess.run(["ab", "-q", "-n", str(count), "-c", str(clients), f"http://127.0.0.1:{port}/"], check=True, capture_output=True, text=True).stdout
+    words = ["ab", "-q", *(["-A", ADMIN] if login else []), "-n", str(count), "-c", str(clients), f"http://127.0.0.1:{port}{path}"]
+    came = subprocess.run(words, check=True, capture_output=True, text=True).stdout
     assert "Failed requests:        0" in came and "Non-2xx" not in came, came
     return float(re.search(r"Requests per second:\s+([\d.]+)", came)[1]), int(re.search(r"99%\s+(\d+)", came)[1])
 
 
-def best(port, clients):
-    rate, _ = by_ab(port, clients, 500)
-    return max(by_ab(port, clients, max(100, int(rate * SECONDS)) // clients * clients) for _ in range(3))
+def best(port, path, clients, login=False):
+    rate, _ = by_ab(port, path, clients, max(100, clients), login)
+    count = max(100, int(rate * SECONDS)) // clients * clients
+    return max(by_ab(port, path, clients, count, login) for _ in range(3))
+
+
+def row(what, ours, name, theirs, wanted, hundredth=""):
+    print(f"| {what} | {ours:.0f} | {name} {theirs:.0f} | {ours / theirs:.2f} | {wanted} | {hundredth} |", flush=True)
 
 
 class Nginx:
@@ -56,23 +77,59 @@ class Nginx:
         self.process = subprocess.Popen(["nginx", "-c", str(conf)], stdout=subprocess.DEVNULL, stderr=subprocess.DEVNULL)
         wait_for(lambda: listens(self.port))
 
-    def end(self):
-        self.process.terminate()
-        self.process.wait()
+
+class Waitress:
+    def __init__(self, folder):
+        self.port = free_port()
+        self.process = subprocess.Popen(["/usr/bin/python3", str(HERE / "waitress_site.py"), str(self.port), str(folder / "site.db")])
+        wait_for(lambda: self.process.poll() is not None or listens(self.port))
+        assert self.process.poll() is None, "the Python server doesn't start: its packages are named at the top"
+
+
+def end(peer):
+    peer.process.terminate()
+    peer.process.wait()
 
 
 def pages(folder):
     serving, nginx = Serving(new_site(folder), 10_000_000, tapped=False), Nginx(folder)
-    assert ask(serving.port, edit("/index_html", PAGE.replace(b"<", b"%3C").replace(b" ", b"+"))).endswith(b"done\n")
-    for clients in (1, 16):
-        ours, theirs = best(serving.port, clients), best(nginx.port, clients)
-        print(f"| pages, {clients} at once | {ours[0]:.0f} | nginx {theirs[0]:.0f} | {ours[0] / theirs[0]:.2f} | 0.50 | {ours[1]} |", flush=True)
-    slow(serving.port)
-    nginx.end()
+    calls(serving.port, "/index_html/manage_edit", data=PAGE)
+    for clients in CLIENTS:
+        ours, theirs = best(serving.port, "/", clients), best(nginx.port, "/", clients)
+        row(f"pages, {clients} at once", ours[0], "nginx", theirs[0], "0.50", f"{ours[1]}, {theirs[1]}")
+    end(nginx)
     serving.kill()
 
 
-def slow(port):
+def tags(folder):
+    serving, peer = Serving(new_site(folder), 10_000_000, tapped=False), Waitress(folder)
+    calls(serving.port, "/manage_addDTMLMethod", id=b"header", file=HEADER)
+    calls(serving.port, "/manage_addDTMLMethod", id=b"footer", file=FOOTER)
+    calls(serving.port, "/manage_addDTMLDocument", id=b"page", title=b"A page", file=TAGS)
+    for n in range(10):
+        calls(serving.port, "/page/manage_addProperty", id=b"p%d" % n, value=b"value %d" % n)
+    asked = message("GET", "/page", user=ADMIN)
+    bodies = [ask(port, asked.replace(b"1.1\r\n", b"1.0\r\n", 1)).partition(b"\r\n\r\n")[2] for port in (serving.port, peer.port)]
+    assert bodies[0] == bodies[1] and b"value 9" in bodies[0] and b"You are admin." in bodies[0], bodies
+    for clients in CLIENTS:
+        ours, theirs = best(serving.port, "/page", clients, True), best(peer.port, "/page", clients, True)
+        row(f"pages with tags, {clients} at once", ours[0], "waitress", theirs[0], "5.00", f"{ours[1]}, {theirs[1]}")
+    end(peer)
+    serving.kill()
+
+
+def slow(folder):
+    serving = Serving(new_site(folder), 10_000_000, tapped=False)
+    calls(serving.port, "/index_html/manage_edit", data=PAGE)
+    longest(serving.port)
+    alone = best(serving.port, "/", 4)
+    with crowd(serving.port, 1000, 100):
+        beside = best(serving.port, "/", 4)
+    row("pages beside 1,100 slow connections, 4 at once", beside[0], "without them", alone[0], "0.90", f"{beside[1]}, {alone[1]}")
+    serving.kill()
+
+
+def longest(port):
     idle = [socket.create_connection(("127.0.0.1", port)) for _ in range(900)]
     came, times = time.monotonic(), []
     while time.monotonic() < came + 15:
@@ -86,6 +143,36 @@ def slow(port):
     times.sort()
     print(f"| a page beside 900 slow connections | {len(times)} pages | middle {times[len(times) // 2]:.1f} ms | longest {times[-1]:.1f} ms | 20 ms | |", flush=True)
     for client in idle:
+        client.close()
+
+
+@contextlib.contextmanager
+def crowd(port, silent, sending):
+    """So many connections that are silent, and so many that send a byte a second; one that is let go comes again."""
+    clients, ends = [socket.create_connection(("127.0.0.1", port)) for _ in range(silent + sending)], threading.Event()
+
+    def go_on():
+        while not ends.wait(1):
+            for at, client in enumerate(clients):
+                try:
+                    client.setblocking(False)
+                    if at >= silent:
+                        client.send(b"G")
+                    gone = client.recv(1) == b""
+                except BlockingIOError:
+                    gone = False
+                except OSError:
+                    gone = True
+                if gone:
+                    client.close()
+                    clients[at] = socket.create_connection(("127.0.0.1", port))
+
+    going = threading.Thread(target=go_on)
+    going.start()
+    yield
+    ends.set()
+    going.join()
+    for client in clients:
         client.close()
 
 
@@ -118,28 +205,37 @@ def bare(folder, size):
 
 def edits(folder):
     file = new_site(folder, "edits.fs")
-    serving = Serving(file, 10_000_000, tapped=False)
-    for n in range(8):
-        assert ask(serving.port, message("POST", "/manage_addDTMLDocument", b"id=d%d&title=t&data=x" % n, user=ADMIN)).endswith(b"done\n")
+    serving, peer = Serving(file, 10_000_000, tapped=False), Waitress(folder)
+    for n in range(max(CLIENTS)):
+        calls(serving.port, "/manage_addDTMLDocument", id=b"d%d" % n, title=b"t", file=b"x")
     before = file.stat().st_size
-    assert ask(serving.port, edit("/d0", b"text+0")).endswith(b"done\n")
+    calls(serving.port, "/d0/manage_edit", title=b"t", data=b"text 0")
     size = file.stat().st_size - before
     body = folder / "body"
     body.write_bytes(b"title=t&data=text+0")
-    for clients in (1, 8):
-        count = int(edits_by(serving.port, clients, 500, body) * SECONDS / clients)
+    for clients in CLIENTS:
+        count = max(10, int(edits_by(serving.port, clients, 50, body) * SECONDS / clients))
         rates = [(edits_by(serving.port, clients, count, body), bare(folder, size)) for _ in range(3)]
         ours, theirs = max(rates, key=lambda pair: pair[0] / pair[1])
-        print(f"| edits, {clients} at once | {ours:.0f} | write and sync, twice {theirs:.0f} | {ours / theirs:.2f} | 0.90 | |", flush=True)
+        row(f"edits, {clients} at once", ours, "write and sync, twice", theirs, "0.90")
+        theirs = max(edits_by(peer.port, clients, count // 4 + 1, body) for _ in range(3))
+        row(f"edits, {clients} at once", ours, "waitress and SQLite", theirs, "")
+    end(peer)
     serving.kill()
 
 
+PARTS = [pages, tags, slow, edits]
+
+
 def main():
-    print("| what | a second | beside it | share | wanted | 99 of 100 within, ms |\n|---|---|---|---|---|---|")
-    with tempfile.TemporaryDirectory(dir=HERE.parent) as folder:
-        pages(pathlib.Path(folder))
-    with tempfile.TemporaryDirectory(dir=HERE.parent) as folder:
-        edits(pathlib.Path(folder))
+    most = resource.getrlimit(resource.RLIMIT_NOFILE)[1]
+    resource.setrlimit(resource.RLIMIT_NOFILE, (min(most, 4096) if most > 0 else 4096, most))
+    print("| what | a second | beside it | share | wanted | 99 of 100 within, ms: ours, theirs |\n|---|---|---|---|---|---|")
+    for part in PARTS:
+        if len(sys.argv) < 3 or part.__name__ in sys.argv[2:]:
+            with tempfile.TemporaryDirectory(dir=HERE.parent) as folder:
+                part(pathlib.Path(folder))
 
 
-main()
+if __name__ == "__main__":
+    main()

@@ -63,4 +63,5 @@ def main():
     print_file(numbers, device, kind)
 
 
-main()
+if __name__ == "__main__":
+    main()
