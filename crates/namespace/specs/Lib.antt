@@ -2,6 +2,7 @@ pub mod Labels
 pub mod Once
 pub mod Looks
 pub mod LookLaws
+pub mod Traces
 pub mod Joining
 pub mod GoingOn
 pub mod Told

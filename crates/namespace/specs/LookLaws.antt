@@ -1,5 +1,5 @@
--- What is true of every page in the making: what it shows was granted, what it views is shown, what it is refused
--- wasn't granted, and contents that a user may not view make no difference to him.
+-- What is true of every page in the making: one goes on with what another has shown, what it views is shown, and what is
+-- asked without contents is the same over states that differ in contents alone.
 use Rattle.std.proofs.Common.{ℕ, ◌≡◌, ◌∙◌, refl, sym, ap, subst, Bool, true, false, List, [], ◌∷◌, ◌++◌, nat_eq, if◌then◌else◌, ◌⊎◌, inl, inr, Option, Some, None, Result, Ok, Err, option_map, ◌||◌, arith}
 use Rattle.std.proofs.lemmas.Bool.Decides.{nat_tests}
 use Rattle.std.specs.List.{list_any, AllByRecursion}
@@ -131,26 +131,26 @@ reworded_ok (Ok y) x e = cc
 reworded_ok (Err (Need o)) x e = cc
 reworded_ok (Err (Cause c)) x e = cc
 
-never_unauthorized : {A : Type 0} (r : Result A (Halt ℕ acquiring.Fault)) (o p : ℕ) → reworded r ≡ Err (Cause (Unauthorized o p)) → ⊥
+pub never_unauthorized : {A : Type 0} (r : Result A (Halt ℕ acquiring.Fault)) (o p : ℕ) → reworded r ≡ Err (Cause (Unauthorized o p)) → ⊥
 never_unauthorized (Ok y) o p e = cc
 never_unauthorized (Err (Need q)) o p e = cc
 never_unauthorized (Err (Cause (acquiring.Broken q))) o p e = cc
 never_unauthorized (Err (Cause acquiring.TooDeep)) o p e = cc
 
-outlined_ok : {A : Type 0} (k : ℕ → Option (Seen Object)) (q : Shapes acquiring.Fault A) (x : A) → run k (outlined q) ≡ Ok x → run (veiled k) q ≡ Ok x
+pub outlined_ok : {A : Type 0} (k : ℕ → Option (Seen Object)) (q : Shapes acquiring.Fault A) (x : A) → run k (outlined q) ≡ Ok x → run (veiled k) q ≡ Ok x
 outlined_ok k q x e = reworded_ok (run (veiled k) q) x (sym (run_outlined k q) ∙ e)
 
-abbrev second_of : {A S F : Type 0} → S → Result (A × S) F → S
+abbrev pub second_of : {A S F : Type 0} → S → Result (A × S) F → S
 second_of shown (Ok y) = y.1
 second_of shown (Err e) = shown
 
--- ---- a refusal names what isn't granted
+-- ---- for whom a page is
 
-then_err : {A B F : Type 0} (r : Result A F) (next : A → Result B F) (e : F) → and_then r next ≡ Err e → (r ≡ Err e) ⊎ ((x : A) × (r ≡ Ok x) × (next x ≡ Err e))
+pub then_err : {A B F : Type 0} (r : Result A F) (next : A → Result B F) (e : F) → and_then r next ≡ Err e → (r ≡ Err e) ⊎ ((x : A) × (r ≡ Ok x) × (next x ≡ Err e))
 then_err (Ok x) next e is = inr (x, refl, is)
 then_err (Err f) next e is = inl (let same : f ≡ e = cc in ap Err same)
 
-then_ok : {A B F : Type 0} (r : Result A F) (next : A → Result B F) (y : B) → and_then r next ≡ Ok y → (x : A) × (r ≡ Ok x) × (next x ≡ Ok y)
+pub then_ok : {A B F : Type 0} (r : Result A F) (next : A → Result B F) (y : B) → and_then r next ≡ Ok y → (x : A) × (r ≡ Ok x) × (next x ≡ Ok y)
 then_ok (Ok x) next y is = (x, refl, is)
 then_ok (Err f) next y is = absurd (let bad : Err f ≡ Ok y = is in cc)
 
@@ -164,141 +164,20 @@ IsFor Sort k (Enter who at go) = Sort who × IsFor Sort k go
 IsFor Sort k (View who at go) = Sort who × ((object : Object) → run k (here at) ≡ Ok object → IsFor Sort k (go object))
 IsFor Sort k (Offer who at go) = Sort who × ((granted : Bool) → IsFor Sort k (go granted))
 
--- the users that are numbered, by whatever numbers
-abbrev pub IsOneOf : {I : Type 0} → (I → Who) → Who → Type 0
-IsOneOf {I} users who = (i : I) × (users i ≡ who)
-
--- a user of this sort isn't granted the permission on the object
-abbrev pub IsDenied : (Who → Type 0) → (ℕ → Option (Seen Object)) → ℕ → ℕ → Type 0
-IsDenied Sort k o p = (who : Who) × Sort who × (permission : ℕ) × (run (veiled k) (verdict_on who o p) ≡ Ok (verdicts.Denied permission))
-
-abbrev stopped : {A : Type 0} → ℕ → ℕ → Result A (Halt ℕ Fault)
-stopped o p = Err (Cause (Unauthorized o p))
-
-module _ (Sort : Who → Type 0) (k : ℕ → Option (Seen Object)) (o p : ℕ) where
-  -- behind a question of the layers below
-  behind : {A B : Type 0} (q : Shapes acquiring.Fault A) (next : A → Objects Fault B) → ((x : A) → run (veiled k) q ≡ Ok x → run k (next x) ≡ stopped o p → IsDenied Sort k o p) →
-      run k (outlined q >>> next) ≡ stopped o p → IsDenied Sort k o p
-  behind q next deeper e = elim (then_err (run k (outlined q)) (λ x. run k (next x)) _ (sym (run_then k (outlined q) next) ∙ e)) [
-    | inl bad ↦ absurd (never_unauthorized (run (veiled k) q) o p (sym (run_outlined k q) ∙ bad))
-    | inr found ↦ deeper found.0 (outlined_ok k q found.0 found.1) found.2
-  ]
-
-  at_verdict : {A : Type 0} (who : Who) (at asked permission : ℕ) → Sort who → run (veiled k) (verdict_on who at asked) ≡ Ok (verdicts.Denied permission) →
-      stopped {A = A} at asked ≡ stopped {A = A} o p → IsDenied Sort k o p
-  at_verdict who at asked permission sort is e =
-      let same_object : at ≡ o = cc in
-      let same_permission : asked ≡ p = cc in (
-        who,
-        sort,
-        permission,
-        subst (λ q. run (veiled k) (verdict_on who o q) ≡ Ok (verdicts.Denied permission)) same_permission
-            (subst (λ q. run (veiled k) (verdict_on who q asked) ≡ Ok (verdicts.Denied permission)) same_object is),
-      )
-
-  at_enter : {A : Type 0} (who : Who) (at : ℕ) (further : Objects Fault A) (v : Verdict) → Sort who → run (veiled k) (verdict_on who at ACCESS_CONTENTS_INFORMATION) ≡ Ok v →
-      (run k further ≡ stopped o p → IsDenied Sort k o p) → run k (entered at further v) ≡ stopped o p → IsDenied Sort k o p
-  at_enter who at further (verdicts.Granted role) sort is deeper e = deeper e
-  at_enter {A = A} who at further (verdicts.Denied permission) sort is deeper e = at_verdict {A = A} who at ACCESS_CONTENTS_INFORMATION permission sort is e
-
-  at_here : {A : Type 0} (at : ℕ) (further : Object → Objects Fault A) → ((object : Object) → run k (here at) ≡ Ok object → run k (further object) ≡ stopped o p → IsDenied Sort k o p) →
-      run k (or_else fault_of (here at) >>> further) ≡ stopped o p → IsDenied Sort k o p
-  at_here at further deeper e = elim (then_err (run k (or_else fault_of (here at))) (λ x. run k (further x)) _ (sym (run_then k (or_else fault_of (here at)) further) ∙ e)) [
-    | inl bad ↦ absurd (never_unauthorized (run k (here at)) o p (sym (run_reworded k (here at)) ∙ bad))
-    | inr found ↦ deeper found.0 (reworded_ok (run k (here at)) found.0 (sym (run_reworded k (here at)) ∙ found.1)) found.2
-  ]
-
-  at_view : {A : Type 0} (who : Who) (at : ℕ) (shown : List Shown) (further : List Shown → Object → Objects Fault A) (v : Verdict) → Sort who → run (veiled k) (verdict_on who at VIEW) ≡ Ok v →
-      ((s : List Shown) (object : Object) → run k (here at) ≡ Ok object → run k (further s object) ≡ stopped o p → IsDenied Sort k o p) → run k (viewed taken who shown at further v) ≡ stopped o p → IsDenied Sort k o p
-  at_view who at shown further (verdicts.Granted role) sort is deeper e = at_here at (further (taken who at role shown)) (deeper (taken who at role shown)) e
-  at_view {A = A} who at shown further (verdicts.Denied permission) sort is deeper e = at_verdict {A = A} who at VIEW permission sort is e
-
-  at_offer : {A : Type 0} (who : Who) (at : ℕ) (shown : List Shown) (further : List Shown → Bool → Objects Fault A) (v : Verdict) →
-      ((s : List Shown) (granted : Bool) → run k (further s granted) ≡ stopped o p → IsDenied Sort k o p) → run k (offered taken who shown at further v) ≡ stopped o p → IsDenied Sort k o p
-  at_offer who at shown further (verdicts.Granted role) deeper e = deeper (taken who at role shown) true e
-  at_offer who at shown further (verdicts.Denied permission) deeper e = deeper shown false e
-
-  -- a page that is refused for want of a permission names an object and a permission that a user of the sort isn't granted
-  pub denied_rightly : {A : Type 0} (shown : List Shown) (q : Looks A) → IsFor Sort k q → looked k shown q ≡ stopped o p → IsDenied Sort k o p
-  denied_rightly shown (Done x) own e = absurd (let bad = e in cc)
-  denied_rightly shown (Stops cause) own e = absurd (let bad = e in cc)
-  denied_rightly shown (See at go) own e = behind (here at) (λ object. through taken shown (go object)) (λ object is e. denied_rightly shown (go object) (own object is) e) e
-  denied_rightly shown (Reach w at go) own e = behind (reached w at) (λ found. through taken shown (go found)) (λ found is e. denied_rightly shown (go found) (own found is) e) e
-  denied_rightly shown (Enter who at go) own e =
-      behind (verdict_on who at ACCESS_CONTENTS_INFORMATION) (entered at (through taken shown go)) (λ v is e. at_enter who at (through taken shown go) v own.0 is (λ e. denied_rightly shown go own.1 e) e) e
-  denied_rightly shown (View who at go) own e =
-      behind (verdict_on who at VIEW) (viewed taken who shown at (λ s object. through taken s (go object)))
-      (λ v is e. at_view who at shown (λ s object. through taken s (go object)) v own.0 is (λ s object is e. denied_rightly s (go object) (own.1 object is) e) e) e
-  denied_rightly shown (Offer who at go) own e =
-      behind (verdict_on who at VIEW) (offered taken who shown at (λ s granted. through taken s (go granted)))
-      (λ v is e. at_offer who at shown (λ s granted. through taken s (go granted)) v (λ s granted e. denied_rightly s (go granted) (own.1 granted) e) e) e
-
--- ---- what is shown was granted, by the role that is told, to the user of its first use
-
--- that user is of this sort, and is granted the view of the object by that role
-abbrev pub IsGranted : (Who → Type 0) → (ℕ → Option (Seen Object)) → Use → Type 0
-IsGranted Sort k u = Sort u.user × (run (veiled k) (verdict_on u.user u.shown.oid VIEW) ≡ Ok (verdicts.Granted u.shown.role))
-
-abbrev pub AreGranted : (Who → Type 0) → (ℕ → Option (Seen Object)) → List Use → Type 0
-AreGranted Sort k uses = AllByRecursion (IsGranted Sort k) uses
-
-granted_behind : (Sort : Who → Type 0) (k : ℕ → Option (Seen Object)) (uses : List Use) (u : Use) → AreGranted Sort k uses → IsGranted Sort k u → AreGranted Sort k (uses ++ u ∷ [])
-granted_behind Sort k [] u are is = (is, tt)
-granted_behind Sort k (v ∷ uses) u are is = (are.0, granted_behind Sort k uses u are.1 is)
-
-used_granted : (Sort : Who → Type 0) (k : ℕ → Option (Seen Object)) (uses : List Use) (u : Use) (there : Bool) → AreGranted Sort k uses → IsGranted Sort k u →
-    AreGranted Sort k (if there then uses else uses ++ u ∷ [])
-used_granted Sort k uses u true are is = are
-used_granted Sort k uses u false are is = granted_behind Sort k uses u are is
+-- ---- what came, came through what was asked
 
 module _ (k : ℕ → Option (Seen Object)) where
-  past : {A B : Type 0} (q : Shapes acquiring.Fault A) (next : A → Objects Fault B) (y : B) → run k (outlined q >>> next) ≡ Ok y →
+  pub past : {A B : Type 0} (q : Shapes acquiring.Fault A) (next : A → Objects Fault B) (y : B) → run k (outlined q >>> next) ≡ Ok y →
       (x : A) × (run (veiled k) q ≡ Ok x) × (run k (next x) ≡ Ok y)
   past q next y e =
       let found = then_ok (run k (outlined q)) (λ x. run k (next x)) y (sym (run_then k (outlined q) next) ∙ e) in
       (found.0, outlined_ok k q found.0 found.1, found.2)
 
-  past_here : {B : Type 0} (at : ℕ) (next : Object → Objects Fault B) (y : B) → run k (or_else fault_of (here at) >>> next) ≡ Ok y →
+  pub past_here : {B : Type 0} (at : ℕ) (next : Object → Objects Fault B) (y : B) → run k (or_else fault_of (here at) >>> next) ≡ Ok y →
       (x : Object) × (run k (here at) ≡ Ok x) × (run k (next x) ≡ Ok y)
   past_here at next y e =
       let found = then_ok (run k (or_else fault_of (here at))) (λ x. run k (next x)) y (sym (run_then k (or_else fault_of (here at)) next) ∙ e) in
       (found.0, reworded_ok (run k (here at)) found.0 (sym (run_reworded k (here at)) ∙ found.1), found.2)
-
-module _ (Sort : Who → Type 0) (k : ℕ → Option (Seen Object)) where
-  enter_granted : {A : Type 0} (at : ℕ) (further : Objects Fault (A × List Use)) (x : A × List Use) (v : Verdict) →
-      (run k further ≡ Ok x → AreGranted Sort k x.1) → run k (entered at further v) ≡ Ok x → AreGranted Sort k x.1
-  enter_granted at further x (verdicts.Granted role) deeper e = deeper e
-  enter_granted at further x (verdicts.Denied permission) deeper e = absurd (let bad = e in cc)
-
-  view_granted : {A : Type 0} (who : Who) (at : ℕ) (uses : List Use) (further : List Use → Object → Objects Fault (A × List Use)) (x : A × List Use) (v : Verdict) →
-      Sort who → run (veiled k) (verdict_on who at VIEW) ≡ Ok v → AreGranted Sort k uses →
-      ((s : List Use) (object : Object) → run k (here at) ≡ Ok object → AreGranted Sort k s → run k (further s object) ≡ Ok x → AreGranted Sort k x.1) → run k (viewed used who uses at further v) ≡ Ok x → AreGranted Sort k x.1
-  view_granted who at uses further x (verdicts.Granted role) sort is are deeper e =
-      let found = past_here k at (further (used who at role uses)) x e in
-      deeper (used who at role uses) found.0 found.1 (used_granted Sort k uses (record { user = who; shown = record { oid = at; role = role } }) _ are (sort, is)) found.2
-  view_granted who at uses further x (verdicts.Denied permission) sort is are deeper e = absurd (let bad = e in cc)
-
-  offer_granted : {A : Type 0} (who : Who) (at : ℕ) (uses : List Use) (further : List Use → Bool → Objects Fault (A × List Use)) (x : A × List Use) (v : Verdict) →
-      Sort who → run (veiled k) (verdict_on who at VIEW) ≡ Ok v → AreGranted Sort k uses →
-      ((s : List Use) (granted : Bool) → AreGranted Sort k s → run k (further s granted) ≡ Ok x → AreGranted Sort k x.1) → run k (offered used who uses at further v) ≡ Ok x → AreGranted Sort k x.1
-  offer_granted who at uses further x (verdicts.Granted role) sort is are deeper e = deeper (used who at role uses) true (used_granted Sort k uses (record { user = who; shown = record { oid = at; role = role } }) _ are (sort, is)) e
-  offer_granted who at uses further x (verdicts.Denied permission) sort is are deeper e = deeper uses false are e
-
-  -- each object that a page shows was granted to the user of its first use, who is of the sort, by the role that is told
-  pub shown_rightly : {A : Type 0} (uses : List Use) (q : Looks A) (x : A × List Use) → IsFor Sort k q → AreGranted Sort k uses → looked_by k uses q ≡ Ok x → AreGranted Sort k x.1
-  shown_rightly uses (Done y) x own are e = subst (λ r. AreGranted Sort k r) (ap (second_of uses) e) are
-  shown_rightly uses (Stops cause) x own are e = absurd (let bad = e in cc)
-  shown_rightly uses (See at go) x own are e = let found = past k (here at) (λ object. through used uses (go object)) x e in shown_rightly uses (go found.0) x (own found.0 found.1) are found.2
-  shown_rightly uses (Reach w at go) x own are e = let found = past k (reached w at) (λ w. through used uses (go w)) x e in shown_rightly uses (go found.0) x (own found.0 found.1) are found.2
-  shown_rightly uses (Enter who at go) x own are e =
-      let found = past k (verdict_on who at ACCESS_CONTENTS_INFORMATION) (entered at (through used uses go)) x e in
-      enter_granted at (through used uses go) x found.0 (λ e. shown_rightly uses go x own.1 are e) found.2
-  shown_rightly uses (View who at go) x own are e =
-      let found = past k (verdict_on who at VIEW) (viewed used who uses at (λ s object. through used s (go object))) x e in
-      view_granted who at uses (λ s object. through used s (go object)) x found.0 own.0 found.1 are (λ s object is are e. shown_rightly s (go object) x (own.1 object is) are e) found.2
-  shown_rightly uses (Offer who at go) x own are e =
-      let found = past k (verdict_on who at VIEW) (offered used who uses at (λ s granted. through used s (go granted))) x e in
-      offer_granted who at uses (λ s granted. through used s (go granted)) x found.0 own.0 found.1 are (λ s granted are e. shown_rightly s (go granted) x (own.1 granted) are e) found.2
 
 -- ---- the objects that are shown, with and without their users
 
@@ -485,16 +364,6 @@ pub record Same (w : Who) (k l : ℕ → Option (Seen Object)) : Type 0 where
   pub without_contents : (o : ℕ) → veiled k o ≡ veiled l o
   pub contents : (o : ℕ) (role : Role) → run (veiled k) (verdict_on w o VIEW) ≡ Ok (verdicts.Granted role) → k o ≡ l o
 
--- On the way to what a page comes to, each view is the user's own: it renders nothing inside an object with proxy roles.
-abbrev pub IsOwn : {A : Type 0} → Who → (ℕ → Option (Seen Object)) → Looks A → Type 0
-IsOwn w k (Done x) = Unit {0}
-IsOwn w k (Stops cause) = Unit {0}
-IsOwn w k (See at go) = (shape : Shape) → run (veiled k) (here at) ≡ Ok shape → IsOwn w k (go shape)
-IsOwn w k (Reach from at go) = (found : List ℕ) → run (veiled k) (reached from at) ≡ Ok found → IsOwn w k (go found)
-IsOwn w k (Enter who at go) = IsOwn w k go
-IsOwn w k (View who at go) = (who ≡ w) × ((object : Object) → run k (here at) ≡ Ok object → IsOwn w k (go object))
-IsOwn w k (Offer who at go) = (granted : Bool) → IsOwn w k (go granted)
-
 then_same : {A B F : Type 0} (r s : Result A F) (f g : A → Result B F) → r ≡ s → ((x : A) → r ≡ Ok x → f x ≡ g x) → and_then r f ≡ and_then s g
 then_same (Ok x) s f g e same = same x refl ∙ ap (λ r. and_then r g) e
 then_same (Err c) s f g e same = ap (λ r. and_then r g) e
@@ -506,17 +375,13 @@ module _ (w : Who) (k l : ℕ → Option (Seen Object)) (same : Same w k l) wher
   run_same : {A : Type 0} (q : Shapes acquiring.Fault A) → run k (outlined q) ≡ run l (outlined q)
   run_same q = run_outlined k q ∙ ap (λ m. reworded (run m q)) veiled_same ∙ sym (run_outlined l q)
 
-  both : {A B : Type 0} (q : Shapes acquiring.Fault A) (f g : A → Objects Fault B) → ((x : A) → run (veiled k) q ≡ Ok x → run k (f x) ≡ run l (g x)) →
+  pub both : {A B : Type 0} (q : Shapes acquiring.Fault A) (f g : A → Objects Fault B) → ((x : A) → run (veiled k) q ≡ Ok x → run k (f x) ≡ run l (g x)) →
       run k (outlined q >>> f) ≡ run l (outlined q >>> g)
   both q f g each =
       run_then k (outlined q) f ∙ then_same (run k (outlined q)) (run l (outlined q)) (λ x. run k (f x)) (λ x. run l (g x)) (run_same q) (λ x is. each x (outlined_ok k q x is))
       ∙ sym (run_then l (outlined q) g)
 
-  enter_same : {B : Type 0} (at : ℕ) (f : Objects Fault B) (v : Verdict) → run k f ≡ run l f → run k (entered at f v) ≡ run l (entered at f v)
-  enter_same at f (verdicts.Granted role) e = e
-  enter_same at f (verdicts.Denied permission) e = refl
-
-  here_same : {B : Type 0} (at : ℕ) (f : Object → Objects Fault B) → k at ≡ l at → ((object : Object) → run k (here at) ≡ Ok object → run k (f object) ≡ run l (f object)) →
+  pub here_same : {B : Type 0} (at : ℕ) (f : Object → Objects Fault B) → k at ≡ l at → ((object : Object) → run k (here at) ≡ Ok object → run k (f object) ≡ run l (f object)) →
       run k (or_else fault_of (here at) >>> f) ≡ run l (or_else fault_of (here at) >>> f)
   here_same at f e each =
       run_then k (or_else fault_of (here at)) f
@@ -531,26 +396,3 @@ module _ (w : Who) (k l : ℕ → Option (Seen Object)) (same : Same w k l) wher
 
       present_same : (at : ℕ) (x : Option (Seen Object)) → go_on at (λ seen. run k (or_else fault_of (acquiring.present at seen))) x ≡ go_on at (λ seen. run l (or_else fault_of (acquiring.present at seen))) x
       present_same at x = go_on_same at _ _ (present_at at) x
-
-  view_same : {B : Type 0} (at : ℕ) (shown : List Shown) (f : List Shown → Object → Objects Fault B) (v : Verdict) → run (veiled k) (verdict_on w at VIEW) ≡ Ok v →
-      ((s : List Shown) (object : Object) → run k (here at) ≡ Ok object → run k (f s object) ≡ run l (f s object)) → run k (viewed taken w shown at f v) ≡ run l (viewed taken w shown at f v)
-  view_same at shown f (verdicts.Granted role) is each = here_same at (f (taken w at role shown)) (same.contents at role is) (each (taken w at role shown))
-  view_same at shown f (verdicts.Denied permission) is each = refl
-
-  offer_same : {B : Type 0} (who : Who) (at : ℕ) (shown : List Shown) (f : List Shown → Bool → Objects Fault B) (v : Verdict) → ((s : List Shown) (granted : Bool) → run k (f s granted) ≡ run l (f s granted)) →
-      run k (offered taken who shown at f v) ≡ run l (offered taken who shown at f v)
-  offer_same who at shown f (verdicts.Granted role) each = each (taken who at role shown) true
-  offer_same who at shown f (verdicts.Denied permission) each = each shown false
-
-  -- contents that a user may not view make no difference to him, in a page that renders nothing inside an object with
-  -- proxy roles
-  pub contents_stay_apart : {A : Type 0} (shown : List Shown) (q : Looks A) → IsOwn w k q → looked k shown q ≡ looked l shown q
-  contents_stay_apart shown (Done x) own = refl
-  contents_stay_apart shown (Stops cause) own = refl
-  contents_stay_apart shown (See at go) own = both (here at) _ _ (λ object is. contents_stay_apart shown (go object) (own object is))
-  contents_stay_apart shown (Reach from at go) own = both (reached from at) _ _ (λ found is. contents_stay_apart shown (go found) (own found is))
-  contents_stay_apart shown (Enter who at go) own = both (verdict_on who at ACCESS_CONTENTS_INFORMATION) _ _ (λ v is. enter_same at (through taken shown go) v (contents_stay_apart shown go own))
-  contents_stay_apart shown (View who at go) own = both (verdict_on who at VIEW) _ _ (λ v is.
-      view_same at shown (λ s object. through taken s (go object)) v (ap (λ u. run (veiled k) (verdict_on u at VIEW)) (sym own.0) ∙ is) (λ s object is. contents_stay_apart s (go object) (own.1 object is)))
-  contents_stay_apart shown (Offer who at go) own = both (verdict_on who at VIEW) _ _ (λ v is.
-      offer_same who at shown (λ s granted. through taken s (go granted)) v (λ s granted. contents_stay_apart s (go granted) (own granted)))

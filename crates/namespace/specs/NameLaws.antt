@@ -16,7 +16,7 @@ use Rattle.namespace.specs.declared.val.Layer.TheVariants as layer
 use Rattle.namespace.specs.declared.word.Word.{Word}
 use Rattle.namespace.specs.declared.word.Word.TheVariants as word
 use Rattle.namespace.specs.Looks.{Looks, Done, Stops, See, Reach, Enter, View, Offer, ◌>>=◌}
-use Rattle.namespace.specs.LookLaws.{IsFor, IsOwn}
+use Rattle.namespace.specs.LookLaws.{IsFor}
 use Rattle.namespace.specs.Names.{Scope, whose, reach_each, seq_of, ids_in, values_in, child_at, property_in, property_or_child, has_property, title_in, title_or_id_in, by_word, word_of, in_one, or_further, searched, in_object, in_layer, in_layers, in_request, in_base, named_for, named}
 
 -- a page and then another are for users of a sort, where both are
@@ -28,16 +28,6 @@ for_then Sort k (Reach w at go) next is each = λ found there. for_then Sort k (
 for_then Sort k (Enter who at go) next is each = (is.0, for_then Sort k go next is.1 each)
 for_then Sort k (View who at go) next is each = (is.0, λ object here. for_then Sort k (go object) next (is.1 object here) each)
 for_then Sort k (Offer who at go) next is each = (is.0, λ granted. for_then Sort k (go granted) next (is.1 granted) each)
-
--- where a page is for one user alone, all its views are that user's own
-pub for_own : {A : Type 0} (w : Who) (k : ℕ → Option (Seen Object)) (q : Looks A) → IsFor (λ user. user ≡ w) k q → IsOwn w k q
-for_own w k (Done x) is = tt
-for_own w k (Stops cause) is = tt
-for_own w k (See at go) is = λ shape here. for_own w k (go shape) (is shape here)
-for_own w k (Reach from at go) is = λ found there. for_own w k (go found) (is found there)
-for_own w k (Enter who at go) is = for_own w k go is.1
-for_own w k (View who at go) is = (is.0, λ object here. for_own w k (go object) (is.1 object here))
-for_own w k (Offer who at go) is = λ granted. for_own w k (go granted) (is.1 granted)
 
 module _ (Sort : Who → Type 0) (k : ℕ → Option (Seen Object)) (who : Who) (of : Sort who) where
   for_each : (whole : List ℕ) (so_far : List Single) (children : List Child) → IsFor Sort k (reach_each whole so_far children)

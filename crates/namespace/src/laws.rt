@@ -5,14 +5,17 @@ ghost use Rattle.zknown.specs.Seen.{Seen};
 ghost use Rattle.evaluator.specs.declared.reply.Shown.{Shown};
 ghost use Rattle.permissions.specs.declared.who.Who.{Who};
 ghost use Rattle.namespace.specs.Looks.{Looks, Use, Unauthorized, looked, looked_by, without_users};
-ghost use Rattle.namespace.specs.LookLaws.{AreGranted, IsDenied, IsFor, IsOneOf, IsOwn, IsShown, Same, Views, forgotten};
+ghost use Rattle.namespace.specs.LookLaws.{IsFor, IsShown, Same, Views, forgotten};
 ghost use Rattle.namespace.specs.Names.{Scope, named, whose};
+ghost use Rattle.namespace.specs.Traces.{AreJudged, Came, IsRefused, ViewsAs, trace};
 
-/// Each object that a page shows was granted to the user of its first use, by the role that is told. `users` numbers the
-/// users of a sort, and the page takes verdicts for these alone.
-pub fn shown_are_granted<I, A>()
-    ensures { (users : I → Who) (known : ℕ → Option (Seen Object)) (before : List Use) (q : Looks A) (x : A × List Use)
-        → IsFor (IsOneOf users) known q → AreGranted (IsOneOf users) known before → looked_by known before q ≡ Ok x → AreGranted (IsOneOf users) known x.1 }
+/// Each look of a page has the verdict that is told to its user. A page that came went on behind each of its looks, since
+/// it was granted or passed over by a `dtml-in` with `skip_unauthorized`; and it shows the first use of each object whose
+/// view some look was granted, with the user of that look and the role.
+pub fn shown_are_granted<A>()
+    ensures judged { (known : ℕ → Option (Seen Object)) (q : Looks A) → AreJudged known (trace known q) }
+    ensures shown { (known : ℕ → Option (Seen Object)) (before : List Use) (q : Looks A) (x : A × List Use)
+        → looked_by known before q ≡ Ok x → Came before (trace known q) x.1 }
 {}
 
 /// What a page shows is the same with the users of the first uses and without them.
@@ -21,11 +24,11 @@ pub fn first_uses_are_shown<A>()
         → looked known (without_users before) q ≡ and_then (looked_by known before q) (λ x. Ok (forgotten x)) }
 {}
 
-/// A page that is refused for want of a permission names an object and a permission that a user of the sort isn't
-/// granted.
-pub fn refusals_are_denied<I, A>()
-    ensures { (users : I → Who) (known : ℕ → Option (Seen Object)) (shown : List Shown) (q : Looks A) (o permission : ℕ)
-        → IsFor (IsOneOf users) known q → looked known shown q ≡ Err (Cause (Unauthorized o permission)) → IsDenied (IsOneOf users) known o permission }
+/// A page that is refused for want of a permission names the object and the permission of its last look, which is the
+/// first that isn't granted and isn't passed over.
+pub fn refusals_are_denied<A>()
+    ensures { (known : ℕ → Option (Seen Object)) (shown : List Shown) (q : Looks A) (o permission : ℕ)
+        → looked known shown q ≡ Err (Cause (Unauthorized o permission)) → IsRefused o permission (trace known q) }
 {}
 
 /// Each object whose contents a page uses is shown.
@@ -34,14 +37,13 @@ pub fn viewed_are_shown<A>()
         → looked known shown q ≡ Ok x → IsShown o x.1 }
 {}
 
-/// Contents that a user may not view make no difference to a page whose views are all the user's own.
+/// Contents that a user may not view make no difference to a page that views each object as that user.
 pub fn contents_stay_apart<A>()
-    ensures { (user : Who) (known other : ℕ → Option (Seen Object)) (shown : List Shown) (q : Looks A) → Same user known other → IsOwn user known q
-        → looked known shown q ≡ looked other shown q }
+    ensures { (user : Who) (known other : ℕ → Option (Seen Object)) (shown : List Shown) (q : Looks A) → Same user known other
+        → ViewsAs user (trace known q) → looked known shown q ≡ looked other shown q }
 {}
 
-/// What a name means in a stack is for the user of its verdicts alone, and all its views are that user's own.
+/// What a name means in a stack is for the user of its verdicts alone.
 pub fn names_are_for_their_user()
-    ensures for_user { (known : ℕ → Option (Seen Object)) (scope : Scope) (name : List ℕ) → IsFor (λ user. user ≡ whose scope) known (named scope name) }
-    ensures own { (known : ℕ → Option (Seen Object)) (scope : Scope) (name : List ℕ) → IsOwn (whose scope) known (named scope name) }
+    ensures { (known : ℕ → Option (Seen Object)) (scope : Scope) (name : List ℕ) → IsFor (λ user. user ≡ whose scope) known (named scope name) }
 {}

@@ -1,4 +1,4 @@
-use Rattle.namespace.specs.LookLaws.{contents_stay_apart}
+use Rattle.namespace.specs.Traces.{contents_stay_apart}
 use Rattle.namespace.proofs.laws.contents_stay_apart.Goals as goal
 
 pub returns : goal.returns

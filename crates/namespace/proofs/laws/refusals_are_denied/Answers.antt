@@ -1,5 +1,5 @@
-use Rattle.namespace.specs.LookLaws.{IsOneOf, denied_rightly}
+use Rattle.namespace.specs.Traces.{trace_refused}
 use Rattle.namespace.proofs.laws.refusals_are_denied.Goals as goal
 
 pub returns : goal.returns
-returns g c = λ users known shown q o permission is e. denied_rightly (IsOneOf users) known o permission shown q is e
+returns g c = λ known shown q o permission e. trace_refused known o permission shown q e

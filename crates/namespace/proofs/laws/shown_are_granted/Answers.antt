@@ -1,5 +1,5 @@
-use Rattle.namespace.specs.LookLaws.{IsOneOf, shown_rightly}
+use Rattle.namespace.specs.Traces.{trace_came, trace_judged}
 use Rattle.namespace.proofs.laws.shown_are_granted.Goals as goal
 
 pub returns : goal.returns
-returns g c = λ users known before q x is are e. shown_rightly (IsOneOf users) known before q x is are e
+returns g c = record { judged = λ known q. trace_judged known q; shown = λ known before q x e. trace_came known before q x e }
