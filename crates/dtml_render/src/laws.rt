@@ -15,45 +15,47 @@ ghost use Rattle.namespace.specs.declared.val.Val.TheVariants.{Seq};
 ghost use Rattle.namespace.specs.Looks.{Looks, Use, Unauthorized, looked, looked_by};
 ghost use Rattle.namespace.specs.GoingOn.{GoesOn};
 ghost use Rattle.namespace.specs.Locating.{Children, located};
-ghost use Rattle.namespace.specs.LookLaws.{AreGranted, IsDenied, IsFor, IsOwn, IsShown, Same, Views};
+ghost use Rattle.namespace.specs.LookLaws.{IsShown, Same, Views};
 ghost use Rattle.namespace.specs.Names.{Scope, act, named, reaching, text, viewing, whose};
+ghost use Rattle.namespace.specs.Traces.{AreGrantedBy, IsAlong, IsIn, ViewsAs, trace, viewed_in};
 ghost use Rattle.dtml_values.specs.Values.{Left};
-ghost use Rattle.dtml_render.specs.Access.{IsActing, NoneHasProxyRoles};
+ghost use Rattle.dtml_render.specs.Access.{HasNoRoles, IsActing, RefusesRightly};
 ghost use Rattle.dtml_render.specs.Rendering.{State, argument, item_scope, object_value, scope_in, source_of, source_text, sourced, state, tree_text};
 ghost use Rattle.dtml_render.specs.Resuming as resuming;
 ghost use Rattle.dtml_render.specs.Resuming.{Ask, Asking, Frame, Opening, Reaching, Rest, StandsIn, Turns, Value, Waiting, after, after_opening, asking, cut, item_opening, may_turn, name_in};
 
-/// A page takes verdicts for the user of its request, for who acts in his place where it begins, and for those alone who
-/// have the proxy roles of an object.
+/// A page looks for the user of its request, for who acts in his place where it begins, and for those alone who have the
+/// proxy roles of an object whose contents it saw before.
 ///
 /// Zope Book, "Users and Security": proxy roles.
 pub fn pages_are_for_their_users()
-    ensures { (known : ℕ → Option (Seen Object)) (renders : ℕ) (scope : Scope) (tree : Items) (left : Left)
-        → IsFor (IsActing known scope) known (tree_text renders scope tree left) }
+    ensures { (known : ℕ → Option (Seen Object)) (renders : ℕ) (objects : List ℕ) (scope : Scope) (tree : Items) (left : Left)
+        → IsAlong (IsActing known scope) known objects (tree_text renders scope tree left) }
 {}
 
 /// Each object that a page shows was granted to the user of its first use, by the role that is told; each object whose
-/// title, source or property a page uses is shown; and a page that is refused for want of a permission names an object
-/// and a permission that isn't granted to its user there.
+/// title, source or property a page uses is shown; and a page that is refused for want of a permission names what wasn't
+/// granted to the user of its last look, where all before was granted or passed over.
 pub fn pages_show_what_is_granted()
     ensures granted { (known : ℕ → Option (Seen Object)) (renders : ℕ) (scope : Scope) (tree : Items) (left : Left) (before : List Use)
-        (x : (List ℕ × Left) × List Use) → AreGranted (IsActing known scope) known before
-        → looked_by known before (tree_text renders scope tree left) ≡ Ok x → AreGranted (IsActing known scope) known x.1 }
+        (x : (List ℕ × Left) × List Use) → AreGrantedBy (IsActing known scope) known [] before
+        → looked_by known before (tree_text renders scope tree left) ≡ Ok x → AreGrantedBy (IsActing known scope) known [] x.1 }
     ensures shown { (known : ℕ → Option (Seen Object)) (renders : ℕ) (scope : Scope) (tree : Items) (left : Left) (o : ℕ) (before : List Shown)
         (x : (List ℕ × Left) × List Shown) → Views known o (tree_text renders scope tree left)
         → looked known before (tree_text renders scope tree left) ≡ Ok x → IsShown o x.1 }
     ensures denied { (known : ℕ → Option (Seen Object)) (renders : ℕ) (scope : Scope) (tree : Items) (left : Left) (before : List Shown)
         (o permission : ℕ) → looked known before (tree_text renders scope tree left) ≡ Err (Cause (Unauthorized o permission))
-        → IsDenied (IsActing known scope) known o permission }
+        → RefusesRightly (IsActing known scope) known o permission (trace known (tree_text renders scope tree left)) }
 {}
 
-/// Where no object has proxy roles, all views of a page are the request's user's own, and contents that he may not view
-/// make no difference to it.
+/// Where no object whose title, source or property a page uses has proxy roles, the page views each as the request's user;
+/// and then contents that he may not view make no difference to it.
 pub fn pages_are_their_users_own()
     ensures own { (known : ℕ → Option (Seen Object)) (renders : ℕ) (scope : Scope) (tree : Items) (left : Left) → scope.acting ≡ None
-        → NoneHasProxyRoles known → IsOwn scope.user known (tree_text renders scope tree left) }
+        → ((o : ℕ) → IsIn o (viewed_in [] (trace known (tree_text renders scope tree left))) → HasNoRoles known o)
+        → ViewsAs scope.user (trace known (tree_text renders scope tree left)) }
     ensures apart { (known other : ℕ → Option (Seen Object)) (renders : ℕ) (scope : Scope) (tree : Items) (left : Left) (before : List Shown)
-        → Same scope.user known other → scope.acting ≡ None → NoneHasProxyRoles known
+        → Same scope.user known other → ViewsAs scope.user (trace known (tree_text renders scope tree left))
         → looked known before (tree_text renders scope tree left) ≡ looked other before (tree_text renders scope tree left) }
 {}
 

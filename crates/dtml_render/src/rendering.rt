@@ -1,12 +1,13 @@
-ghost use Rattle.std.specs.Prelude.{◌≡◌, ℕ, List, Some, IfErr, IfOk};
+ghost use Rattle.std.specs.Prelude.{◌≡◌, ℕ, [], List, Some, Ok, IfErr, IfOk};
 ghost use Rattle.zbase.specs.Query.{Cause};
 ghost use Rattle.zknown.specs.Seen.{objects};
 ghost use Rattle.dtml_parse.specs.Views.{view as tree_view};
-ghost use Rattle.namespace.specs.Looks.{Use, Unauthorized, looked, without_users};
-ghost use Rattle.namespace.specs.LookLaws.{AreGranted, IsDenied, IsShown, Views};
+ghost use Rattle.namespace.specs.Looks.{Use, Unauthorized, looked, looked_by, without_users};
+ghost use Rattle.namespace.specs.LookLaws.{IsShown, Views};
 ghost use Rattle.namespace.specs.Told.{Shows};
+ghost use Rattle.namespace.specs.Traces.{AreGrantedBy, trace};
 ghost use Rattle.dtml_values.specs.Told.{told, left_of, Keeps};
-ghost use Rattle.dtml_render.specs.Access.{IsActing};
+ghost use Rattle.dtml_render.specs.Access.{IsActing, RefusesRightly};
 ghost use Rattle.dtml_render.specs.Rendering as rendering;
 
 use crate::asking::cut;
@@ -25,8 +26,9 @@ use zbase::Text;
 ///
 /// Each object whose title, source or property the page used is shown. Each that is shown was granted to the user of its
 /// first use, by the role that is told: to the user of the verdicts where the page begins, to the request's user, or to
-/// someone with the proxy roles of an object. A refusal for want of a permission names an object and a permission that
-/// isn't granted to such a user there.
+/// someone with the proxy roles of an object that was shown before. A refusal for want of a permission names an object and
+/// a permission that isn't granted to the user of the page's last look, who is such a one; what the page looked at before
+/// was granted, or passed over by a `dtml-in` with `skip_unauthorized`.
 ///
 /// Zope Book, appendix "DTML Reference"; "Users and Security".
 pub fn render(
@@ -42,11 +44,13 @@ pub fn render(
         → Views (objects stack.old.known) o (rendering.tree_text budget.old.renders stack.old.scope (tree_view tree.now) (left_of budget.old))
         → IfOk result (λ t. IsShown o stack.new.shown) }
     ensures granted { (before : List Use) → stack.old.shown ≡ without_users before
-        → AreGranted (IsActing (objects stack.old.known) stack.old.scope) (objects stack.old.known) before
-        → IfOk result (λ t. (uses : List Use) × (stack.new.shown ≡ without_users uses)
-        × AreGranted (IsActing (objects stack.old.known) stack.old.scope) (objects stack.old.known) uses) }
+        → AreGrantedBy (IsActing (objects stack.old.known) stack.old.scope) (objects stack.old.known) [] before
+        → IfOk result (λ t. (uses : List Use) × (looked_by (objects stack.old.known) before
+        (rendering.tree_text budget.old.renders stack.old.scope (tree_view tree.now) (left_of budget.old)) ≡ Ok ((t, left_of budget.new), uses))
+        × (stack.new.shown ≡ without_users uses) × AreGrantedBy (IsActing (objects stack.old.known) stack.old.scope) (objects stack.old.known) [] uses) }
     ensures denied { (o permission : ℕ) → IfErr result (λ e. told e ≡ Some (Cause (Unauthorized o permission))
-        → IsDenied (IsActing (objects stack.old.known) stack.old.scope) (objects stack.old.known) o permission) }
+        → RefusesRightly (IsActing (objects stack.old.known) stack.old.scope) (objects stack.old.known) o permission
+        (trace (objects stack.old.known) (rendering.tree_text budget.old.renders stack.old.scope (tree_view tree.now) (left_of budget.old)))) }
 {
     let acting = stack.acting()?;
     let depth = stack.depth();
