@@ -28,16 +28,16 @@ use Rattle.manage.specs.declared.changes.Called.{Called}
 use Rattle.manage.specs.declared.changes.Called.TheVariants as called_as
 use Rattle.manage.specs.Calling.{permission_at, present}
 use Rattle.manage.specs.Changing.{called_by, change}
-use Rattle.namespace.specs.LookLaws.{Same, contents_stay_apart, run_veiled}
+use Rattle.namespace.specs.LookLaws.{Same, run_veiled}
 use Rattle.namespace.specs.Looks.{looked, taken, through, veiled, view}
 use Rattle.namespace.specs.Requests.{request_names}
+use Rattle.namespace.specs.Traces.{ViewsAs, contents_stay_apart, trace}
 use Rattle.traverse.specs.declared.target.Target.{Target}
 use Rattle.traverse.specs.declared.target.Target.TheVariants as targets
 use Rattle.traverse.specs.Publishing.{published}
-use Rattle.dtml_render.specs.Access.{NoneHasProxyRoles}
 use Rattle.publisher.specs.declared.answer.Answer.{Answer}
 use Rattle.publisher.specs.declared.answer.Answer.TheVariants as answer
-use Rattle.publisher.specs.Access.{ContentsStayApart, GrantsCall, IsPageFor, IsTargetFor, objects_in}
+use Rattle.publisher.specs.Access.{ContentsStayApart, GrantsCall, IsPageFor, IsTargetFor, objects_in, page_of}
 use Rattle.publisher.specs.Comes.{history_tells, made_of, over_history_comes, reworded, run_reworded, within_or}
 use Rattle.publisher.specs.Faults as faults
 use Rattle.publisher.specs.Faults.{Fault, by_shapes, or_stops}
@@ -45,11 +45,10 @@ use Rattle.publisher.specs.Pages.{page_text}
 use Rattle.publisher.specs.Replies.{by_verb, log_reply, runaway_facts}
 use Rattle.publisher.specs.Site.{answer_of, answered, authorization, bad_credentials, call_on, call_with, called, change_by, change_for, changed, over_history, page, page_for, rows_told, scope_answer, request, shown_page, where_granted, with_credentials, with_fields}
 use Rattle.publisher.specs.Ways.{Any, ComesTo}
-use Rattle.publisher.proofs.ForUsers.{AreOwn, page_own}
 use Rattle.publisher.specs.Backwards.{shapes_came, stops_came}
 use Rattle.publisher.specs.Granting.{request_grants}
 
-module _ (own : AreOwn) (w : Who) (k l : ℕ → Option (Seen Object)) (same : Same w k l) (none : NoneHasProxyRoles k) (q : Request) where
+module _ (w : Who) (k l : ℕ → Option (Seen Object)) (same : Same w k l) (q : Request) where
   both : {A B : Type 0} (p : Objects Fault A) (f g : A → Objects Fault B) → run k p ≡ run l p → ((x : A) → run k p ≡ Ok x → run k (f x) ≡ run l (g x)) → run k (p >>> f) ≡ run l (p >>> g)
   both p f g e each = run_then k p f ∙ and_same (run k p) (run l p) (λ x. run k (f x)) (λ x. run l (g x)) e each ∙ sym (run_then l p g)
     where
@@ -68,15 +67,15 @@ module _ (own : AreOwn) (w : Who) (k l : ℕ → Option (Seen Object)) (same : S
   stops_same reword (Err c) = refl
 
   page_same : (fields : List Field) (credentials : Option Credentials) (object client : List ℕ) → ((user : Who) → run (veiled k) (who credentials (first object) view) ≡ Ok user → user ≡ w) →
-      run k (page q fields credentials (first object) client) ≡ run l (page q fields credentials (first object) client)
+      ViewsAs w (trace k (page_of q fields w (first object) client)) → run k (page q fields credentials (first object) client) ≡ run l (page q fields credentials (first object) client)
   unfolding page scope_answer
-  page_same fields credentials object client only =
+  page_same fields credentials object client only own =
       both (by_shapes faults.User (who credentials (first object) view)) (page_for q fields (first object) client) (page_for q fields (first object) client) (shapes_same faults.User (who credentials (first object) view))
       (λ user is. at user (only user (shapes_came k faults.User (who credentials (first object) view) user is)))
     where
       text_same : (user : Who) → user ≡ w → looked k [] (page_text user (first object) client (request_names q user fields (cookies_of q))) ≡ looked l [] (page_text user (first object) client (request_names q user fields (cookies_of q)))
       text_same user is = subst (λ (u : Who). looked k [] (page_text u (first object) client (request_names q u fields (cookies_of q))) ≡ looked l [] (page_text u (first object) client (request_names q u fields (cookies_of q)))) (sym is)
-          (contents_stay_apart w k l same [] (page_text w (first object) client (request_names q w fields (cookies_of q))) (page_own own k w (first object) client (request_names q w fields (cookies_of q)) none))
+          (contents_stay_apart w k l same [] (page_of q fields w (first object) client) own)
 
       at : (user : Who) → user ≡ w → run k (page_for q fields (first object) client user) ≡ run l (page_for q fields (first object) client user)
       at user is =
@@ -125,8 +124,8 @@ module _ (own : AreOwn) (w : Who) (k l : ℕ → Option (Seen Object)) (same : S
       both (by_shapes faults.User (verdict_on user o permission)) (where_granted o permission (change_by q fields calls.ListTransactions o user)) (where_granted o permission (change_by q fields calls.ListTransactions o user)) (shapes_same faults.User (verdict_on user o permission)) (λ v told.
       granted_same o permission (change_by q fields calls.ListTransactions o user) (change_by q fields calls.ListTransactions o user) v (list_by_same fields o user))))
 
-  answered_same : (fields : List Field) (credentials : Option Credentials) (target : Target) → IsTargetFor w k credentials target → run k (answered q fields credentials target) ≡ run l (answered q fields credentials target)
-  answered_same fields credentials (targets.Page object client) is = page_same fields credentials object client is
+  answered_same : (fields : List Field) (credentials : Option Credentials) (target : Target) → IsTargetFor w k q fields credentials target → run k (answered q fields credentials target) ≡ run l (answered q fields credentials target)
+  answered_same fields credentials (targets.Page object client) is = page_same fields credentials object client is.0 is.1
   answered_same fields credentials (targets.Call name on) is =
       ap (λ c. run k (called q fields credentials name (first on) c)) is ∙ listed_same fields credentials (first on) ∙ sym (ap (λ c. run l (called q fields credentials name (first on) c)) is)
 
@@ -136,7 +135,7 @@ module _ (own : AreOwn) (w : Who) (k l : ℕ → Option (Seen Object)) (same : S
       both (or_stops faults.NotANumber (fields_of q)) (with_fields q) (with_fields q) (stops_same faults.NotANumber (fields_of q)) (λ fields read.
       both (or_stops bad_credentials (credentials_of (authorization q))) (with_credentials q fields) (with_credentials q fields) (stops_same bad_credentials (credentials_of (authorization q))) (λ credentials carried.
       both (by_shapes faults.Path (published q.path)) (answered q fields credentials) (answered q fields credentials) (shapes_same faults.Path (published q.path)) (λ target came.
-      answered_same fields credentials target (is credentials target (stops_came k bad_credentials (credentials_of (authorization q)) credentials carried) (shapes_came k faults.Path (published q.path) target came)))))
+      answered_same fields credentials target (is fields credentials target (stops_came k faults.NotANumber (fields_of q) fields read) (stops_came k bad_credentials (credentials_of (authorization q)) credentials carried) (shapes_came k faults.Path (published q.path) target came)))))
 
 -- an answer to a request for a page or the log
 abbrev RestsOnLog : Answer → Type 0
@@ -161,7 +160,7 @@ lists_made k o fields made e = at (k o) e
 
 lists_only : (w : Who) (k : ℕ → Option (Seen Object)) (q : Request) (user : Who) (made : Called) → IsPageFor w k q → GrantsCall k q user made → made ≡ called_as.Lists
 lists_only w k q user made is g =
-    let named = is g.credentials (targets.Call g.name g.on) g.carried g.target in
+    let named = is g.fields g.credentials (targets.Call g.name g.on) g.read g.carried g.target in
     let same : g.call ≡ calls.ListTransactions = (let both : Some g.call ≡ Some calls.ListTransactions = sym g.named ∙ named in cc) in
     lists_made k (first g.on) g.fields made (subst (λ (c : Call). run k (change c (first g.on) g.fields) ≡ Ok made) same g.called)
 
@@ -185,15 +184,15 @@ made_same h1 h2 q (Ok answer.Log) logs rests = ap (λ (f : Fact). listed_result 
 made_same h1 h2 q (Err (Need o)) logs rests = refl
 made_same h1 h2 q (Err (Cause f)) logs rests = refl
 
-pub stay_apart : AreOwn → ContentsStayApart
-stay_apart own w h1 h2 q same logs none is first_goes second_goes = elim (within_or runaway (in_history h1) (over_history q) (history_tells h1)) [
+pub stay_apart : ContentsStayApart
+stay_apart h1 h2 q logs first_goes second_goes w same is = elim (within_or runaway (in_history h1) (over_history q) (history_tells h1)) [
   | inl runs ↦ absurd (first_goes (ap outcome runs))
   | inr first ↦ elim (within_or runaway (in_history h2) (over_history q) (history_tells h2)) [
     | inl runs ↦ absurd (second_goes (ap outcome runs))
     | inr second ↦
         ap outcome (first ∙ over_history_comes (in_history h1) q)
-        ∙ ap (λ r. outcome (made_of (in_history h1) q (as_ask r))) (request_same own w (objects_in h1) (objects_in h2) same none q is)
-        ∙ ap outcome (made_same h1 h2 q (run (objects_in h2) (request q)) logs (subst (ComesTo (λ (f : Fault). Any f) RestsOnLog) (request_same own w (objects_in h1) (objects_in h2) same none q is) (rests_at w (objects_in h1) q (run (objects_in h1) (request q)) is refl)))
+        ∙ ap (λ r. outcome (made_of (in_history h1) q (as_ask r))) (request_same w (objects_in h1) (objects_in h2) same q is)
+        ∙ ap outcome (made_same h1 h2 q (run (objects_in h2) (request q)) logs (subst (ComesTo (λ (f : Fault). Any f) RestsOnLog) (request_same w (objects_in h1) (objects_in h2) same q is) (rests_at w (objects_in h1) q (run (objects_in h1) (request q)) is refl)))
         ∙ sym (ap outcome (second ∙ over_history_comes (in_history h2) q))
   ]
 ]

@@ -29,18 +29,19 @@ use Rattle.manage.specs.declared.refusal.ManageRefusal.TheVariants as refusals
 use Rattle.manage.specs.Calling.{permission_at}
 use Rattle.manage.specs.Calls.{call_named}
 use Rattle.manage.specs.Changing.{change}
-use Rattle.namespace.specs.LookLaws.{denied_rightly}
 use Rattle.namespace.specs.Looks as looks
 use Rattle.namespace.specs.Looks.{Looks, Unauthorized, looked, taken, through, veiled, view}
 use Rattle.namespace.specs.Requests.{request_names}
+use Rattle.namespace.specs.Traces.{trace, trace_judged, trace_of, trace_refused}
 use Rattle.traverse.specs.declared.target.Target.{Target}
 use Rattle.traverse.specs.declared.target.Target.TheVariants as targets
 use Rattle.traverse.specs.Publishing as publishing
 use Rattle.traverse.specs.Publishing.{published}
 use Rattle.dtml_values.specs.Values.{Left}
+use Rattle.dtml_render.specs.Access.{RefusesRightly}
 use Rattle.publisher.specs.declared.answer.Answer.{Answer}
 use Rattle.publisher.specs.declared.answer.Answer.TheVariants as answer
-use Rattle.publisher.specs.Access.{IsDeniedTo, IsItsUser, IsOfPage, RefusalsAreDenied, shown_by}
+use Rattle.publisher.specs.Access.{DeniesCall, DeniesRightly, IsOfPage, RefusalsAreDenied, shown_by}
 use Rattle.publisher.specs.Comes.{made_of, over_history_comes, reworded, run_reworded, within_or}
 use Rattle.publisher.specs.Faults as faults
 use Rattle.publisher.specs.Faults.{Fault, by_shapes, or_stops}
@@ -83,7 +84,7 @@ call_silent (refusals.UndoChanged o) = refl
 
 module _ (all : AreForUsers) (k : ℕ → Option (Seen Object)) (q : Request) (d : Denial) where
   abbrev Rightly : Type 0
-  Rightly = (user : Who) × IsItsUser k q user × IsDeniedTo k user d
+  Rightly = DeniesRightly k q d
 
   abbrev denies : Fault → Type 0
   denies f = (fault_reply f).denied ≡ Some d
@@ -104,19 +105,16 @@ module _ (all : AreForUsers) (k : ℕ → Option (Seen Object)) (q : Request) (d
   denial_is : (o p : ℕ) → ◌≡◌ {A = Option Denial} (Some (record { oid = o; permission = p })) (Some d) → ◌≡◌ {A = Denial} (record { oid = o; permission = p }) d
   denial_is o p e = cc
 
-  page_denied : (fields : List Field) (credentials : Option Credentials) (object client : List ℕ) (f : Fault) → credentials_of (authorization q) ≡ Ok credentials →
-      run k (page q fields credentials (first object) client) ≡ Err (Cause f) → denies f → Rightly
+  page_denied : (fields : List Field) (credentials : Option Credentials) (object client : List ℕ) (f : Fault) → fields_of q ≡ Ok fields → credentials_of (authorization q) ≡ Ok credentials →
+      run (veiled k) (published q.path) ≡ Ok (targets.Page object client) → run k (page q fields credentials (first object) client) ≡ Err (Cause f) → denies f → Rightly
   unfolding page scope_answer
-  page_denied fields credentials object client f carried e d_is = elim (stopped k (by_shapes faults.User (who credentials (first object) view)) (page_for q fields (first object) client) (Cause f) e) [
+  page_denied fields credentials object client f read carried target e d_is = elim (stopped k (by_shapes faults.User (who credentials (first object) view)) (page_for q fields (first object) client) (Cause f) e) [
     | inl early ↦ absurd (shapes_silent faults.User (who credentials (first object) view) f user_silent early d_is)
     | inr user ↦ shown user.0 (shapes_came k faults.User (who credentials (first object) view) user.0 user.1) (stopped k (or_else faults.Page (through taken [] (Text user.0))) shown_page (Cause f) user.2)
   ]
     where
       Text : Who → Looks (List ℕ × Left)
       Text user = page_text user (first object) client (request_names q user fields (cookies_of q))
-
-      its : (user : Who) → run (veiled k) (who credentials (first object) view) ≡ Ok user → IsItsUser k q user
-      its user is = (credentials, first object, view, carried, is)
 
       fault_is : (g : Fault) → ◌≡◌ {A = Result ((List ℕ × Left) × List Shown) (Halt ℕ Fault)} (Err (Cause g)) (Err (Cause f)) → g ≡ f
       fault_is g e' = cc
@@ -129,8 +127,20 @@ module _ (all : AreForUsers) (k : ℕ → Option (Seen Object)) (q : Request) (d
       by_fault user is (looks.Of (looks.Runaway limit)) at d' = absurd (none_is d d')
       by_fault user is (looks.Of (looks.BadSource o c)) at d' = absurd (none_is d d')
       by_fault user is (looks.Unauthorized o p) at d' =
-          let denied = denied_rightly (IsOfPage k user) k o p [] (Text user) (page_for_users all k user (first object) client (request_names q user fields (cookies_of q))) at in
-          (user, its user is, subst (λ (x : Denial). IsDeniedTo k user x) (denial_is o p d') denied)
+          let text = Text user in
+          let refused : RefusesRightly (IsOfPage k user) k o p (trace k text) = record {
+            refused = trace_refused k o p [] text at;
+            judged = trace_judged k text;
+            users = trace_of (IsOfPage k user) k [] text (page_for_users all k user (first object) client (request_names q user fields (cookies_of q)));
+          } in
+          inl (record {
+            o = first object;
+            client = client;
+            fields = fields;
+            user = user;
+            publishes = record { read = read; credentials = credentials; carried = carried; object = object; is_object = refl; target = target; is_user = is };
+            refused = subst (λ (x : Denial). RefusesRightly (IsOfPage k user) k x.oid x.permission (trace k text)) (denial_is o p d') refused;
+          })
 
       at_page : (user : Who) → run (veiled k) (who credentials (first object) view) ≡ Ok user → (r : Result ((List ℕ × Left) × List Shown) (Halt ℕ looks.Fault)) → looked k [] (Text user) ≡ r → reworded faults.Page r ≡ Err (Cause f) → Rightly
       at_page user is (Ok x) at e' = absurd (let bad = e' in cc)
@@ -142,19 +152,20 @@ module _ (all : AreForUsers) (k : ℕ → Option (Seen Object)) (q : Request) (d
       shown user is (inl at) = at_page user is (looked k [] (Text user)) refl (sym (run_reworded k faults.Page (through taken [] (Text user))) ∙ at)
       shown user is (inr x) = absurd (let bad = x.2 in cc)
 
-  call_denied : (fields : List Field) (credentials : Option Credentials) (call : Call) (o : ℕ) (f : Fault) → credentials_of (authorization q) ≡ Ok credentials → run k (call_on q fields credentials call o) ≡ Err (Cause f) → denies f → Rightly
+  call_denied : (fields : List Field) (credentials : Option Credentials) (name on : List ℕ) (call : Call) (f : Fault) → fields_of q ≡ Ok fields → credentials_of (authorization q) ≡ Ok credentials →
+      run (veiled k) (published q.path) ≡ Ok (targets.Call name on) → call_named name ≡ Some call → run k (call_on q fields credentials call (first on)) ≡ Err (Cause f) → denies f → Rightly
   unfolding call_on call_with change_for change_by
-  call_denied fields credentials call o f carried e d_is = elim (stopped k (by_shapes faults.Call (permission_at call q.method o)) (call_with q fields credentials call o) (Cause f) e) [
-    | inl early ↦ absurd (shapes_silent faults.Call (permission_at call q.method o) f call_silent early d_is)
-    | inr permission ↦ with_user permission.0 (stopped k (by_shapes faults.User (who credentials o permission.0)) (change_for q fields call o permission.0) (Cause f) permission.2)
+  call_denied fields credentials name on call f read carried target named e d_is = elim (stopped k (by_shapes faults.Call (permission_at call q.method (first on))) (call_with q fields credentials call (first on)) (Cause f) e) [
+    | inl early ↦ absurd (shapes_silent faults.Call (permission_at call q.method (first on)) f call_silent early d_is)
+    | inr permission ↦ with_user permission.0 (shapes_came k faults.Call (permission_at call q.method (first on)) permission.0 permission.1) (stopped k (by_shapes faults.User (who credentials (first on) permission.0)) (change_for q fields call (first on) permission.0) (Cause f) permission.2)
   ]
     where
       fault_is : (g : Fault) → ◌≡◌ {A = Result Answer (Halt ℕ Fault)} (Err (Cause g)) (Err (Cause f)) → g ≡ f
       fault_is g e' = cc
 
-      no_change : (user : Who) → run k (change_by q fields call o user) ≡ Err (Cause f) → ⊥
-      no_change user e' = elim (stopped k (or_else faults.Call (change call o fields)) (changed q user) (Cause f) e') [
-        | inl early ↦ of_call (run k (change call o fields)) (sym (run_reworded k faults.Call (change call o fields)) ∙ early)
+      no_change : (user : Who) → run k (change_by q fields call (first on) user) ≡ Err (Cause f) → ⊥
+      no_change user e' = elim (stopped k (or_else faults.Call (change call (first on) fields)) (changed q user) (Cause f) e') [
+        | inl early ↦ of_call (run k (change call (first on) fields)) (sym (run_reworded k faults.Call (change call (first on) fields)) ∙ early)
         | inr done ↦ (let bad = done.2 in cc)
       ]
         where
@@ -166,34 +177,56 @@ module _ (all : AreForUsers) (k : ℕ → Option (Seen Object)) (q : Request) (d
               same : (g : Fault) → ◌≡◌ {A = Result A (Halt ℕ Fault)} (Err (Cause g)) (Err (Cause f)) → g ≡ f
               same g e'' = cc
 
-      at_verdict : (permission : ℕ) (user : Who) (v : Verdict) → run (veiled k) (who credentials o permission) ≡ Ok user → run (veiled k) (verdict_on user o permission) ≡ Ok v → run k (where_granted o permission (change_by q fields call o user) v) ≡ Err (Cause f) → Rightly
-      at_verdict permission user (verdicts.Granted role) is judged e' = absurd (no_change user e')
-      at_verdict permission user (verdicts.Denied p) is judged e' =
-          let same = denial_is o permission (ap (λ (g : Fault). (fault_reply g).denied) (fault_is (faults.Denied o permission) e') ∙ d_is) in
-          (user, (credentials, o, permission, carried, is), subst (λ (x : Denial). IsDeniedTo k user x) same (user, inl refl, p, judged))
+      denied_there : (permission : ℕ) (user : Who) (p : ℕ) → run (veiled k) (permission_at call q.method (first on)) ≡ Ok permission → run (veiled k) (who credentials (first on) permission) ≡ Ok user →
+          run (veiled k) (verdict_on user (first on) permission) ≡ Ok (verdicts.Denied p) → DeniesCall k q (record { oid = first on; permission = permission })
+      denied_there permission user p needed is judged = record {
+        fields = fields;
+        read = read;
+        credentials = credentials;
+        carried = carried;
+        name = name;
+        on = on;
+        target = target;
+        is_object = refl;
+        call = call;
+        named = named;
+        needed = needed;
+        user = user;
+        is_user = is;
+        permission = p;
+        denied = judged;
+      }
 
-      with_verdict : (permission : ℕ) (user : Who) → run (veiled k) (who credentials o permission) ≡ Ok user →
-          (run k (by_shapes faults.User (verdict_on user o permission)) ≡ Err (Cause f)) ⊎ ((v : Verdict) × (run k (by_shapes faults.User (verdict_on user o permission)) ≡ Ok v) × (run k (where_granted o permission (change_by q fields call o user) v) ≡ Err (Cause f))) → Rightly
-      with_verdict permission user is (inl early) = absurd (shapes_silent faults.User (verdict_on user o permission) f user_silent early d_is)
-      with_verdict permission user is (inr v) = at_verdict permission user v.0 is (shapes_came k faults.User (verdict_on user o permission) v.0 v.1) v.2
+      at_verdict : (permission : ℕ) (user : Who) (v : Verdict) → run (veiled k) (permission_at call q.method (first on)) ≡ Ok permission → run (veiled k) (who credentials (first on) permission) ≡ Ok user → run (veiled k) (verdict_on user (first on) permission) ≡ Ok v →
+          run k (where_granted (first on) permission (change_by q fields call (first on) user) v) ≡ Err (Cause f) → Rightly
+      at_verdict permission user (verdicts.Granted role) needed is judged e' = absurd (no_change user e')
+      at_verdict permission user (verdicts.Denied p) needed is judged e' =
+          let same = denial_is (first on) permission (ap (λ (g : Fault). (fault_reply g).denied) (fault_is (faults.Denied (first on) permission) e') ∙ d_is) in
+          inr (subst (DeniesCall k q) same (denied_there permission user p needed is judged))
 
-      with_user : (permission : ℕ) →
-          (run k (by_shapes faults.User (who credentials o permission)) ≡ Err (Cause f)) ⊎ ((user : Who) × (run k (by_shapes faults.User (who credentials o permission)) ≡ Ok user) × (run k (change_for q fields call o permission user) ≡ Err (Cause f))) → Rightly
-      with_user permission (inl early) = absurd (shapes_silent faults.User (who credentials o permission) f user_silent early d_is)
-      with_user permission (inr user) =
-          with_verdict permission user.0 (shapes_came k faults.User (who credentials o permission) user.0 user.1)
-          (stopped k (by_shapes faults.User (verdict_on user.0 o permission)) (where_granted o permission (change_by q fields call o user.0)) (Cause f) user.2)
+      with_verdict : (permission : ℕ) (user : Who) → run (veiled k) (permission_at call q.method (first on)) ≡ Ok permission → run (veiled k) (who credentials (first on) permission) ≡ Ok user →
+          (run k (by_shapes faults.User (verdict_on user (first on) permission)) ≡ Err (Cause f)) ⊎ ((v : Verdict) × (run k (by_shapes faults.User (verdict_on user (first on) permission)) ≡ Ok v) × (run k (where_granted (first on) permission (change_by q fields call (first on) user) v) ≡ Err (Cause f))) → Rightly
+      with_verdict permission user needed is (inl early) = absurd (shapes_silent faults.User (verdict_on user (first on) permission) f user_silent early d_is)
+      with_verdict permission user needed is (inr v) = at_verdict permission user v.0 needed is (shapes_came k faults.User (verdict_on user (first on) permission) v.0 v.1) v.2
 
-  answered_denied : (fields : List Field) (credentials : Option Credentials) (target : Target) (f : Fault) → credentials_of (authorization q) ≡ Ok credentials → run k (answered q fields credentials target) ≡ Err (Cause f) → denies f → Rightly
-  answered_denied fields credentials (targets.Page object client) f carried e d_is = page_denied fields credentials object client f carried e d_is
-  answered_denied fields credentials (targets.Call name on) f carried e d_is = at (call_named name) e
+      with_user : (permission : ℕ) → run (veiled k) (permission_at call q.method (first on)) ≡ Ok permission →
+          (run k (by_shapes faults.User (who credentials (first on) permission)) ≡ Err (Cause f)) ⊎ ((user : Who) × (run k (by_shapes faults.User (who credentials (first on) permission)) ≡ Ok user) × (run k (change_for q fields call (first on) permission user) ≡ Err (Cause f))) → Rightly
+      with_user permission needed (inl early) = absurd (shapes_silent faults.User (who credentials (first on) permission) f user_silent early d_is)
+      with_user permission needed (inr user) =
+          with_verdict permission user.0 needed (shapes_came k faults.User (who credentials (first on) permission) user.0 user.1)
+          (stopped k (by_shapes faults.User (verdict_on user.0 (first on) permission)) (where_granted (first on) permission (change_by q fields call (first on) user.0)) (Cause f) user.2)
+
+  answered_denied : (fields : List Field) (credentials : Option Credentials) (target : Target) (f : Fault) → fields_of q ≡ Ok fields → credentials_of (authorization q) ≡ Ok credentials →
+      run (veiled k) (published q.path) ≡ Ok target → run k (answered q fields credentials target) ≡ Err (Cause f) → denies f → Rightly
+  answered_denied fields credentials (targets.Page object client) f read carried target e d_is = page_denied fields credentials object client f read carried target e d_is
+  answered_denied fields credentials (targets.Call name on) f read carried target e d_is = at (call_named name) refl e
     where
       fault_is : (g : Fault) → ◌≡◌ {A = Result Answer (Halt ℕ Fault)} (Err (Cause g)) (Err (Cause f)) → g ≡ f
       fault_is g e' = cc
 
-      at : (call : Option Call) → run k (called q fields credentials name (first on) call) ≡ Err (Cause f) → Rightly
-      at None e' = absurd (none_is d (ap (λ (g : Fault). (fault_reply g).denied) (fault_is (faults.Path (publishing.NotFound name)) e') ∙ d_is))
-      at (Some call) e' = call_denied fields credentials call (first on) f carried e' d_is
+      at : (call : Option Call) → call_named name ≡ call → run k (called q fields credentials name (first on) call) ≡ Err (Cause f) → Rightly
+      at None named e' = absurd (none_is d (ap (λ (g : Fault). (fault_reply g).denied) (fault_is (faults.Path (publishing.NotFound name)) e') ∙ d_is))
+      at (Some call) named e' = call_denied fields credentials name on call f read carried target named e' d_is
 
   request_denied : (f : Fault) → run k (request q) ≡ Err (Cause f) → denies f → Rightly
   unfolding request with_fields with_credentials
@@ -203,7 +236,9 @@ module _ (all : AreForUsers) (k : ℕ → Option (Seen Object)) (q : Request) (d
       | inl early ↦ absurd (stops_silent bad_credentials (credentials_of (authorization q)) f (λ c. refl) early d_is)
       | inr credentials ↦ elim (stopped k (by_shapes faults.Path (published q.path)) (answered q fields.0 credentials.0) (Cause f) credentials.2) [
         | inl early ↦ absurd (shapes_silent faults.Path (published q.path) f path_silent early d_is)
-        | inr target ↦ answered_denied fields.0 credentials.0 target.0 f (stops_came k bad_credentials (credentials_of (authorization q)) credentials.0 credentials.1) target.2 d_is
+        | inr target ↦
+            answered_denied fields.0 credentials.0 target.0 f (stops_came k faults.NotANumber (fields_of q) fields.0 fields.1) (stops_came k bad_credentials (credentials_of (authorization q)) credentials.0 credentials.1)
+            (shapes_came k faults.Path (published q.path) target.0 target.1) target.2 d_is
       ]
     ]
   ]
@@ -245,7 +280,7 @@ log_denies known q x None e = absurd (let bad = e in cc)
 log_denies known q x (Some f) e = sym (ap (λ (z : Reply). z.denied) (answer_is (by_verb q.method (log_reply (rows_told f))) x e))
 
 denied_at : AreForUsers → (known : Ask → Option Fact) (k : ℕ → Option (Seen Object)) (q : Request) (x : Reply) (d : Denial) (r : Result Answer (Halt ℕ Fault)) → run k (request q) ≡ r → outcome (made_of known q (as_ask r)) ≡ Outcome.Answer x → x.denied ≡ Some d →
-    (user : Who) × IsItsUser k q user × IsDeniedTo k user d
+    DeniesRightly k q d
 denied_at all known k q x d (Ok (answer.Page y)) is e d_is = absurd (none_is d (sym (no_denial k q y is) ∙ ap (λ (z : Reply). z.denied) (answer_is (by_verb q.method y) x e) ∙ d_is))
 denied_at all known k q x d (Ok (answer.Change y c)) is e d_is = absurd (let bad = e in cc)
 denied_at all known k q x d (Ok (answer.Undo user t)) is e d_is = absurd (none_is d (sym (undo_denies known q user t x e) ∙ d_is))

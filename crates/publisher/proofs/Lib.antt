@@ -2,7 +2,9 @@ mod Steps
 mod ForUsers
 mod Showing
 mod Denying
+mod Naming
 mod Apart
+mod WrongAnswers
 mod Learning
 mod PageSteps
 mod Stages

@@ -1,6 +1,5 @@
 -- What a page shows.
 use Rattle.std.proofs.Common.{ℕ, ◌≡◌, ◌∙◌, ◌⊎◌, ◌==◌, inl, inr, refl, eq-eqb, sym, ap, subst, Bool, true, false, List, [], ◌∷◌, Option, Some, None, Result, Ok, Err}
-use Rattle.std.specs.List.{AllByRecursion}
 use Rattle.zbase.specs.Query.{run, go_on, or_else, Halt, Need, Cause}
 use Rattle.zobject.specs.declared.object.Object.{Object}
 use Rattle.zknown.specs.Seen.{Seen}
@@ -24,11 +23,11 @@ use Rattle.manage.specs.declared.call.Call.{Call}
 use Rattle.manage.specs.declared.refusal.ManageRefusal.{ManageRefusal}
 use Rattle.manage.specs.declared.refusal.ManageRefusal.TheVariants as refusals
 use Rattle.manage.specs.Calls.{call_named}
-use Rattle.namespace.specs.declared.val.Named.{Named}
-use Rattle.namespace.specs.LookLaws.{AreGranted, IsShown, forgotten, looked_forgets, shown_rightly, viewed_is_shown}
+use Rattle.namespace.specs.LookLaws.{IsShown, forgotten, looked_forgets, viewed_is_shown}
 use Rattle.namespace.specs.Looks as looks
-use Rattle.namespace.specs.Looks.{Use, Unauthorized, looked, looked_by, taken, through, veiled, view, without_users}
+use Rattle.namespace.specs.Looks.{Looks, Use, Unauthorized, looked, looked_by, taken, through, veiled, view, without_users}
 use Rattle.namespace.specs.Requests.{request_names}
+use Rattle.namespace.specs.Traces.{uses_granted}
 use Rattle.traverse.specs.declared.target.Target.{Target}
 use Rattle.traverse.specs.declared.target.Target.TheVariants as targets
 use Rattle.traverse.specs.Publishing as publishing
@@ -36,35 +35,32 @@ use Rattle.traverse.specs.Publishing.{published}
 use Rattle.dtml_values.specs.Values.{Left}
 use Rattle.publisher.specs.declared.answer.Answer.{Answer}
 use Rattle.publisher.specs.declared.answer.Answer.TheVariants as answer
-use Rattle.publisher.specs.Access.{IsGrantedTo, IsOfPage, ListsRightly, PagesShowRightly, ShowsRightly, shown_by}
+use Rattle.publisher.specs.Access.{IsOfPage, ListsRightly, PagesShowRightly, ShowsRightly, shown_by}
 use Rattle.publisher.specs.Comes.{Tells, made_of, over_history_comes, within_or}
 use Rattle.publisher.specs.Faults as faults
 use Rattle.publisher.specs.Faults.{Fault, by_shapes, or_stops}
 use Rattle.publisher.specs.Pages.{page_text}
 use Rattle.publisher.specs.Replies.{by_verb, fault_reply, log_reply, page_reply, runaway_facts}
 use Rattle.publisher.specs.Site.{answered, authorization, bad_credentials, call_on, called, finished, listed, over_history, page, page_for, refused_by, scope_answer, undo_by, request, shown_page, with_credentials, with_fields}
-use Rattle.publisher.proofs.ForUsers.{AreForUsers, page_for_users}
+use Rattle.publisher.proofs.ForUsers.{AreForUsers, page_for_users, page_stays}
 use Rattle.publisher.specs.Backwards.{and_ok, answer_is, calls_change, came, no_page, page_came, shapes_came, stops_came, undo_answers}
 use Rattle.publisher.specs.Granting.{log_granted}
 
 -- ---- what a page shows
 
-granted_each : (k : ℕ → Option (Seen Object)) (user : Who) (uses : List Use) → AreGranted (IsOfPage k user) k uses → AllByRecursion (IsGrantedTo k user) (without_users uses)
-granted_each k user [] are = tt
-granted_each k user (u ∷ uses) are = ((u.user, are.0.0, are.0.1), granted_each k user uses are.1)
+-- a page that came made first uses
+abbrev Used : (ℕ → Option (Seen Object)) → Looks (List ℕ × Left) → List Shown → Type 0
+Used k text shown = (x : (List ℕ × Left) × List Use) × (looked_by k [] text ≡ Ok x) × (shown ≡ without_users x.1)
+
+uses_of : (k : ℕ → Option (Seen Object)) (text : Looks (List ℕ × Left)) (x : (List ℕ × Left) × List Shown) → looked k [] text ≡ Ok x → Used k text x.1
+uses_of k text x e =
+    let found = and_ok (looked_by k [] text) (λ y. Ok (forgotten y)) x (sym (looked_forgets k [] text) ∙ e) in
+    (found.0, found.1, ap (λ (y : (List ℕ × Left) × List Shown). y.1) (sym (ok_is (forgotten found.0) x found.2)))
+  where
+    ok_is : (y z : (List ℕ × Left) × List Shown) → ◌≡◌ {A = Result ((List ℕ × Left) × List Shown) (Halt ℕ looks.Fault)} (Ok y) (Ok z) → y ≡ z
+    ok_is y z e' = cc
 
 module _ (all : AreForUsers) (k : ℕ → Option (Seen Object)) where
-  shown_granted : (user : Who) (o : ℕ) (client : List ℕ) (names : List Named) (x : (List ℕ × Left) × List Shown) → looked k [] (page_text user o client names) ≡ Ok x → AllByRecursion (IsGrantedTo k user) x.1
-  shown_granted user o client names x e =
-      let text = page_text user o client names in
-      let found = and_ok (looked_by k [] text) (λ y. Ok (forgotten y)) x (sym (looked_forgets k [] text) ∙ e) in
-      let same : without_users found.0.1 ≡ x.1 = ap (λ (y : (List ℕ × Left) × List Shown). y.1) (ok_is (forgotten found.0) x found.2) in
-      subst (λ (s : List Shown). AllByRecursion (IsGrantedTo k user) s) same
-      (granted_each k user found.0.1 (shown_rightly (IsOfPage k user) k [] text found.0 (page_for_users all k user o client names) tt found.1))
-    where
-      ok_is : (y z : (List ℕ × Left) × List Shown) → ◌≡◌ {A = Result ((List ℕ × Left) × List Shown) (Halt ℕ looks.Fault)} (Ok y) (Ok z) → y ≡ z
-      ok_is y z e' = cc
-
   -- a page that came shows rightly
   page_shows : (q : Request) (fields : List Field) (credentials : Option Credentials) (object client : List ℕ) (y : Reply) → fields_of q ≡ Ok fields → credentials_of (authorization q) ≡ Ok credentials →
       run (veiled k) (published q.path) ≡ Ok (targets.Page object client) → run k (page q fields credentials (first object) client) ≡ Ok (answer.Page y) → ShowsRightly k q (by_verb q.method y)
@@ -75,6 +71,7 @@ module _ (all : AreForUsers) (k : ℕ → Option (Seen Object)) where
       let x = came k (or_else faults.Page (through taken [] text)) shown_page (answer.Page y) user.2 in
       let looks_at : looked k [] text ≡ Ok x.0 = page_came k (through taken [] text) x.0 x.1 in
       let same : x.0.1 ≡ y.shown = ap (λ (r : Reply). r.shown) (is_page (page_reply x.0.0.0 x.0.1) y x.2) in
+      let uses = uses_of k text x.0 looks_at in
       record {
         o = first object;
         client = client;
@@ -89,7 +86,11 @@ module _ (all : AreForUsers) (k : ℕ → Option (Seen Object)) where
           target = target;
           is_user = shapes_came k faults.User (who credentials (first object) view) user.0 user.1;
         };
-        granted = subst (λ (s : List Shown). AllByRecursion (IsGrantedTo k user.0) s) same (shown_granted user.0 (first object) client (request_names q user.0 fields (cookies_of q)) x.0 looks_at);
+        text = uses.0.0;
+        uses = uses.0.1;
+        made = uses.1;
+        shown = sym same ∙ uses.2;
+        granted = uses_granted (IsOfPage k user.0) (page_stays k user.0) k [] text uses.0 (page_for_users all k user.0 (first object) client (request_names q user.0 fields (cookies_of q))) tt uses.1;
         used = λ p views. subst (λ (s : List Shown). IsShown p s) same (viewed_is_shown k p [] text x.0 views looks_at);
       }
     where

@@ -1,8 +1,7 @@
 -- To whom a site shows what.
 --
 -- Zope Developer's Guide, "Security"; Zope Book, "Users and Security": proxy roles.
-use Rattle.std.specs.Prelude.{ℕ, ◌≡◌, ◌≢◌, ◌⊎◌, List, Option, Some, Ok}
-use Rattle.std.specs.List.{AllByRecursion}
+use Rattle.std.specs.Prelude.{ℕ, ◌≡◌, ◌≢◌, ◌⊎◌, List, [], Option, Some, Ok}
 use Rattle.zbase.specs.History.{History}
 use Rattle.zbase.specs.Query.{run}
 use Rattle.zobject.specs.declared.object.Object.{Object}
@@ -21,7 +20,6 @@ use Rattle.evaluator.specs.declared.fact.LogRow.{LogRow}
 use Rattle.evaluator.specs.declared.outcome.Outcome.{Outcome}
 use Rattle.evaluator.specs.declared.reply.Reply.{Reply}
 use Rattle.evaluator.specs.declared.reply.Denial.{Denial}
-use Rattle.evaluator.specs.declared.reply.Shown.{Shown}
 use Rattle.evaluator.specs.Exec.{exec}
 use Rattle.evaluator.specs.Facts.{fact}
 use Rattle.evaluator.specs.Questions.{objects_of}
@@ -39,12 +37,14 @@ use Rattle.manage.specs.Calls.{call_named}
 use Rattle.manage.specs.Changing.{change as call_change}
 use Rattle.manage.specs.Undoing.{undone}
 use Rattle.namespace.specs.LookLaws.{IsShown, Same, Views}
-use Rattle.namespace.specs.Looks.{veiled, view}
+use Rattle.namespace.specs.Looks.{Looks, Use, looked_by, veiled, view, without_users}
 use Rattle.namespace.specs.Requests.{request_names}
+use Rattle.namespace.specs.Traces.{AreGrantedBy, IsIn, ViewsAs, trace, viewed_in}
 use Rattle.traverse.specs.declared.target.Target.{Target}
 use Rattle.traverse.specs.declared.target.Target.TheVariants as targets
 use Rattle.traverse.specs.Publishing.{published}
-use Rattle.dtml_render.specs.Access.{HasProxyRoles, NoneHasProxyRoles}
+use Rattle.dtml_values.specs.Values.{Left}
+use Rattle.dtml_render.specs.Access.{HasNoRoles, HasRolesOfOne, RefusesRightly}
 use Rattle.publisher.specs.Comes.{Tells}
 use Rattle.publisher.specs.Pages.{page_text}
 use Rattle.publisher.specs.Replies.{by_verb, log_reply, runaway_facts}
@@ -70,35 +70,41 @@ pub record Publishes (k : ℕ → Option (Seen Object)) (q : Request) (o : ℕ) 
   pub target : run (veiled k) (published q.path) ≡ Ok (targets.Page object client)
   pub is_user : run (veiled k) (who credentials o view) ≡ Ok user
 
--- for whom a page takes verdicts: its user, and someone who has the proxy roles of an object
-abbrev pub IsOfPage : (ℕ → Option (Seen Object)) → Who → Who → Type 0
-IsOfPage k user w = (w ≡ user) ⊎ HasProxyRoles k w
+-- the page of an object for a user, with the names of a request
+abbrev pub page_of : Request → List Field → Who → ℕ → List ℕ → Looks (List ℕ × Left)
+page_of q fields user o client = page_text user o client (request_names q user fields (cookies_of q))
 
--- one of these is granted to view the object, by the role that is told
-abbrev pub IsGrantedTo : (ℕ → Option (Seen Object)) → Who → Shown → Type 0
-IsGrantedTo k user s = (w : Who) × IsOfPage k user w × (run (veiled k) (verdict_on w s.oid view) ≡ Ok (Granted s.role))
+-- For whom a page looks, once it has seen the contents of these objects: its user, and someone who has the proxy roles of one
+-- of them.
+abbrev pub IsOfPage : (ℕ → Option (Seen Object)) → Who → List ℕ → Who → Type 0
+IsOfPage k user objects w = (w ≡ user) ⊎ HasRolesOfOne k objects w
 
--- one of these isn't granted the permission on the object
-abbrev pub IsDeniedTo : (ℕ → Option (Seen Object)) → Who → Denial → Type 0
-IsDeniedTo k user d = (w : Who) × IsOfPage k user w × (permission : ℕ) × (run (veiled k) (verdict_on w d.oid d.permission) ≡ Ok (Denied permission))
-
--- what a page shows: each object was granted, and each whose contents it uses is shown
+-- What a page shows are the first uses that it made. Each was granted to the user who looked, by the role that is told: to
+-- the user of the page, or to someone who has the proxy roles of an object that is shown before. And each object whose
+-- contents the page uses is shown.
 pub record ShowsRightly (k : ℕ → Option (Seen Object)) (q : Request) (x : Reply) : Type 0 where
   pub o : ℕ
   pub client : List ℕ
   pub fields : List Field
   pub user : Who
   pub publishes : Publishes k q o client fields user
-  pub granted : AllByRecursion (IsGrantedTo k user) x.shown
-  pub used : (p : ℕ) → Views k p (page_text user o client (request_names q user fields (cookies_of q))) → IsShown p x.shown
+  pub text : List ℕ × Left
+  pub uses : List Use
+  pub made : looked_by k [] (page_of q fields user o client) ≡ Ok (text, uses)
+  pub shown : x.shown ≡ without_users uses
+  pub granted : AreGrantedBy (IsOfPage k user) k [] uses
+  pub used : (p : ℕ) → Views k p (page_of q fields user o client) → IsShown p x.shown
 
--- a user of the request: of its page, or of its call
-abbrev pub IsItsUser : (ℕ → Option (Seen Object)) → Request → Who → Type 0
-IsItsUser k q user = (credentials : Option Credentials) × (o : ℕ) × (permission : ℕ) × (credentials_of (authorization q) ≡ Ok credentials) × (run (veiled k) (who credentials o permission) ≡ Ok user)
-
--- What is denied is denied to the user of the request, or to someone who has the proxy roles of an object.
-abbrev pub RefusalsAreDenied : Type 0
-RefusalsAreDenied = (known : Ask → Option Fact) (q : Request) (x : Reply) (d : Denial) → Tells known → site known (Whole q) ≡ Outcome.Answer x → x.denied ≡ Some d → (user : Who) × IsItsUser (shown_by known) q user × IsDeniedTo (shown_by known) user d
+-- A page is refused for the object and the permission of its last look. That isn't granted to the user who looked, who is
+-- the user of the page or has the proxy roles of an object whose contents it saw before; all that it looked at before was
+-- granted so, or passed over by a `dtml-in` with `skip_unauthorized`.
+pub record DeniesPage (k : ℕ → Option (Seen Object)) (q : Request) (d : Denial) : Type 0 where
+  pub o : ℕ
+  pub client : List ℕ
+  pub fields : List Field
+  pub user : Who
+  pub publishes : Publishes k q o client fields user
+  pub refused : RefusesRightly (IsOfPage k user) k d.oid d.permission (trace k (page_of q fields user o client))
 
 -- ---- calls
 
@@ -120,6 +126,37 @@ pub record GrantsCall (k : ℕ → Option (Seen Object)) (q : Request) (user : W
   pub role : List ℕ
   pub granted : run (veiled k) (verdict_on user (first on) permission) ≡ Ok (Granted role)
   pub called : run k (call_change call (first on) fields) ≡ Ok made
+
+-- A call is refused for the object to which the path leads and the permission that the call needs there, which isn't
+-- granted to the user of the request.
+pub record DeniesCall (k : ℕ → Option (Seen Object)) (q : Request) (d : Denial) : Type 0 where
+  pub fields : List Field
+  pub read : fields_of q ≡ Ok fields
+  pub credentials : Option Credentials
+  pub carried : credentials_of (authorization q) ≡ Ok credentials
+  pub name : List ℕ
+  pub on : List ℕ
+  pub target : run (veiled k) (published q.path) ≡ Ok (targets.Call name on)
+  pub is_object : first on ≡ d.oid
+  pub call : Call
+  pub named : call_named name ≡ Some call
+  pub needed : run (veiled k) (permission_at call q.method d.oid) ≡ Ok d.permission
+  pub user : Who
+  pub is_user : run (veiled k) (who credentials d.oid d.permission) ≡ Ok user
+  pub permission : ℕ
+  pub denied : run (veiled k) (verdict_on user d.oid d.permission) ≡ Ok (Denied permission)
+
+-- What a refusal names isn't granted to the user of the request there.
+abbrev pub DeniesRightly : (ℕ → Option (Seen Object)) → Request → Denial → Type 0
+DeniesRightly k q d = DeniesPage k q d ⊎ DeniesCall k q d
+
+-- What each refusal names is denied rightly.
+abbrev pub RefusalsAreDenied : Type 0
+RefusalsAreDenied = (known : Ask → Option Fact) (q : Request) (x : Reply) (d : Denial) → Tells known → site known (Whole q) ≡ Outcome.Answer x → x.denied ≡ Some d → DeniesRightly (shown_by known) q d
+
+-- Each 401 names something.
+abbrev pub RefusalsAreNamed : Type 0
+RefusalsAreNamed = (known : Ask → Option Fact) (q : Request) (x : Reply) → Tells known → site known (Whole q) ≡ Outcome.Answer x → x.status ≡ 401 → (d : Denial) × (x.denied ≡ Some d)
 
 -- the entries that a call writes, over what is known
 abbrev pub Writes : (Ask → Option Fact) → Called → List Entry → Type 0
@@ -156,17 +193,29 @@ PagesShowRightly = (known : Ask → Option Fact) (q : Request) (x : Reply) → T
 
 -- ---- contents stay apart
 
--- the request is for a page, or leads nowhere, and its user can be nobody but this one; or it is for the log
-abbrev pub IsTargetFor : Who → (ℕ → Option (Seen Object)) → Option Credentials → Target → Type 0
-IsTargetFor w k credentials (targets.Page object client) = (user : Who) → run (veiled k) (who credentials (first object) view) ≡ Ok user → user ≡ w
-IsTargetFor w k credentials (targets.Call name on) = call_named name ≡ Some calls.ListTransactions
+-- The request is for a page, whose user can be nobody but this one, and which views each object as this user; or it leads
+-- nowhere; or it is for the log.
+abbrev pub IsTargetFor : Who → (ℕ → Option (Seen Object)) → Request → List Field → Option Credentials → Target → Type 0
+IsTargetFor w k q fields credentials (targets.Page object client) =
+    ((user : Who) → run (veiled k) (who credentials (first object) view) ≡ Ok user → user ≡ w) × ViewsAs w (trace k (page_of q fields w (first object) client))
+IsTargetFor w k q fields credentials (targets.Call name on) = call_named name ≡ Some calls.ListTransactions
 
 abbrev pub IsPageFor : Who → (ℕ → Option (Seen Object)) → Request → Type 0
-IsPageFor w k q = (credentials : Option Credentials) (target : Target) → credentials_of (authorization q) ≡ Ok credentials → run (veiled k) (published q.path) ≡ Ok target → IsTargetFor w k credentials target
+IsPageFor w k q = (fields : List Field) (credentials : Option Credentials) (target : Target) → fields_of q ≡ Ok fields → credentials_of (authorization q) ≡ Ok credentials →
+    run (veiled k) (published q.path) ≡ Ok target → IsTargetFor w k q fields credentials target
 
--- Where the histories differ at their ends in contents alone that the user may not view, have the same log, and no object
--- has proxy roles, a request for a page or the log by this user comes to the same over both, unless one has too much to look
--- at.
+-- A request comes to the same over two states of a site, where these differ in contents alone that a user may not view, and
+-- the request is for his page or for the log.
+abbrev pub StaysApart : (ℕ → Option (Seen Object)) → (ℕ → Option (Seen Object)) → Request → Outcome → Outcome → Type 0
+StaysApart k l q a b = (w : Who) → Same w k l → IsPageFor w k q → a ≡ b
+
+-- So it is over two histories that have the same log, by what they come to at their ends, unless one has too much to look at.
 abbrev pub ContentsStayApart : Type 0
-ContentsStayApart = (w : Who) (h1 h2 : History) (q : Request) → Same w (objects_in h1) (objects_in h2) → fact h1 Ask.Log ≡ fact h2 Ask.Log → NoneHasProxyRoles (objects_in h1) → IsPageFor w (objects_in h1) q →
-    exec site h1 (Whole q) ≢ Outcome.Answer (by_verb q.method runaway_facts) → exec site h2 (Whole q) ≢ Outcome.Answer (by_verb q.method runaway_facts) → exec site h1 (Whole q) ≡ exec site h2 (Whole q)
+ContentsStayApart = (h1 h2 : History) (q : Request) → fact h1 Ask.Log ≡ fact h2 Ask.Log →
+    exec site h1 (Whole q) ≢ Outcome.Answer (by_verb q.method runaway_facts) → exec site h2 (Whole q) ≢ Outcome.Answer (by_verb q.method runaway_facts) →
+    StaysApart (objects_in h1) (objects_in h2) q (exec site h1 (Whole q)) (exec site h2 (Whole q))
+
+-- A page views each object as its user wherever no object whose contents it uses has proxy roles.
+abbrev pub PagesAreTheirUsersOwn : Type 0
+PagesAreTheirUsersOwn = (w : Who) (k : ℕ → Option (Seen Object)) (q : Request) (fields : List Field) (o : ℕ) (client : List ℕ) →
+    ((p : ℕ) → IsIn p (viewed_in [] (trace k (page_of q fields w o client))) → HasNoRoles k p) → ViewsAs w (trace k (page_of q fields w o client))

@@ -109,7 +109,7 @@ undo_answers known q user t x e =
 
 -- ---- a page is no call
 
-abbrev IsChange : Answer → Type 0
+abbrev pub IsChange : Answer → Type 0
 IsChange (answer.Page x) = ⊥
 IsChange (answer.Change x d) = Unit {0}
 IsChange (answer.Undo user t) = Unit {0}

@@ -13,6 +13,7 @@ pub mod Backwards
 pub mod Granting
 pub mod ChangeLaws
 pub mod Worked
+pub mod WrongSites
 pub mod Underway
 pub mod Keeping
 pub mod Halting

@@ -68,14 +68,14 @@ use Rattle.publisher.specs.Site.{request, with_fields, with_credentials, page, s
 
 -- ---- a small site
 
-abbrev lists : List ℕ → ℕ → Child
+abbrev pub lists : List ℕ → ℕ → Child
 lists name oid = record { name = name; oid = oid }
 
-abbrev held : ℕ → List ℕ → List Setting → Part2 → Object
+abbrev pub held : ℕ → List ℕ → List Setting → Part2 → Object
 held parent id settings part = record { id = id; parent = parent; title = codes "T"; settings = settings; locals = []; properties = []; part = part }
 
 -- `View` is Manager's alone
-abbrev managers : List Setting
+abbrev pub managers : List Setting
 managers = record { permission = VIEW; acquire = false; roles = codes "Manager" ∷ [] } ∷ []
 
 -- a user whose password is `secret`
@@ -84,7 +84,7 @@ manager name = record { name = name; password = codes "{SHA}5en6G6MezRroT3XKqkdP
 
 -- The root has the Manager `admin`, the method `index_html`, the document `d`, the private document `s`, and the folder `H`
 -- with the Manager `eve` and the private document `e`.
-abbrev site : ℕ → Option (Seen Object)
+abbrev pub site : ℕ → Option (Seen Object)
 site o =
     if nat_eq o 0 then Some (Here (held 0 [] [] (parts.Folder (lists (codes "acl_users") 1 ∷ lists (codes "index_html") 2 ∷ lists (codes "d") 3 ∷ lists (codes "s") 4 ∷ lists (codes "H") 5 ∷ []))))
     else if nat_eq o 1 then Some (Here (held 0 (codes "acl_users") [] (parts.UserFolder (manager (codes "admin") ∷ []))))
@@ -98,14 +98,14 @@ site o =
 
 -- ---- messages
 
-abbrev sent : Verb → List (List ℕ) → List ℕ → List Header → Request
+abbrev pub sent : Verb → List (List ℕ) → List ℕ → List Header → Request
 sent verb path query headers = record { method = verb; path = path; raw = codes "/"; query = query; headers = headers; body = [] }
 
 abbrev by : List ℕ → List Header
 by credentials = record { name = codes "authorization"; value = codes "Basic " ++ credentials } ∷ []
 
 -- the password of each is `secret`
-abbrev admin : List Header
+abbrev pub admin : List Header
 admin = by (codes "YWRtaW46c2VjcmV0")
 
 abbrev eve : List Header
@@ -121,10 +121,10 @@ bad = by (codes "?")
 abbrev comes_to : Request → Result Answer (Halt ℕ Fault)
 comes_to q = run site (request q)
 
-abbrev shown : ℕ → List ℕ → Shown
+abbrev pub shown : ℕ → List ℕ → Shown
 shown o role = record { oid = o; role = role }
 
-abbrev at : List ℕ → List (List ℕ)
+abbrev pub at : List ℕ → List (List ℕ)
 at name = name ∷ []
 
 -- ---- pages

@@ -23,7 +23,11 @@ mod stage;
 mod state;
 
 pub use answer::Answer;
-pub use laws::{changes_are_granted, contents_stay_apart, messages_are_lawful, pages_show_rightly};
+pub use laws::{
+    changes_are_granted, contents_stay_apart, ignored_credentials_are_refuted, messages_are_lawful,
+    one_role_for_all_is_refuted, pages_show_rightly, roles_of_another_are_refuted,
+    titles_of_others_are_refuted,
+};
 pub use refusal::SiteRefusal;
 pub use site::Site;
 pub use state::SiteState;
