@@ -1,6 +1,6 @@
 -- A page takes its verdicts for users of a sort, where the user of the request is of that sort, and whoever has the proxy
 -- roles of an object whose contents were seen before.
-use Rattle.std.proofs.Common.{ℕ, suc, zero, ◌≡◌, refl, sym, subst, List, [], ◌∷◌, ◌++◌, length, Option, Some, None, Bool, true, false, if◌then◌else◌, Result, Ok, Err, inl, inr}
+use Rattle.std.proofs.Common.{ℕ, suc, zero, ◌≡◌, refl, sym, subst, List, [], ◌∷◌, ◌++◌, length, Option, Some, None, Bool, true, false, if◌then◌else◌, Result, Ok, Err, inl}
 use Rattle.std.specs.Prelude.{◌==◌, ◌+◌}
 use Rattle.zbase.specs.Query.{run}
 use Rattle.dtml_lex.specs.declared.refusal.DtmlRefusal.{DtmlRefusal}

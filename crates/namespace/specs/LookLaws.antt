@@ -2,7 +2,7 @@
 -- asked without contents is the same over states that differ in contents alone.
 use Rattle.std.proofs.Common.{ℕ, ◌≡◌, ◌∙◌, refl, sym, ap, subst, Bool, true, false, List, [], ◌∷◌, ◌++◌, nat_eq, if◌then◌else◌, ◌⊎◌, inl, inr, Option, Some, None, Result, Ok, Err, option_map, ◌||◌, arith}
 use Rattle.std.proofs.lemmas.Bool.Decides.{nat_tests}
-use Rattle.std.specs.List.{list_any, AllByRecursion}
+use Rattle.std.specs.List.{list_any}
 use Rattle.zbase.specs.Query as query
 use Rattle.zbase.specs.Query.{Query, or_else, run, go_on, and_then, Halt, Need, Cause, Told, ◌>>=◌ as ◌>>>◌}
 use Rattle.zbase.specs.QueryLaws.{run_then}

@@ -1,5 +1,5 @@
 -- What a name means in a stack is for the user of its verdicts alone.
-use Rattle.std.proofs.Common.{ℕ, ◌≡◌, List, [], ◌∷◌, ◌++◌, reverse, Option, Some, None, Bool, true, false, if◌then◌else◌}
+use Rattle.std.proofs.Common.{ℕ, List, [], ◌∷◌, ◌++◌, reverse, Option, Some, None, Bool, true, false, if◌then◌else◌}
 use Rattle.std.specs.Prelude.{codes}
 use Rattle.zobject.specs.Texts.{begins_with}
 use Rattle.zobject.specs.declared.object.Object.{Object}

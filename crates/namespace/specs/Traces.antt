@@ -5,7 +5,7 @@
 use Rattle.std.proofs.Common.{ℕ, ◌≡◌, ◌∙◌, ◌⊎◌, ◌||◌, inl, inr, refl, sym, ap, subst, arith, Bool, true, false, List, [], ◌∷◌, ◌++◌, nat_eq, if◌then◌else◌, Option, Result, Ok, Err}
 use Rattle.std.specs.List.{list_any, AllByRecursion}
 use Rattle.std.proofs.lemmas.Bool.Decides.{nat_tests}
-use Rattle.zbase.specs.Query.{or_else, run, and_then, Halt, Cause, ◌>>=◌ as ◌>>>◌}
+use Rattle.zbase.specs.Query.{or_else, run, Halt, Cause, ◌>>=◌ as ◌>>>◌}
 use Rattle.zbase.specs.QueryLaws.{run_then}
 use Rattle.evaluator.specs.declared.permission.TheConstants.{ACCESS_CONTENTS_INFORMATION, VIEW}
 use Rattle.evaluator.specs.declared.reply.Shown.{Shown}
@@ -19,7 +19,7 @@ use Rattle.permissions.specs.Verdicts.{verdict_on}
 use Rattle.permissions.specs.declared.who.Who.{Who}
 use Rattle.permissions.specs.declared.who.Verdict.{Verdict}
 use Rattle.permissions.specs.declared.who.Verdict.TheVariants as verdicts
-use Rattle.namespace.specs.Looks.{Looks, Done, Stops, See, Reach, Enter, View, Offer, ◌>>=◌, Fault, Unauthorized, Use, fault_of, outlined, veiled, taken, used, without_users, entered, viewed, offered, through, looked, looked_by}
+use Rattle.namespace.specs.Looks.{Looks, Done, Stops, See, Reach, Enter, View, Offer, ◌>>=◌, Fault, Unauthorized, Use, fault_of, outlined, veiled, taken, used, entered, viewed, offered, through, looked, looked_by}
 use Rattle.namespace.specs.LookLaws.{IsFor, Same, both, here_same, is_granted, never_unauthorized, outlined_ok, past, past_here, reworded_ok, run_outlined, run_reworded, second_of, then_err}
 
 -- What a look asks for: the list of a folder's children; the contents of an object, which are its title, its source and

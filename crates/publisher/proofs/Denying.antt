@@ -30,7 +30,7 @@ use Rattle.manage.specs.Calling.{permission_at}
 use Rattle.manage.specs.Calls.{call_named}
 use Rattle.manage.specs.Changing.{change}
 use Rattle.namespace.specs.Looks as looks
-use Rattle.namespace.specs.Looks.{Looks, Unauthorized, looked, taken, through, veiled, view}
+use Rattle.namespace.specs.Looks.{Looks, looked, taken, through, veiled, view}
 use Rattle.namespace.specs.Requests.{request_names}
 use Rattle.namespace.specs.Traces.{trace, trace_judged, trace_of, trace_refused}
 use Rattle.traverse.specs.declared.target.Target.{Target}

@@ -9,7 +9,7 @@ use Rattle.permissions.specs.declared.who.Who.{Who}
 use Rattle.permissions.specs.Verdicts.{or_user, proxy_user}
 use Rattle.namespace.specs.declared.val.Named.{Named}
 use Rattle.namespace.specs.Names.{Scope, act}
-use Rattle.namespace.specs.Traces.{IsAlong, IsIn, Stays, ViewsAs, Within, along_wider, trace, trace_of, views_own}
+use Rattle.namespace.specs.Traces.{IsAlong, IsIn, Stays, Within, along_wider, trace, trace_of, views_own}
 use Rattle.dtml_lex.specs.declared.refusal.DtmlRefusal.{DtmlRefusal}
 use Rattle.dtml_parse.specs.Trees.{Items}
 use Rattle.dtml_parse.specs.TreeReading.{template}

@@ -5,7 +5,6 @@ use Rattle.zobject.specs.declared.object.Object.{Object}
 use Rattle.zknown.specs.Seen.{Seen, Objects}
 use Rattle.acquisition.specs.Acquiring as acquiring
 use Rattle.acquisition.specs.Acquiring.{first}
-use Rattle.permissions.specs.declared.who.Who.{Who}
 use Rattle.permissions.specs.Users.{Credentials, who}
 use Rattle.user_folder.specs.Credentials.{credentials_of}
 use Rattle.evaluator.specs.declared.ask.Ask.{Ask}
@@ -13,7 +12,6 @@ use Rattle.evaluator.specs.declared.fact.Fact.{Fact}
 use Rattle.evaluator.specs.declared.outcome.Outcome.{Outcome}
 use Rattle.evaluator.specs.declared.reply.Denial.{Denial}
 use Rattle.evaluator.specs.declared.reply.Reply.{Reply}
-use Rattle.evaluator.specs.declared.reply.Shown.{Shown}
 use Rattle.evaluator.specs.Questions.{as_ask, outcome}
 use Rattle.form_fields.specs.declared.field.Field.{Field}
 use Rattle.form_fields.specs.Fields.{fields_of}
@@ -28,7 +26,6 @@ use Rattle.traverse.specs.declared.target.Target.{Target}
 use Rattle.traverse.specs.declared.target.Target.TheVariants as targets
 use Rattle.traverse.specs.Publishing as publishing
 use Rattle.traverse.specs.Publishing.{published}
-use Rattle.dtml_values.specs.Values.{Left}
 use Rattle.publisher.specs.declared.answer.Answer.{Answer}
 use Rattle.publisher.specs.declared.answer.Answer.TheVariants as answer
 use Rattle.publisher.specs.Access.{RefusalsAreNamed, page_of, shown_by}
@@ -37,7 +34,7 @@ use Rattle.publisher.specs.Comes.{made_of, over_history_comes, within_or}
 use Rattle.publisher.specs.Faults as faults
 use Rattle.publisher.specs.Faults.{Fault, by_shapes, or_stops}
 use Rattle.publisher.specs.Replies.{by_verb, fault_reply, log_reply, page_reply, runaway_facts}
-use Rattle.publisher.specs.Site.{answered, authorization, bad_credentials, call_on, called, listed, over_history, page, page_for, refused_by, rows_told, scope_answer, request, shown_page, undo_by, with_credentials, with_fields}
+use Rattle.publisher.specs.Site.{answered, authorization, bad_credentials, call_on, called, listed, over_history, page, page_for, refused_by, rows_told, scope_answer, request, shown_page, with_credentials, with_fields}
 use Rattle.publisher.specs.Ways.{Any, ComesTo, Keeps, keeps_any, keeps_more, keeps_run, keeps_then}
 
 abbrev Names : Reply → Type 0

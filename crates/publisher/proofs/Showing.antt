@@ -1,11 +1,10 @@
 -- What a page shows.
-use Rattle.std.proofs.Common.{ℕ, ◌≡◌, ◌∙◌, ◌⊎◌, ◌==◌, inl, inr, refl, eq-eqb, sym, ap, subst, Bool, true, false, List, [], ◌∷◌, Option, Some, None, Result, Ok, Err}
+use Rattle.std.proofs.Common.{ℕ, ◌≡◌, ◌∙◌, ◌⊎◌, ◌==◌, inl, inr, refl, eq-eqb, sym, ap, subst, Bool, true, false, List, [], Option, Some, None, Result, Ok, Err}
 use Rattle.zbase.specs.Query.{run, go_on, or_else, Halt, Need, Cause}
 use Rattle.zobject.specs.declared.object.Object.{Object}
 use Rattle.zknown.specs.Seen.{Seen}
 use Rattle.acquisition.specs.Acquiring as acquiring
 use Rattle.acquisition.specs.Acquiring.{first}
-use Rattle.permissions.specs.declared.who.Who.{Who}
 use Rattle.permissions.specs.Users.{Credentials, who}
 use Rattle.user_folder.specs.Credentials.{credentials_of}
 use Rattle.evaluator.specs.declared.ask.Ask.{Ask}
@@ -25,7 +24,7 @@ use Rattle.manage.specs.declared.refusal.ManageRefusal.TheVariants as refusals
 use Rattle.manage.specs.Calls.{call_named}
 use Rattle.namespace.specs.LookLaws.{IsShown, forgotten, looked_forgets, viewed_is_shown}
 use Rattle.namespace.specs.Looks as looks
-use Rattle.namespace.specs.Looks.{Looks, Use, Unauthorized, looked, looked_by, taken, through, veiled, view, without_users}
+use Rattle.namespace.specs.Looks.{Looks, Use, looked, looked_by, taken, through, veiled, view, without_users}
 use Rattle.namespace.specs.Requests.{request_names}
 use Rattle.namespace.specs.Traces.{uses_granted}
 use Rattle.traverse.specs.declared.target.Target.{Target}

@@ -1,20 +1,18 @@
 -- The answers of wrong sites are refuted by the laws of access alone, whatever a page is defined to be.
 use lib.Utf8.{encode}
-use Rattle.std.proofs.Common.{ℕ, ◌≡◌, ◌∙◌, ◌⊎◌, inl, inr, refl, sym, ap, subst, arith, Bool, true, false, List, [], ◌∷◌, ◌++◌, Option, Some, None, option_map, Result, Ok, Err, codes, nat_eq, if◌then◌else◌}
+use Rattle.std.proofs.Common.{ℕ, ◌≡◌, ◌∙◌, ◌⊎◌, inl, inr, refl, sym, ap, subst, arith, Bool, true, false, List, [], ◌∷◌, ◌++◌, Option, Some, None, option_map, Result, Ok, codes, nat_eq, if◌then◌else◌}
 use Rattle.std.specs.Str.{is_utf8, chars}
 use Rattle.std.specs.Str.Lossy.{utf8_lossy, utf8_valid_len}
-use Rattle.std.specs.List.{AllByRecursion}
 use Rattle.std.proofs.lemmas.Bool.Decides.{nat_tests}
 use Rattle.base64.specs.Decode.{groups_bytes, groups_error, scan_steps}
 use Rattle.base64.specs.Rfc4648.{encode_symbols}
 use Rattle.sha1.specs.Sha1.{sha1, digest_bytes, hash_after, compress, rounds, schedule, first_words}
-use Rattle.zbase.specs.Query.{run, go_on, Halt, Need, Cause}
+use Rattle.zbase.specs.Query.{run, go_on}
 use Rattle.zobject.specs.declared.object.Object.{Object}
 use Rattle.zobject.specs.declared.object.Part2.TheVariants as parts
 use Rattle.zobject.specs.Shapes.{shape_of}
 use Rattle.zknown.specs.Seen.{Seen, Here, Absent, Unreadable, shape_seen}
 use Rattle.acquisition.specs.Acquiring.{found, reached, containers, upwards, first, here, present}
-use Rattle.acquisition.specs.Acquiring as acquiring
 use Rattle.acquisition.specs.Acquiring.{searched as finds}
 use Rattle.permissions.specs.declared.who.Verdict.{Verdict}
 use Rattle.permissions.specs.declared.who.Verdict.TheVariants as verdicts
@@ -27,11 +25,9 @@ use Rattle.user_folder.specs.Credentials.{credentials_of, spelled_by}
 use Rattle.evaluator.specs.declared.outcome.Outcome.{Outcome}
 use Rattle.evaluator.specs.declared.permission.TheConstants.{VIEW}
 use Rattle.evaluator.specs.declared.reply.Shown.{Shown}
-use Rattle.form_fields.specs.declared.field.Field.{Field}
-use Rattle.form_fields.specs.Fields.{fields_of}
 use Rattle.namespace.specs.LookLaws.{Same}
 use Rattle.namespace.specs.Looks.{Use, veiled, view, without_users}
-use Rattle.namespace.specs.Traces.{AreGrantedBy, AreJudged, AreOf, IsIn, IsJudged, Kind, Look, needs, refuses, viewed_at}
+use Rattle.namespace.specs.Traces.{AreGrantedBy, AreJudged, AreOf, IsJudged, Kind, Look, refuses, viewed_at}
 use Rattle.traverse.specs.declared.target.Target.{Target}
 use Rattle.traverse.specs.declared.target.Target.TheVariants as targets
 use Rattle.traverse.specs.Publishing.{published, walked, stepped, child, index}
