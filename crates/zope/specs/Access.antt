@@ -5,7 +5,6 @@ use Rattle.std.specs.Prelude.{ℕ, ◌≡◌, ◌⊎◌, List, [], ◌∷◌, �
 use Rattle.std.specs.List.{AllByRecursion}
 use Rattle.zbase.specs.History.{History, Transaction, added}
 use Rattle.zbase.specs.Values.{before, transaction, upto}
-use Rattle.permissions.specs.declared.who.Who.{Who}
 use Rattle.evaluator.specs.declared.draft.Draft.{Draft}
 use Rattle.evaluator.specs.declared.outcome.Outcome.{Outcome}
 use Rattle.evaluator.specs.declared.reply.Denial.{Denial}
@@ -20,15 +19,15 @@ use Rattle.http_out.specs.Replies.{answer}
 use Rattle.schedule.specs.declared.line.Line.{Line}
 use Rattle.schedule.specs.Causes.{denied_line, shown_lines}
 use Rattle.schedule.specs.Courses.{Place}
-use Rattle.publisher.specs.Access.{IsDeniedTo, IsGrantedChange, IsItsUser, ListsRightly, ShowsRightly, objects_in}
+use Rattle.publisher.specs.Access.{DeniesRightly, IsGrantedChange, ListsRightly, ShowsRightly, objects_in}
 use Rattle.publisher.specs.Site.{site}
 
--- What a reply over a history shows was granted, and all whose contents the page uses is shown; what it denies isn't granted. A
--- refused message shows and denies nothing.
+-- What a reply over a history shows was granted to the user who looked, and all whose contents the page uses is shown; what it
+-- denies isn't granted to the request's own user there. A refused message shows and denies nothing.
 abbrev pub AnswersRightly : History → Message → Reply → Type 0
 AnswersRightly h (Whole q) x =
     (x.status ≡ 200 → ShowsRightly (objects_in h) q x ⊎ ListsRightly (in_history h) q x)
-    × ((d : Denial) → x.denied ≡ Some d → (user : Who) × IsItsUser (objects_in h) q user × IsDeniedTo (objects_in h) user d)
+    × ((d : Denial) → x.denied ≡ Some d → DeniesRightly (objects_in h) q d)
 AnswersRightly h (Refused cause) x = (x.shown ≡ []) × (x.denied ≡ None)
 
 -- These bytes are the reply to a message over the history up to t, and these lines behind it tell what it shows and denies,

@@ -29,11 +29,14 @@ pub fn giving_up_is_refuted()
 }
 
 /// Of what a replay prints, also of one that is broken off at a line that can't be run, each reading reply and the lines
-/// behind it are right: a page with status 200 shows each object whose title, source or property it uses, and each that it
-/// shows was granted to its user, or to someone who has the proxy roles of an object, by the role that its line tells; what a
-/// `denied` line names isn't granted. All this by the objects of the history up to the transaction that the reply names. And
-/// each transaction by which its history grew, acknowledged or not, is the change of a call whose permission its user was
-/// granted before it.
+/// behind it are right. A page with status 200 shows each object whose title, source or property it uses, and each that it
+/// shows was granted to the user who looked first, by the role that its line tells: to the page's user, or to someone who has
+/// the proxy roles of an object that is shown before. What a `denied` line names isn't granted to the request's own user
+/// there: for a page, to the user whom the walk finds for the published object and `View`, or to someone who has the proxy
+/// roles of an object whose contents the page saw before, and all that the page looked at before was granted, or passed over
+/// by a `dtml-in` with `skip_unauthorized`; for a call, to the user for the object called on and the permission of that call.
+/// All this by the objects of the history up to the transaction that the reply names. And each transaction by which its
+/// history grew, acknowledged or not, is the change of a call whose permission its user was granted before it.
 pub fn replays_keep_access()
     ensures shown { (limit end : ℕ) (h : History) (items : List Item2) (report : List Line)
         (it : Explained (terms_of one_message site limit end) h items report) → AllShowRightly it.end.standing it.trace }
