@@ -1,5 +1,6 @@
 mod Values
 mod Loops
+mod Parts
 mod Serials
 mod Sorted
 mod PresentValues

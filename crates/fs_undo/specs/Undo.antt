@@ -2,12 +2,12 @@
 -- that the transaction gave it. Nothing is merged.
 --
 -- ZODB Programming Guide: undo. FileStorage writes a back pointer to what is put back.
-use Rattle.std.specs.Prelude.{ℕ, ◌≡◌, ◌==◌, is_some, Bool, true, false, List, [], ◌∷◌, ◌++◌, map, Option, Some, None, Result, Ok, Err, if◌then◌else◌}
+use Rattle.std.specs.Prelude.{ℕ, ◌≡◌, ◌==◌, is_some, take, Bool, true, false, List, [], ◌∷◌, ◌++◌, map, Option, Some, None, Result, Ok, Err, if◌then◌else◌}
 use Rattle.std.specs.List.{list_any}
 use Rattle.std.specs.Option.{option_and_then}
 use Rattle.std.specs.Str.{bytes_eq}
 use Rattle.zbase.specs.History.{Value}
-use Rattle.zbase.specs.Query.{Query, Done, Stops, Asks, Halt, Need, Cause, ◌>>=◌}
+use Rattle.zbase.specs.Query.{Query, Done, Stops, Asks, Grows, Halt, Need, Cause, ◌>>=◌}
 use Rattle.evaluator.specs.declared.ask.Ask.{Ask}
 use Rattle.evaluator.specs.declared.draft.Entry.{Entry}
 use Rattle.evaluator.specs.declared.fact.Fact.{Fact}
@@ -125,6 +125,13 @@ value_known known o = option_and_then object_value (known (Ask.Object o))
 abbrev pub first_unknown : (Ask → Option Fact) → List Part → Option ℕ
 first_unknown known [] = None
 first_unknown known (p ∷ ps) = if is_some (value_known known p.oid) then first_unknown known ps else Some p.oid
+
+-- The objects of so many of the transaction's parts are known, wherever more is known than here. Before the transaction is
+-- known itself, it has none of them.
+abbrev pub IsFar : ℕ → (Ask → Option Fact) → ℕ → Type 0
+IsFar t known n =
+    (later : Ask → Option Fact) (u : ℕ) (parts : List Part) → Grows known later → later (Ask.Transaction t) ≡ Some (Fact.Transaction u (Some parts)) →
+    first_unknown later (take n parts) ≡ None
 
 abbrev pub or_none : Option Value → Value
 or_none None = None

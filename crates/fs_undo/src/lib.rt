@@ -11,4 +11,4 @@ mod undoing;
 
 pub use laws::undone_is_put_back;
 pub use planning::{Present, Presents, Restore, Restores, UndoRefusal, plan};
-pub use undoing::{UndoHalt, undo};
+pub use undoing::{Far, UndoHalt, undo, undo_from};
