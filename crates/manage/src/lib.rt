@@ -42,4 +42,4 @@ pub use laws::{
 };
 pub use refusal::{FieldName, ManageRefusal, field_name};
 pub use table::permission_for;
-pub use undoing::{log_page, undo};
+pub use undoing::{log_page, undo_from};

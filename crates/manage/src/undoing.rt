@@ -2,6 +2,7 @@ ghost use Rattle.std.specs.Prelude.{◌≡◌, ◌++◌, IfOk, OnOk, flat_map, r
 ghost use Rattle.zbase.specs.Query.{run, Answers};
 ghost use Rattle.evaluator.specs.Cells.{read_hex16};
 ghost use Rattle.evaluator.specs.Facts.{EachOnce, look};
+ghost use Rattle.fs_undo.specs.Undo.{IsFar};
 ghost use Rattle.manage.specs.Calling.{told};
 ghost use Rattle.manage.specs.Fields.{Gives, scalar_text};
 ghost use Rattle.manage.specs.Undoing as spec;
@@ -11,6 +12,7 @@ use crate::field::{scalar_text, value_of};
 use crate::refusal::{FieldName, ManageRefusal};
 use evaluator::{Facts, LogRow, LogRows, cells_have_one_text};
 use form_fields::{FieldValue, Fields, Scalar};
+use fs_undo::Far;
 use std::alloc::Global;
 use zbase::{Memory, Text, Tid, read_hex16};
 
@@ -54,15 +56,23 @@ pub(crate) fn undone_id(alloc: Global, fields: &Fields) -> Result<Tid, ManageRef
 }
 
 /// What undoes a transaction, by what is known: an entry for each of its objects. The transaction is asked for first, then
-/// the present value of each of its objects in their order; only then are they compared.
+/// the present value of each of its objects in their order; only then are they compared. It goes on from where it came to
+/// over fewer facts, and keeps how far it came now.
 ///
 /// Zope Developer's Guide, "Undo".
 #[tactic(auto, using(crate::proofs::Undone::is_undone, crate::proofs::Undone::is_refused), unfolding(crate::specs::Undoing::undone))]
-pub fn undo(alloc: Global, facts: &Facts, tid: Tid) -> Result<Change, ManageRefusal>
+pub fn undo_from(
+    alloc: Global,
+    facts: &Facts,
+    tid: Tid,
+    far: &mut Far,
+) -> Result<Change, ManageRefusal>
     requires once { EachOnce facts.now }
-    ensures { Answers told (λ change. change.entries) result (run (look facts.now) (spec.undone tid)) }
+    requires far { IsFar tid (look facts.now) far.old }
+    ensures change { Answers told (λ change. change.entries) result (run (look facts.now) (spec.undone tid)) }
+    ensures far { IsFar tid (look facts.now) far.new }
 {
-    let entries = fs_undo::undo(alloc, facts, tid)?;
+    let entries = fs_undo::undo_from(alloc, facts, tid, far)?;
     Ok(Change { entries })
 }
 

@@ -14,8 +14,9 @@ use crate::halted::Halted;
 use crate::refusal::SiteRefusal;
 use crate::replies::{by_verb, halt_of, log_reply};
 use evaluator::{Ask, Fact, Facts, LogRows, Outcome, look};
+use fs_undo::Far;
 use http_in::{Request, Verb};
-use manage::{Change, ManageRefusal, undo};
+use manage::{Change, ManageRefusal, undo_from};
 use std::alloc::Global;
 use zbase::{Memory, Text, Tid};
 
@@ -49,6 +50,7 @@ fn not_undone(alloc: Global, request: &Request, cause: ManageRefusal) -> Result<
 }
 
 /// What the undo of a transaction comes to, by a user of this name.
+#[tactic(auto, using(crate::proofs::Limiting::nothing_far))]
 pub(crate) fn undo_by(
     alloc: Global,
     request: &Request,
@@ -59,7 +61,8 @@ pub(crate) fn undo_by(
     requires once { EachOnce facts.now }
     ensures { IfOk result (λ it. it ≡ outcome (run (look facts.now) (spec.undo_by request.now user tid))) }
 {
-    match undo(alloc, facts, tid) {
+    let mut far = Far::new();
+    match undo_from(alloc, facts, tid, &mut far) {
         Ok(change) => Ok(undone_so(alloc, request, user, change)?),
         Err(cause) => Ok(not_undone(alloc, request, cause)?),
     }
