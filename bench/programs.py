@@ -52,6 +52,10 @@ KEEPING = {"MALLOC_MMAP_THRESHOLD_": str(1 << 30), "MALLOC_TRIM_THRESHOLD_": str
 def lines_of(program, keeps_memory, words=()):
     """What a program prints that is given these words: each line as its words. Where it doesn't end well, what it said is raised."""
     kept = KEEPING if keeps_memory else {}
+    if os.environ.get("BENCH_ONLY_PROVES"):
+        # for a look whether it still can be built
+        done = subprocess.run(["rt", "check"], cwd=program, capture_output=True, text=True)
+        raise SystemExit(done.stdout + done.stderr if done.returncode else 0)
     done = subprocess.run(["rt", "run", "--", *words], cwd=program, capture_output=True, text=True, env=os.environ | kept)
     if done.returncode:
         raise SystemExit(done.stdout + done.stderr)
