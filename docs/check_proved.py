@@ -62,9 +62,9 @@ def exists(word, near, folder):
 
 
 def is_file(word):
-    """Whether a word between backticks names a file or a module."""
+    """Whether a word between backticks names a file or a module. One that begins with / is an address, or elsewhere."""
     first = word.split("/")[0]
-    if not re.fullmatch(r"[\w./-]+", word) or "NAME" in word or word.strip("/") in PLACES:
+    if word.startswith("/") or not re.fullmatch(r"[\w./-]+", word) or "NAME" in word or word.strip("/") in PLACES:
         return False
     return bool(FILE.fullmatch(word)) or ("/" in word and (first in CRATES or first in PLACES or (HOME / first).is_dir()))
 
