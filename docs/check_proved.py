@@ -15,7 +15,7 @@ import sys
 
 HOME = pathlib.Path(__file__).resolve().parent.parent
 CRATES = {folder.name for folder in (HOME / "crates").iterdir() if (folder / "src").is_dir()}
-DOCUMENTS = [HOME / "README.md", *sorted((HOME / "docs").glob("*.md")), HOME / "bench" / "README.md"]
+DOCUMENTS = [HOME / "README.md", *sorted((HOME / "docs").glob("*.md")), HOME / "bench" / "README.md", HOME / "checks" / "README.md"]
 PLACES = ("src", "specs", "proofs", "data", "must-fail")
 FILE = re.compile(r"[\w./-]*\w\.(?:rt|antt|py|md|cases|schedule|lines|png|1)")
 
