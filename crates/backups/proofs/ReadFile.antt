@@ -73,9 +73,9 @@ lasting_of (Err e) old opens mid name repo index asked was told before now held 
 lasting_of (Ok it) old opens mid name repo index asked was told before now held same reads turns keeps lasts =
     lasts_next before now it
     (keeps (still_held old mid name was told (λ all n. HasFile all name (λ bytes. Fits bytes × MakesDue all n repo index asked bytes it)) held
-        (of_held old mid name was (λ bytes all n. Fits bytes × MakesDue all n repo index asked bytes it) held
-        (subst (λ (o : Option (List Entry)). Turns o mid (λ all n. (bytes : List ℕ) → Reads was bytes → Fits bytes × MakesDue all n repo index asked bytes it)) same turns))
-        (λ a b p bytes is. stays_due a b name repo index asked it p bytes is) reads))
+    (of_held old mid name was (λ bytes all n. Fits bytes × MakesDue all n repo index asked bytes it) held
+    (subst (λ (o : Option (List Entry)). Turns o mid (λ all n. (bytes : List ℕ) → Reads was bytes → Fits bytes × MakesDue all n repo index asked bytes it)) same turns))
+    (λ a b p bytes is. stays_due a b name repo index asked it p bytes is) reads))
     lasts
 
 -- ---- why it is not

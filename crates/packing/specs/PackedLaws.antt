@@ -91,9 +91,6 @@ enough keep t o (r ∷ rs) behind kept none = go (r.0 == o) (keep r.0) (has_reco
 
 -- ---- the transactions that stand are enough for a kept object
 
-
-
-
 -- records of transactions, each as a revision of its own
 some_later_record : (o : ℕ) (xs : List Transaction) → has_record o (records_in xs) ≡ true → IsSome (newest (flat_map revisions_of xs) o)
 some_later_record o [] has = absurd cc
