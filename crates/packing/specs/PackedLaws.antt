@@ -1,5 +1,5 @@
 -- What a packed history keeps.
-use Rattle.std.proofs.Common.{◌≡◌, ℕ, ◌<◌, ◌≤◌, ◌==◌, Bool, true, false, cond, ◌&&◌, ◌||◌, not, max, List, [], ◌∷◌, ◌++◌, Option, Some, None, refl, sym, ap, ap₂, ◌∙◌, subst, arith, append_assoc, append-nil, le_trans, nat_lt, nat_le, map, filter, find, flat_map, lt-ltb, le-leb, leb-false, eq-eqb, eqb-true, ne_eqb, ◌≢◌}
+use Rattle.std.proofs.Common.{◌≡◌, ℕ, ◌<◌, ◌≤◌, ◌==◌, Bool, true, false, cond, ◌&&◌, ◌||◌, not, max, List, [], ◌∷◌, ◌++◌, Option, Some, None, refl, sym, ap, ap₂, ◌∙◌, subst, arith, nat_lt, nat_le, map, filter, find, flat_map, lt-ltb, le-leb, leb-false, eqb-true, ne_eqb, ◌≢◌}
 use Rattle.std.proofs.lemmas.List.Elements.{filter-append}
 use Rattle.std.proofs.lemmas.List.Folds.{list_any-append}
 use Rattle.std.proofs.lemmas.Grind.{flat_map-append}
@@ -7,10 +7,10 @@ use Rattle.std.proofs.lemmas.Bool.Decides.{nat_tests}
 use Rattle.std.specs.List.{list_any, AllByRecursion}
 use Rattle.zbase.specs.History.{Value, Transaction, History, RisesFrom, IsHistory}
 use Rattle.zbase.specs.HistoryLaws.{last_after-append, rises_append, rises_last, rises_rest, rises_front}
-use Rattle.zbase.specs.Values.{Revision, revisions_of, revisions, later, newest, value_of, serial_of, value, serial, last_after, last, upto, before, transaction}
+use Rattle.zbase.specs.Values.{Revision, revisions_of, revisions, later, newest, value_of, serial_of, last_after, last, upto, before, transaction}
 use Rattle.evaluator.specs.declared.fact.Part.{Part}
 use Rattle.evaluator.specs.Facts.{last_records, part_of, parts_of}
-use Rattle.packing.specs.Reachable.{behind, written_behind, IsClosed, IsKeep, Linking}
+use Rattle.packing.specs.Reachable.{behind, IsClosed, IsKeep, Linking}
 use Rattle.packing.specs.Packed.{has_record, records_in, standing, is_empty, with_records, put_before, thinned, packed}
 
 -- ---- newest revisions

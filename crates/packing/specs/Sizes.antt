@@ -2,7 +2,7 @@
 --
 -- FileStorage format notes: a transaction is a head of 23 bytes with three texts, its records, and 8 bytes; a record is a
 -- head of 42 bytes with the value, or with 8 bytes of a back pointer where there is none. The file begins with 4 bytes.
-use Rattle.std.specs.Prelude.{ℕ, ◌+◌, List, length, sum, map, Some, None}
+use Rattle.std.specs.Prelude.{ℕ, ◌+◌, length, sum, map, Some, None}
 use Rattle.zbase.specs.History.{Value, Transaction, History}
 
 abbrev pub value_size : Value → ℕ

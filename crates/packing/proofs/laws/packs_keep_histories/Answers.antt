@@ -1,5 +1,4 @@
-use Rattle.std.proofs.Common.{arith}
-use Rattle.packing.specs.PackedLaws.{one_keep, one_pack, packed_last, packed_rises}
+use Rattle.packing.specs.PackedLaws.{one_keep, packed_last, packed_rises}
 use Rattle.packing.proofs.laws.packs_keep_histories.Goals as goal
 
 -- src/laws.rt:19:1
