@@ -1,0 +1,16 @@
+pub mod Any
+pub mod Inverse
+pub mod Agreed
+pub mod Rising
+pub mod Found
+pub mod OneInverse
+pub mod Bytes
+pub mod Splits
+pub mod Digits
+pub mod OneReading
+pub mod Told
+pub mod Rows
+pub mod Utf8
+pub mod Steps
+pub mod Merged
+pub mod Kept

@@ -1,0 +1,10 @@
+pub mod Placing
+pub mod Postings
+pub mod Forms
+pub mod Agreeing
+pub mod Hits
+pub mod Spelling
+pub mod Reading
+pub mod Merging
+pub mod Worked
+pub mod Laws
