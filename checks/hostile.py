@@ -86,8 +86,8 @@ def facts():
         records = [(at, document(name, source)) for at, (name, source) in enumerate(zip(names, sources), 1)]
         with open(file, "wb") as out:
             Writer(out).transaction(1, b"", b"", [(0, folder([(name, at) for at, name in enumerate(names, 1)])), *records])
-        serving = Serving(file, 20)
-        came = ask(serving.entry, message("GET", "/"))
+        serving = Serving(file, 20, seconds=120)
+        came = ask(serving.entry, message("GET", "/"), 120)
         assert status_of(came) == 500 and body_of(came) == b"runaway: facts\n", came[:300]
         assert body_of(ask(serving.entry, message("GET", "/d7"))) == sources[1]
         serving.end()
