@@ -19,11 +19,7 @@ import threading
 import time
 import urllib.parse
 
-from served import HOME, PASSWORD, USER, Serving, ask, message, new_site, read_all, replies_in, zope
-
-sys.path.insert(0, str(HOME / "bench"))
-
-from replay import Writer, document, folder  # noqa: E402
+from served import PASSWORD, USER, Serving, ask, message, new_site, read_all, replies_in, zope
 
 ADMIN = f"{USER}:{PASSWORD}"
 
@@ -75,23 +71,6 @@ def in_pieces(port, sent, pause):
             client.sendall(sent[at : at + 1])
             time.sleep(pause)
         return read_all(client)
-
-
-def facts():
-    """A page that looks at 260 documents of 262,000 bytes each runs away by the bytes that it asks for."""
-    with tempfile.TemporaryDirectory() as place:
-        file = pathlib.Path(place) / "site.fs"
-        names = [b"index_html", *(b"d%d" % n for n in range(260))]
-        sources = [b"<dtml-in objectValues>&dtml-title;</dtml-in>", *[b"x" * 262_000] * 260]
-        records = [(at, document(name, source)) for at, (name, source) in enumerate(zip(names, sources), 1)]
-        with open(file, "wb") as out:
-            Writer(out).transaction(1, b"", b"", [(0, folder([(name, at) for at, name in enumerate(names, 1)])), *records])
-        serving = Serving(file, 20, seconds=120)
-        came = ask(serving.entry, message("GET", "/"), 120)
-        assert status_of(came) == 500 and body_of(came) == b"runaway: facts\n", came[:300]
-        assert body_of(ask(serving.entry, message("GET", "/d7"))) == sources[1]
-        serving.end()
-        print(f"hostile: a page that asks for 68 MB is refused; {serving.check_replay()} replies, each of them replayed")
 
 
 # what is sent by chance is made of these
@@ -241,7 +220,6 @@ def table():
 
 def main():
     table()
-    facts()
     random_part(int(sys.argv[1]) if len(sys.argv) > 1 else 4000, sys.argv[2] if len(sys.argv) > 2 else "1")
 
 
