@@ -81,9 +81,10 @@ def seconds_of(site, lines):
 
 
 def instructions_of(site, lines):
-    """How many instructions a replay takes, in millions, by valgrind."""
+    """How many instructions a replay by the program itself takes, in millions, by valgrind."""
+    program = pathlib.Path(PROGRAM).parent / "crates/zope_main/out/zope_main"
     with open(lines, "rb") as given:
-        words = ["valgrind", "--tool=callgrind", "--callgrind-out-file=/dev/null", PROGRAM, "replay", site]
+        words = ["valgrind", "--tool=callgrind", "--callgrind-out-file=/dev/null", program, "replay", site]
         said = subprocess.run(words, stdin=given, stdout=subprocess.DEVNULL, stderr=subprocess.PIPE, text=True, check=True).stderr
     return int(re.search(r"Collected : (\d+)", said).group(1)) / 1e6
 
