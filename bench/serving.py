@@ -18,6 +18,7 @@ import os
 import pathlib
 import re
 import resource
+import shutil
 import socket
 import subprocess
 import sys
@@ -33,6 +34,8 @@ from served import PASSWORD, USER, Serving, ask, free_port, listens, message, ne
 ADMIN, PAGE = f"{USER}:{PASSWORD}", b"<html><body><h1>A page without tags</h1>" + b"<p>Some words of it.</p>" * 20 + b"</body></html>"
 SECONDS = float(sys.argv[1]) if len(sys.argv) > 1 else 5.0
 CLIENTS = (1, 4, 16)
+# the system's own, for which Debian's packages are
+SYSTEM_PYTHON = shutil.which("python3", path=os.defpath)
 HEADER, FOOTER = b"<html><body><h1>&dtml-title;</h1>", b"<p>You are &dtml-AUTHENTICATED_USER;.</p></body></html>"
 TAGS = b"<dtml-var header><dl>" + b"".join(b"<dt>p%d</dt><dd>&dtml-p%d;</dd>" % (n, n) for n in range(10)) + b"</dl><dtml-var footer>"
 
@@ -81,7 +84,7 @@ class Nginx:
 class Waitress:
     def __init__(self, folder):
         self.port = free_port()
-        self.process = subprocess.Popen(["/usr/bin/python3", str(HERE / "waitress_site.py"), str(self.port), str(folder / "site.db")])
+        self.process = subprocess.Popen([SYSTEM_PYTHON, str(HERE / "waitress_site.py"), str(self.port), str(folder / "site.db")])
         wait_for(lambda: self.process.poll() is not None or listens(self.port))
         assert self.process.poll() is None, "the Python server doesn't start: its packages are named at the top"
 

@@ -1,6 +1,6 @@
 """What bench/serving.py measures the server beside: a page and an edit by waitress, with Jinja2 over SQLite.
 
-    /usr/bin/python3 bench/waitress_site.py PORT FILE
+    python3 bench/waitress_site.py PORT FILE
 
 The page has a header, a footer and ten properties; its templates are compiled once, its values are read from FILE for each reply.
 Who sends a name and a password is looked up, as the served site does, by the SHA-1 of the password. An edit changes the page's row

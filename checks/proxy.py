@@ -43,13 +43,13 @@ class Nginx:
 
     def __init__(self, folder, port):
         self.plain, self.tls = free_port(), free_port()
-        key, certificate = folder / "site.key", folder / "site.pem"
+        key, certificate = folder / f"{NAME}.key", folder / f"{NAME}.pem"
         subprocess.run(["openssl", "req", "-x509", "-newkey", "rsa:2048", "-nodes", "-days", "2", "-subj", f"/CN={NAME}",
                         "-addext", f"subjectAltName=DNS:{NAME}", "-keyout", key, "-out", certificate], check=True, capture_output=True)
         self.certificate = certificate
         site = replaced(block("nginx"), [
             ("listen 80;", f"listen 127.0.0.1:{self.plain};"), ("listen 443 ssl;", f"listen 127.0.0.1:{self.tls} ssl;"),
-            (f"/etc/nginx/{NAME}.pem", str(certificate)), (f"/etc/nginx/{NAME}.key", str(key)), ("127.0.0.1:8080", f"127.0.0.1:{port}")])
+            ("127.0.0.1:8080", f"127.0.0.1:{port}")])
         conf = folder / "nginx.conf"
         folders = "".join(f"{word}_temp_path {folder}/{word};\n" for word in ("client_body", "proxy", "fastcgi", "uwsgi", "scgi"))
         conf.write_text(f"daemon off; user root; worker_processes 1; pid {folder}/nginx.pid; error_log {folder}/error.log;\n"
@@ -123,19 +123,19 @@ def slow_clients(nginx, server):
 def unit(folder):
     """The unit's command as it stands, and what systemd says of the unit."""
     text = block("ini")
-    command = re.search(r"^ExecStart=/bin/sh -c '(.*)'$", text, re.M)[1].replace("%%", "%")
+    command = re.search(r"^ExecStart=sh -c '(.*)'$", text, re.M)[1].replace("%%", "%")
     port = free_port()
-    command = replaced(command, [("/opt/zope/zope_main", str(PROGRAM)), ("--port 8080", f"--port {port}")])
+    command = replaced(command, [(" zope_main ", f" {PROGRAM} "), ("--port 8080", f"--port {port}")])
     (folder / "tapes").mkdir()
-    runs = [subprocess.Popen(["/bin/sh", "-c", command], cwd=folder, stdout=subprocess.PIPE, umask=0o077)]
+    runs = [subprocess.Popen(["sh", "-c", command], cwd=folder, stdout=subprocess.PIPE, umask=0o077)]
     wait_for(lambda: listens(port))
     # a second one finds the lock, and makes no tape
-    assert subprocess.run(["/bin/sh", "-c", command], cwd=folder, check=False).returncode == 75
+    assert subprocess.run(["sh", "-c", command], cwd=folder, check=False).returncode == 75
     assert subprocess.run(["curl", "-sS", f"http://127.0.0.1:{port}/"], check=True, capture_output=True).stdout == b"slow"
     # the process is the server itself, so that a signal ends it
     runs[0].send_signal(signal.SIGTERM)
     assert runs[0].wait(20) == -signal.SIGTERM
-    runs.append(subprocess.Popen(["/bin/sh", "-c", command], cwd=folder, stdout=subprocess.PIPE, umask=0o077))
+    runs.append(subprocess.Popen(["sh", "-c", command], cwd=folder, stdout=subprocess.PIPE, umask=0o077))
     wait_for(lambda: listens(port))
     runs[1].terminate()
     runs[1].wait()
@@ -144,7 +144,7 @@ def unit(folder):
     if not shutil.which("systemd-analyze"):
         return "tried; there is no systemd-analyze"
     file = folder / "site.service"
-    file.write_text(replaced(text, [("/srv/site", str(folder)), ("/opt/zope/zope_main", str(PROGRAM)), ("User=site", f"User={os.getuid()}")]))
+    file.write_text(replaced(text, [("User=site", f"User={os.getuid()}")]))
     said = subprocess.run(["systemd-analyze", "verify", file], check=False, capture_output=True, text=True)
     about = [line for line in said.stderr.splitlines() if "site.service" in line]
     assert said.returncode == 0 and not about, said.stderr
