@@ -204,7 +204,8 @@ fn entries_of(alloc: Global, restores: &[Restore]) -> Result<Entries, Memory>
 #[tactic(auto, using(crate::proofs::Values::one_each, crate::proofs::Values::writes_so, crate::proofs::Values::refuses_so))]
 fn undo_known(alloc: Global, facts: &Facts, from: usize, parts: &Parts) -> Result<Entries, UndoHalt>
     requires once { EachOnce facts.now }
-    ensures { Answers spec.told (λ entries. entries) result (run (look facts.now) (spec.planned (spec.undone parts.now (map (spec.value_now (look facts.now)) parts.now)))) }
+    ensures { Answers spec.told (λ entries. entries) result
+        (run (look facts.now) (spec.planned (spec.undone parts.now (map (spec.value_now (look facts.now)) parts.now)))) }
 {
     let present = present_of(alloc, facts, from, parts.as_slice())?;
     let restores = plan(alloc, parts, present.as_slice())?;

@@ -88,7 +88,8 @@ fn change_itself(
     requires lawful { IsObject object.now }
     requires alone { WritesItself call }
     ensures { (known : ℕ → Option (Seen AnObject))
-        → Answers told (λ change. change) result (as_ask (run known (changing.change_by (row_of call (kind_of object.now.part)) call oid object.now fields.now))) }
+        → Answers told (λ change. change) result
+        (as_ask (run known (changing.change_by (row_of call (kind_of object.now.part)) call oid object.now fields.now))) }
 {
     record_itself(alloc, call, oid, object, fields)
 }
@@ -147,7 +148,8 @@ fn writes(
 ) -> Result<Called, ManageRefusal>
     requires lawful { IsObject object.now }
     requires known { KeepRules (objects known.now) }
-    ensures { Answers told (λ called. called) result (as_ask (run (objects known.now) (changing.written_by (changing.changed call oid object.now fields.now)))) }
+    ensures { Answers told (λ called. called) result
+        (as_ask (run (objects known.now) (changing.written_by (changing.changed call oid object.now fields.now)))) }
 {
     let change = changed(alloc, call, oid, known, object, fields)?;
     Ok(Called::Writes(change))

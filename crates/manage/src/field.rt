@@ -106,7 +106,8 @@ fn is_crowd(alloc: Global, rule: FieldRule, scalars: &[Scalar]) -> Result<bool, 
 
 // Whether one of the texts has too many bytes, or there are too many roles.
 fn has_too_many(alloc: Global, rule: FieldRule, scalars: &[Scalar]) -> Result<bool, Memory>
-    ensures { IfOk result (λ yes. yes ≡ (list_any (spec.is_long rule) (map spec.scalar_text scalars.now) || spec.is_crowd rule (map spec.scalar_text scalars.now))) }
+    ensures { IfOk result (λ yes. yes ≡ (list_any (spec.is_long rule) (map spec.scalar_text scalars.now)
+        || spec.is_crowd rule (map spec.scalar_text scalars.now))) }
 {
     Ok(any_has_more(alloc, rule, scalars)? || is_crowd(alloc, rule, scalars)?)
 }
