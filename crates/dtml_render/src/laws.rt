@@ -19,23 +19,25 @@ ghost use Rattle.namespace.specs.LookLaws.{IsShown, Same, Views};
 ghost use Rattle.namespace.specs.Names.{Scope, act, named, reaching, text, viewing, whose};
 ghost use Rattle.namespace.specs.Traces.{AreGrantedBy, IsAlong, IsIn, ViewsAs, trace, viewed_in};
 ghost use Rattle.dtml_values.specs.Values.{Left};
-ghost use Rattle.dtml_render.specs.Access.{HasNoRoles, IsActing, RefusesRightly};
+ghost use Rattle.dtml_render.specs.Access.{HasNoRoles, IsActing, IsSkipping, LooksRightly, RefusesRightly};
 ghost use Rattle.dtml_render.specs.Rendering.{State, argument, item_scope, object_value, scope_in, source_of, source_text, sourced, state, tree_text};
 ghost use Rattle.dtml_render.specs.Resuming as resuming;
 ghost use Rattle.dtml_render.specs.Resuming.{Ask, Asking, Frame, Opening, Reaching, Rest, StandsIn, Turns, Value, Waiting, after, after_opening, asking, cut, item_opening, may_turn, name_in};
 
 /// A page looks for the user of its request, for who acts in his place where it begins, and for those alone who have the
-/// proxy roles of an object whose contents it saw before.
+/// proxy roles of an object whose contents it saw before. It passes something over for those alone who act in its template, or
+/// in the source of an object whose contents it saw before, where there is a `dtml-in` with `skip_unauthorized`.
 ///
-/// Zope Book, "Users and Security": proxy roles.
+/// Zope Book, "Users and Security": proxy roles; "Advanced DTML": `skip_unauthorized` of `dtml-in`.
 pub fn pages_are_for_their_users()
     ensures { (known : ℕ → Option (Seen Object)) (renders : ℕ) (objects : List ℕ) (scope : Scope) (tree : Items) (left : Left)
-        → IsAlong (IsActing known scope) known objects (tree_text renders scope tree left) }
+        → IsAlong (IsActing known scope) (IsSkipping known scope tree) known objects (tree_text renders scope tree left) }
 {}
 
 /// Each object that a page shows was granted to the user of its first use, by the role that is told; each object whose
-/// title, source or property a page uses is shown; and a page that is refused for want of a permission names what wasn't
-/// granted to the user of its last look, where all before was granted or passed over.
+/// title, source or property a page uses is shown; and all that it looked at was granted, or passed over for who acts in a
+/// source in which there is a `dtml-in` with `skip_unauthorized`. A page that is refused for want of a permission names what
+/// wasn't granted to the user of its last look, and looked so at all before.
 pub fn pages_show_what_is_granted()
     ensures granted { (known : ℕ → Option (Seen Object)) (renders : ℕ) (scope : Scope) (tree : Items) (left : Left) (before : List Use)
         (x : (List ℕ × Left) × List Use) → AreGrantedBy (IsActing known scope) known [] before
@@ -43,9 +45,12 @@ pub fn pages_show_what_is_granted()
     ensures shown { (known : ℕ → Option (Seen Object)) (renders : ℕ) (scope : Scope) (tree : Items) (left : Left) (o : ℕ) (before : List Shown)
         (x : (List ℕ × Left) × List Shown) → Views known o (tree_text renders scope tree left)
         → looked known before (tree_text renders scope tree left) ≡ Ok x → IsShown o x.1 }
+    ensures came { (known : ℕ → Option (Seen Object)) (renders : ℕ) (scope : Scope) (tree : Items) (left : Left) (before : List Use)
+        (x : (List ℕ × Left) × List Use) → looked_by known before (tree_text renders scope tree left) ≡ Ok x
+        → LooksRightly (IsActing known scope) (IsSkipping known scope tree) known (trace known (tree_text renders scope tree left)) }
     ensures denied { (known : ℕ → Option (Seen Object)) (renders : ℕ) (scope : Scope) (tree : Items) (left : Left) (before : List Shown)
         (o permission : ℕ) → looked known before (tree_text renders scope tree left) ≡ Err (Cause (Unauthorized o permission))
-        → RefusesRightly (IsActing known scope) known o permission (trace known (tree_text renders scope tree left)) }
+        → RefusesRightly (IsActing known scope) (IsSkipping known scope tree) known o permission (trace known (tree_text renders scope tree left)) }
 {}
 
 /// Where no object whose title, source or property a page uses has proxy roles, the page views each as the request's user;

@@ -7,7 +7,7 @@ ghost use Rattle.namespace.specs.LookLaws.{IsShown, Views};
 ghost use Rattle.namespace.specs.Told.{Shows};
 ghost use Rattle.namespace.specs.Traces.{AreGrantedBy, trace};
 ghost use Rattle.dtml_values.specs.Told.{told, left_of, Keeps};
-ghost use Rattle.dtml_render.specs.Access.{IsActing, RefusesRightly};
+ghost use Rattle.dtml_render.specs.Access.{IsActing, IsSkipping, RefusesRightly};
 ghost use Rattle.dtml_render.specs.Rendering as rendering;
 
 use crate::asking::cut;
@@ -28,7 +28,8 @@ use zbase::Text;
 /// first use, by the role that is told: to the user of the verdicts where the page begins, to the request's user, or to
 /// someone with the proxy roles of an object that was shown before. A refusal for want of a permission names an object and
 /// a permission that isn't granted to the user of the page's last look, who is such a one; what the page looked at before
-/// was granted, or passed over by a `dtml-in` with `skip_unauthorized`.
+/// was granted, or passed over for who acts in the template, or in the source of an object that the page viewed before, where
+/// there is a `dtml-in` with `skip_unauthorized`.
 ///
 /// Zope Book, appendix "DTML Reference"; "Users and Security".
 pub fn render(
@@ -49,7 +50,8 @@ pub fn render(
         (rendering.tree_text budget.old.renders stack.old.scope (tree_view tree.now) (left_of budget.old)) ≡ Ok ((t, left_of budget.new), uses))
         × (stack.new.shown ≡ without_users uses) × AreGrantedBy (IsActing (objects stack.old.known) stack.old.scope) (objects stack.old.known) [] uses) }
     ensures denied { (o permission : ℕ) → IfErr result (λ e. told e ≡ Some (Cause (Unauthorized o permission))
-        → RefusesRightly (IsActing (objects stack.old.known) stack.old.scope) (objects stack.old.known) o permission
+        → RefusesRightly (IsActing (objects stack.old.known) stack.old.scope)
+        (IsSkipping (objects stack.old.known) stack.old.scope (tree_view tree.now)) (objects stack.old.known) o permission
         (trace (objects stack.old.known) (rendering.tree_text budget.old.renders stack.old.scope (tree_view tree.now) (left_of budget.old)))) }
 {
     let acting = stack.acting()?;

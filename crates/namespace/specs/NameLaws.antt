@@ -1,4 +1,4 @@
--- What a name means in a stack is for the user of its verdicts alone.
+-- What a name means in a stack is for the user of its verdicts alone, and passes nothing over.
 use Rattle.std.proofs.Common.{ℕ, List, [], ◌∷◌, ◌++◌, reverse, Option, Some, None, Bool, true, false, if◌then◌else◌}
 use Rattle.std.specs.Prelude.{codes}
 use Rattle.zobject.specs.Texts.{begins_with}
@@ -27,7 +27,7 @@ for_then Sort k (See at go) next is each = λ shape here. for_then Sort k (go sh
 for_then Sort k (Reach w at go) next is each = λ found there. for_then Sort k (go found) next (is found there) each
 for_then Sort k (Enter who at go) next is each = (is.0, for_then Sort k go next is.1 each)
 for_then Sort k (View who at go) next is each = (is.0, λ object here. for_then Sort k (go object) next (is.1 object here) each)
-for_then Sort k (Offer who at go) next is each = (is.0, λ granted. for_then Sort k (go granted) next (is.1 granted) each)
+for_then Sort k (Offer who at go) next is each = absurd is
 
 module _ (Sort : Who → Type 0) (k : ℕ → Option (Seen Object)) (who : Who) (of : Sort who) where
   for_each : (whole : List ℕ) (so_far : List Single) (children : List Child) → IsFor Sort k (reach_each whole so_far children)

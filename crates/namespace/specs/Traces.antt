@@ -276,20 +276,27 @@ abbrev pub viewed_in : List ℕ → List Look → List ℕ
 viewed_in objects [] = objects
 viewed_in objects (l ∷ looks) = viewed_in (viewed_at l.kind l.oid l.verdict objects) looks
 
--- Each look is one of a user of this sort, which hangs on the objects whose contents were seen before.
-abbrev pub AreOf : (List ℕ → Who → Type 0) → List ℕ → List Look → Type 0
-AreOf Sort objects [] = Unit {0}
-AreOf Sort objects (l ∷ looks) = Sort objects l.user × AreOf Sort (viewed_at l.kind l.oid l.verdict objects) looks
+-- what is said of turns alone
+abbrev pub if_turn : Kind → Type 0 → Type 0
+if_turn Children T = Unit {0}
+if_turn Contents T = Unit {0}
+if_turn Turn T = T
 
--- On the way to what a page comes to, each look is one of a user of this sort.
-abbrev pub IsAlong : {A : Type 0} → (List ℕ → Who → Type 0) → (ℕ → Option (Seen Object)) → List ℕ → Looks A → Type 0
-IsAlong Sort k objects (Done x) = Unit {0}
-IsAlong Sort k objects (Stops cause) = Unit {0}
-IsAlong Sort k objects (See at go) = (shape : Shape) → run (veiled k) (here at) ≡ Ok shape → IsAlong Sort k objects (go shape)
-IsAlong Sort k objects (Reach w at go) = (found : List ℕ) → run (veiled k) (reached w at) ≡ Ok found → IsAlong Sort k objects (go found)
-IsAlong Sort k objects (Enter who at go) = Sort objects who × IsAlong Sort k objects go
-IsAlong Sort k objects (View who at go) = Sort objects who × ((object : Object) → run k (here at) ≡ Ok object → IsAlong Sort k (at ∷ objects) (go object))
-IsAlong Sort k objects (Offer who at go) = Sort objects who × ((granted : Bool) → IsAlong Sort k objects (go granted))
+-- Each look is one of a user of this sort, and a look of whether an object has its turn is one of a user of the second sort
+-- too. Both hang on the objects whose contents were seen before.
+abbrev pub AreOf : (List ℕ → Who → Type 0) → (List ℕ → Who → Type 0) → List ℕ → List Look → Type 0
+AreOf Sort Turns objects [] = Unit {0}
+AreOf Sort Turns objects (l ∷ looks) = (Sort objects l.user × if_turn l.kind (Turns objects l.user)) × AreOf Sort Turns (viewed_at l.kind l.oid l.verdict objects) looks
+
+-- So are the looks on the way to what a page comes to.
+abbrev pub IsAlong : {A : Type 0} → (List ℕ → Who → Type 0) → (List ℕ → Who → Type 0) → (ℕ → Option (Seen Object)) → List ℕ → Looks A → Type 0
+IsAlong Sort Turns k objects (Done x) = Unit {0}
+IsAlong Sort Turns k objects (Stops cause) = Unit {0}
+IsAlong Sort Turns k objects (See at go) = (shape : Shape) → run (veiled k) (here at) ≡ Ok shape → IsAlong Sort Turns k objects (go shape)
+IsAlong Sort Turns k objects (Reach w at go) = (found : List ℕ) → run (veiled k) (reached w at) ≡ Ok found → IsAlong Sort Turns k objects (go found)
+IsAlong Sort Turns k objects (Enter who at go) = Sort objects who × IsAlong Sort Turns k objects go
+IsAlong Sort Turns k objects (View who at go) = Sort objects who × ((object : Object) → run k (here at) ≡ Ok object → IsAlong Sort Turns k (at ∷ objects) (go object))
+IsAlong Sort Turns k objects (Offer who at go) = (Sort objects who × Turns objects who) × ((granted : Bool) → IsAlong Sort Turns k objects (go granted))
 
 -- the objects of one list are all in another
 abbrev pub Within : List ℕ → List ℕ → Type 0
@@ -298,67 +305,72 @@ Within objects later = (o : ℕ) → IsIn o objects → IsIn o later
 pub within_more : (objects : List ℕ) (p : ℕ) → Within objects (p ∷ objects)
 within_more objects p = λ o is. inr is
 
-within_both : (objects later : List ℕ) (p : ℕ) → Within objects later → Within (p ∷ objects) (p ∷ later)
-within_both objects later p more o (inl same) = inl same
-within_both objects later p more o (inr is) = inr (more o is)
-
 -- who is of the sort is so still when more was seen
 abbrev pub Stays : (List ℕ → Who → Type 0) → Type 0
 Stays Sort = (objects later : List ℕ) → Within objects later → (who : Who) → Sort objects who → Sort later who
 
--- a page and then another
-pub along_then : {A B : Type 0} (Sort : List ℕ → Who → Type 0) (k : ℕ → Option (Seen Object)) (objects : List ℕ) (q : Looks A) (next : A → Looks B) → IsAlong Sort k objects q →
-    ((later : List ℕ) → Within objects later → (x : A) → IsAlong Sort k later (next x)) → IsAlong Sort k objects (q >>= next)
-along_then Sort k objects (Done x) next is each = each objects (λ o there. there) x
-along_then Sort k objects (Stops cause) next is each = tt
-along_then Sort k objects (See at go) next is each = λ shape there. along_then Sort k objects (go shape) next (is shape there) each
-along_then Sort k objects (Reach w at go) next is each = λ found there. along_then Sort k objects (go found) next (is found there) each
-along_then Sort k objects (Enter who at go) next is each = (is.0, along_then Sort k objects go next is.1 each)
-along_then Sort k objects (View who at go) next is each = (
-  is.0,
-  λ object there. along_then Sort k (at ∷ objects) (go object) next (is.1 object there) (λ later more x. each later (λ o seen. more o (inr seen)) x),
-)
-along_then Sort k objects (Offer who at go) next is each = (is.0, λ granted. along_then Sort k objects (go granted) next (is.1 granted) each)
+-- who is of one sort is of another from then on
+abbrev pub IsWider : (List ℕ → Who → Type 0) → (List ℕ → Who → Type 0) → List ℕ → Type 0
+IsWider Sort Wider objects = (later : List ℕ) → Within objects later → (who : Who) → Sort later who → Wider later who
 
--- where the users are of a sort from the beginning
-pub along_for : {A : Type 0} (Sort : List ℕ → Who → Type 0) → Stays Sort → (k : ℕ → Option (Seen Object)) (objects later : List ℕ) → Within objects later → (q : Looks A) → IsFor (Sort objects) k q → IsAlong Sort k later q
-along_for Sort stays k objects later more (Done x) is = tt
-along_for Sort stays k objects later more (Stops cause) is = tt
-along_for Sort stays k objects later more (See at go) is = λ shape there. along_for Sort stays k objects later more (go shape) (is shape there)
-along_for Sort stays k objects later more (Reach w at go) is = λ found there. along_for Sort stays k objects later more (go found) (is found there)
-along_for Sort stays k objects later more (Enter who at go) is = (stays objects later more who is.0, along_for Sort stays k objects later more go is.1)
-along_for Sort stays k objects later more (View who at go) is = (stays objects later more who is.0, λ object there. along_for Sort stays k objects (at ∷ later) (λ o seen. inr (more o seen)) (go object) (is.1 object there))
-along_for Sort stays k objects later more (Offer who at go) is = (stays objects later more who is.0, λ granted. along_for Sort stays k objects later more (go granted) (is.1 granted))
+module _ (Sort Turns : List ℕ → Who → Type 0) (k : ℕ → Option (Seen Object)) where
+  -- a page and then another
+  pub along_then : {A B : Type 0} (objects : List ℕ) (q : Looks A) (next : A → Looks B) → IsAlong Sort Turns k objects q →
+      ((later : List ℕ) → Within objects later → (x : A) → IsAlong Sort Turns k later (next x)) → IsAlong Sort Turns k objects (q >>= next)
+  along_then objects (Done x) next is each = each objects (λ o there. there) x
+  along_then objects (Stops cause) next is each = tt
+  along_then objects (See at go) next is each = λ shape there. along_then objects (go shape) next (is shape there) each
+  along_then objects (Reach w at go) next is each = λ found there. along_then objects (go found) next (is found there) each
+  along_then objects (Enter who at go) next is each = (is.0, along_then objects go next is.1 each)
+  along_then objects (View who at go) next is each = (
+    is.0,
+    λ object there. along_then (at ∷ objects) (go object) next (is.1 object there) (λ later more x. each later (λ o seen. more o (inr seen)) x),
+  )
+  along_then objects (Offer who at go) next is each = (is.0, λ granted. along_then objects (go granted) next (is.1 granted) each)
+
+  -- where the users are of a sort from the beginning, and nothing is passed over
+  pub along_for : {A : Type 0} → Stays Sort → (objects later : List ℕ) → Within objects later → (q : Looks A) → IsFor (Sort objects) k q → IsAlong Sort Turns k later q
+  along_for stays objects later more (Done x) is = tt
+  along_for stays objects later more (Stops cause) is = tt
+  along_for stays objects later more (See at go) is = λ shape there. along_for stays objects later more (go shape) (is shape there)
+  along_for stays objects later more (Reach w at go) is = λ found there. along_for stays objects later more (go found) (is found there)
+  along_for stays objects later more (Enter who at go) is = (stays objects later more who is.0, along_for stays objects later more go is.1)
+  along_for stays objects later more (View who at go) is = (stays objects later more who is.0, λ object there. along_for stays objects (at ∷ later) (λ o seen. inr (more o seen)) (go object) (is.1 object there))
+  along_for stays objects later more (Offer who at go) is = absurd is
 
 -- a page for users of a sort is one for those of a sort that is wider from then on
-pub along_wider : {A : Type 0} (Sort Wider : List ℕ → Who → Type 0) (k : ℕ → Option (Seen Object)) (objects : List ℕ) (q : Looks A) →
-    ((later : List ℕ) → Within objects later → (who : Who) → Sort later who → Wider later who) → IsAlong Sort k objects q → IsAlong Wider k objects q
-along_wider Sort Wider k objects (Done x) wider is = tt
-along_wider Sort Wider k objects (Stops cause) wider is = tt
-along_wider Sort Wider k objects (See at go) wider is = λ shape there. along_wider Sort Wider k objects (go shape) wider (is shape there)
-along_wider Sort Wider k objects (Reach w at go) wider is = λ found there. along_wider Sort Wider k objects (go found) wider (is found there)
-along_wider Sort Wider k objects (Enter who at go) wider is = (wider objects (λ o seen. seen) who is.0, along_wider Sort Wider k objects go wider is.1)
-along_wider Sort Wider k objects (View who at go) wider is = (
+pub along_wider : {A : Type 0} (Sort Turns Wider WiderTurns : List ℕ → Who → Type 0) (k : ℕ → Option (Seen Object)) (objects : List ℕ) (q : Looks A) →
+    IsWider Sort Wider objects → IsWider Turns WiderTurns objects → IsAlong Sort Turns k objects q → IsAlong Wider WiderTurns k objects q
+along_wider Sort Turns Wider WiderTurns k objects (Done x) wider turns is = tt
+along_wider Sort Turns Wider WiderTurns k objects (Stops cause) wider turns is = tt
+along_wider Sort Turns Wider WiderTurns k objects (See at go) wider turns is = λ shape there. along_wider Sort Turns Wider WiderTurns k objects (go shape) wider turns (is shape there)
+along_wider Sort Turns Wider WiderTurns k objects (Reach w at go) wider turns is = λ found there. along_wider Sort Turns Wider WiderTurns k objects (go found) wider turns (is found there)
+along_wider Sort Turns Wider WiderTurns k objects (Enter who at go) wider turns is =
+    (wider objects (λ o seen. seen) who is.0, along_wider Sort Turns Wider WiderTurns k objects go wider turns is.1)
+along_wider Sort Turns Wider WiderTurns k objects (View who at go) wider turns is = (
   wider objects (λ o seen. seen) who is.0,
-  λ object there. along_wider Sort Wider k (at ∷ objects) (go object) (λ later more. wider later (λ o seen. more o (inr seen))) (is.1 object there),
+  λ object there. along_wider Sort Turns Wider WiderTurns k (at ∷ objects) (go object) (λ later more. wider later (λ o seen. more o (inr seen))) (λ later more. turns later (λ o seen. more o (inr seen))) (is.1 object there),
 )
-along_wider Sort Wider k objects (Offer who at go) wider is = (wider objects (λ o seen. seen) who is.0, λ granted. along_wider Sort Wider k objects (go granted) wider (is.1 granted))
+along_wider Sort Turns Wider WiderTurns k objects (Offer who at go) wider turns is = (
+  (wider objects (λ o seen. seen) who is.0.0, turns objects (λ o seen. seen) who is.0.1),
+  λ granted. along_wider Sort Turns Wider WiderTurns k objects (go granted) wider turns (is.1 granted),
+)
 
-module _ (Sort : List ℕ → Who → Type 0) where
-  answer_of : {A F : Type 0} (objects : List ℕ) (next : A → List Look) (r : Result A F) → ((x : A) → r ≡ Ok x → AreOf Sort objects (next x)) → AreOf Sort objects (behind_answer next r)
+module _ (Sort Turns : List ℕ → Who → Type 0) where
+  answer_of : {A F : Type 0} (objects : List ℕ) (next : A → List Look) (r : Result A F) → ((x : A) → r ≡ Ok x → AreOf Sort Turns objects (next x)) → AreOf Sort Turns objects (behind_answer next r)
   answer_of objects next (Ok x) each = each x refl
   answer_of objects next (Err e) each = tt
 
-  entered_of : (objects : List ℕ) (who : Who) (o : ℕ) (v : Verdict) (further : List Look) → Sort objects who → AreOf Sort objects further → AreOf Sort objects (a_look who Children o v ∷ if_granted v further)
-  entered_of objects who o (verdicts.Granted role) further of are = (of, are)
-  entered_of objects who o (verdicts.Denied permission) further of are = (of, tt)
+  entered_of : (objects : List ℕ) (who : Who) (o : ℕ) (v : Verdict) (further : List Look) → Sort objects who → AreOf Sort Turns objects further → AreOf Sort Turns objects (a_look who Children o v ∷ if_granted v further)
+  entered_of objects who o (verdicts.Granted role) further of are = ((of, tt), are)
+  entered_of objects who o (verdicts.Denied permission) further of are = ((of, tt), tt)
 
-  viewed_of : (objects : List ℕ) (who : Who) (o : ℕ) (v : Verdict) (further : List Look) → Sort objects who → AreOf Sort (o ∷ objects) further → AreOf Sort objects (a_look who Contents o v ∷ if_granted v further)
-  viewed_of objects who o (verdicts.Granted role) further of are = (of, are)
-  viewed_of objects who o (verdicts.Denied permission) further of are = (of, tt)
+  viewed_of : (objects : List ℕ) (who : Who) (o : ℕ) (v : Verdict) (further : List Look) → Sort objects who → AreOf Sort Turns (o ∷ objects) further → AreOf Sort Turns objects (a_look who Contents o v ∷ if_granted v further)
+  viewed_of objects who o (verdicts.Granted role) further of are = ((of, tt), are)
+  viewed_of objects who o (verdicts.Denied permission) further of are = ((of, tt), tt)
 
-  -- the looks of a page are those of users of the sort
-  pub trace_of : {A : Type 0} (k : ℕ → Option (Seen Object)) (objects : List ℕ) (q : Looks A) → IsAlong Sort k objects q → AreOf Sort objects (trace k q)
+  -- the looks of a page are those of users of the sorts
+  pub trace_of : {A : Type 0} (k : ℕ → Option (Seen Object)) (objects : List ℕ) (q : Looks A) → IsAlong Sort Turns k objects q → AreOf Sort Turns objects (trace k q)
   trace_of k objects (Done x) is = tt
   trace_of k objects (Stops cause) is = tt
   trace_of k objects (See o go) is = answer_of objects (λ shape. trace k (go shape)) (run (veiled k) (here o)) (λ shape there. trace_of k objects (go shape) (is shape there))
@@ -453,16 +465,17 @@ module _ (Sort : List ℕ → Who → Type 0) (stays : Stays Sort) (k : ℕ → 
   goes_by who Turn o (verdicts.Granted role) objects uses of judged keeps = granted_keeps_on who o role objects uses of judged keeps
   goes_by who Turn o (verdicts.Denied permission) objects uses of judged keeps = keeps
 
-  all_go_by : (looks : List Look) (objects : List ℕ) (uses : List Use) → AreOf Sort objects looks → AreJudged k looks → Keeps objects uses → AreGrantedBy Sort k [] (first_uses uses looks)
-  all_go_by [] objects uses of judged keeps = keeps.granted
-  all_go_by (l ∷ looks) objects uses of judged keeps =
-      all_go_by looks (viewed_at l.kind l.oid l.verdict objects) (used_at l.user l.kind l.oid l.verdict uses) of.1 judged.1 (goes_by l.user l.kind l.oid l.verdict objects uses of.0 judged.0 keeps)
+  all_go_by : (Turns : List ℕ → Who → Type 0) (looks : List Look) (objects : List ℕ) (uses : List Use) → AreOf Sort Turns objects looks → AreJudged k looks → Keeps objects uses → AreGrantedBy Sort k [] (first_uses uses looks)
+  all_go_by Turns [] objects uses of judged keeps = keeps.granted
+  all_go_by Turns (l ∷ looks) objects uses of judged keeps =
+      all_go_by Turns looks (viewed_at l.kind l.oid l.verdict objects) (used_at l.user l.kind l.oid l.verdict uses) of.1 judged.1 (goes_by l.user l.kind l.oid l.verdict objects uses of.0.0 judged.0 keeps)
 
   -- what a page shows was granted to the user of its first use, by the role that is told, where what was shown before was
-  pub uses_granted : {A : Type 0} (before : List Use) (q : Looks A) (x : A × List Use) → IsAlong Sort k [] q → AreGrantedBy Sort k [] before → looked_by k before q ≡ Ok x → AreGrantedBy Sort k [] x.1
-  uses_granted before q x is are e =
+  pub uses_granted : {A : Type 0} (Turns : List ℕ → Who → Type 0) (before : List Use) (q : Looks A) (x : A × List Use) → IsAlong Sort Turns k [] q → AreGrantedBy Sort k [] before → looked_by k before q ≡ Ok x →
+      AreGrantedBy Sort k [] x.1
+  uses_granted Turns before q x is are e =
       subst (AreGrantedBy Sort k []) (sym (trace_came k before q x e).1)
-      (all_go_by (trace k q) [] before (trace_of Sort k [] q is) (trace_judged k q) (record { seen = λ o none. absurd none; granted = are }))
+      (all_go_by Turns (trace k q) [] before (trace_of Sort Turns k [] q is) (trace_judged k q) (record { seen = λ o none. absurd none; granted = are }))
 
 -- ---- contents stay apart
 
@@ -491,12 +504,12 @@ own_so w Contents who same = same
 own_so w Turn who same = tt
 
 -- where all objects whose contents it uses keep a rule, under which nobody but this user looks
-pub views_own : (Sort : List ℕ → Who → Type 0) (Rule : ℕ → Type 0) (w : Who) → ((objects : List ℕ) → ((o : ℕ) → IsIn o objects → Rule o) → (who : Who) → Sort objects who → who ≡ w) →
-    (objects : List ℕ) (looks : List Look) → AreOf Sort objects looks → ((o : ℕ) → IsIn o (viewed_in objects looks) → Rule o) → ViewsAs w looks
-views_own Sort Rule w only objects [] of keeps = tt
-views_own Sort Rule w only objects (l ∷ looks) of keeps = (
-  own_so w l.kind l.user (only objects (λ o is. keeps o (viewed_stays objects (l ∷ looks) o is)) l.user of.0),
-  views_own Sort Rule w only (viewed_at l.kind l.oid l.verdict objects) looks of.1 keeps,
+pub views_own : (Sort Turns : List ℕ → Who → Type 0) (Rule : ℕ → Type 0) (w : Who) → ((objects : List ℕ) → ((o : ℕ) → IsIn o objects → Rule o) → (who : Who) → Sort objects who → who ≡ w) →
+    (objects : List ℕ) (looks : List Look) → AreOf Sort Turns objects looks → ((o : ℕ) → IsIn o (viewed_in objects looks) → Rule o) → ViewsAs w looks
+views_own Sort Turns Rule w only objects [] of keeps = tt
+views_own Sort Turns Rule w only objects (l ∷ looks) of keeps = (
+  own_so w l.kind l.user (only objects (λ o is. keeps o (viewed_stays objects (l ∷ looks) o is)) l.user of.0.0),
+  views_own Sort Turns Rule w only (viewed_at l.kind l.oid l.verdict objects) looks of.1 keeps,
 )
 
 module _ (w : Who) (k l : ℕ → Option (Seen Object)) (same : Same w k l) where

@@ -43,7 +43,7 @@ pub fn contents_stay_apart<A>()
         → ViewsAs user (trace known q) → looked known shown q ≡ looked other shown q }
 {}
 
-/// What a name means in a stack is for the user of its verdicts alone.
+/// What a name means in a stack is for the user of its verdicts alone, and passes nothing over.
 pub fn names_are_for_their_user()
     ensures { (known : ℕ → Option (Seen Object)) (scope : Scope) (name : List ℕ) → IsFor (λ user. user ≡ whose scope) known (named scope name) }
 {}

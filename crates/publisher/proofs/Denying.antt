@@ -38,7 +38,7 @@ use Rattle.traverse.specs.declared.target.Target.TheVariants as targets
 use Rattle.traverse.specs.Publishing as publishing
 use Rattle.traverse.specs.Publishing.{published}
 use Rattle.dtml_values.specs.Values.{Left}
-use Rattle.dtml_render.specs.Access.{RefusesRightly}
+use Rattle.dtml_render.specs.Access.{RefusesRightly, SkipsInOne}
 use Rattle.publisher.specs.declared.answer.Answer.{Answer}
 use Rattle.publisher.specs.declared.answer.Answer.TheVariants as answer
 use Rattle.publisher.specs.Access.{DeniesCall, DeniesRightly, IsOfPage, RefusalsAreDenied, shown_by}
@@ -128,10 +128,10 @@ module _ (all : AreForUsers) (k : ℕ → Option (Seen Object)) (q : Request) (d
       by_fault user is (looks.Of (looks.BadSource o c)) at d' = absurd (none_is d d')
       by_fault user is (looks.Unauthorized o p) at d' =
           let text = Text user in
-          let refused : RefusesRightly (IsOfPage k user) k o p (trace k text) = record {
+          let refused : RefusesRightly (IsOfPage k user) (SkipsInOne k user) k o p (trace k text) = record {
             refused = trace_refused k o p [] text at;
             judged = trace_judged k text;
-            users = trace_of (IsOfPage k user) k [] text (page_for_users all k user (first object) client (request_names q user fields (cookies_of q)));
+            users = trace_of (IsOfPage k user) (SkipsInOne k user) k [] text (page_for_users all k user (first object) client (request_names q user fields (cookies_of q)));
           } in
           inl (record {
             o = first object;
@@ -139,7 +139,7 @@ module _ (all : AreForUsers) (k : ℕ → Option (Seen Object)) (q : Request) (d
             fields = fields;
             user = user;
             publishes = record { read = read; credentials = credentials; carried = carried; object = object; is_object = refl; target = target; is_user = is };
-            refused = subst (λ (x : Denial). RefusesRightly (IsOfPage k user) k x.oid x.permission (trace k text)) (denial_is o p d') refused;
+            refused = subst (λ (x : Denial). RefusesRightly (IsOfPage k user) (SkipsInOne k user) k x.oid x.permission (trace k text)) (denial_is o p d') refused;
           })
 
       at_page : (user : Who) → run (veiled k) (who credentials (first object) view) ≡ Ok user → (r : Result ((List ℕ × Left) × List Shown) (Halt ℕ looks.Fault)) → looked k [] (Text user) ≡ r → reworded faults.Page r ≡ Err (Cause f) → Rightly

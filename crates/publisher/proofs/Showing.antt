@@ -26,12 +26,13 @@ use Rattle.namespace.specs.LookLaws.{IsShown, forgotten, looked_forgets, viewed_
 use Rattle.namespace.specs.Looks as looks
 use Rattle.namespace.specs.Looks.{Looks, Use, looked, looked_by, taken, through, veiled, view, without_users}
 use Rattle.namespace.specs.Requests.{request_names}
-use Rattle.namespace.specs.Traces.{uses_granted}
+use Rattle.namespace.specs.Traces.{trace_came, trace_judged, trace_of, uses_granted}
 use Rattle.traverse.specs.declared.target.Target.{Target}
 use Rattle.traverse.specs.declared.target.Target.TheVariants as targets
 use Rattle.traverse.specs.Publishing as publishing
 use Rattle.traverse.specs.Publishing.{published}
 use Rattle.dtml_values.specs.Values.{Left}
+use Rattle.dtml_render.specs.Access.{SkipsInOne}
 use Rattle.publisher.specs.declared.answer.Answer.{Answer}
 use Rattle.publisher.specs.declared.answer.Answer.TheVariants as answer
 use Rattle.publisher.specs.Access.{IsOfPage, ListsRightly, PagesShowRightly, ShowsRightly, shown_by}
@@ -71,6 +72,7 @@ module _ (all : AreForUsers) (k : ℕ → Option (Seen Object)) where
       let looks_at : looked k [] text ≡ Ok x.0 = page_came k (through taken [] text) x.0 x.1 in
       let same : x.0.1 ≡ y.shown = ap (λ (r : Reply). r.shown) (is_page (page_reply x.0.0.0 x.0.1) y x.2) in
       let uses = uses_of k text x.0 looks_at in
+      let for_users = page_for_users all k user.0 (first object) client (request_names q user.0 fields (cookies_of q)) in
       record {
         o = first object;
         client = client;
@@ -89,8 +91,9 @@ module _ (all : AreForUsers) (k : ℕ → Option (Seen Object)) where
         uses = uses.0.1;
         made = uses.1;
         shown = sym same ∙ uses.2;
-        granted = uses_granted (IsOfPage k user.0) (page_stays k user.0) k [] text uses.0 (page_for_users all k user.0 (first object) client (request_names q user.0 fields (cookies_of q))) tt uses.1;
+        granted = uses_granted (IsOfPage k user.0) (page_stays k user.0) k (SkipsInOne k user.0) [] text uses.0 for_users tt uses.1;
         used = λ p views. subst (λ (s : List Shown). IsShown p s) same (viewed_is_shown k p [] text x.0 views looks_at);
+        looks = record { go_on = (trace_came k [] text uses.0 uses.1).0; judged = trace_judged k text; users = trace_of (IsOfPage k user.0) (SkipsInOne k user.0) k [] text for_users };
       }
     where
       is_page : (a b : Reply) → ◌≡◌ {A = Result Answer (Halt ℕ Fault)} (Ok (answer.Page a)) (Ok (answer.Page b)) → a ≡ b

@@ -32,11 +32,16 @@ use Rattle.traverse.specs.declared.target.Target.{Target}
 use Rattle.traverse.specs.declared.target.Target.TheVariants as targets
 use Rattle.traverse.specs.Publishing.{published, walked, stepped, child, index}
 use Rattle.traverse.specs.Publishing.{page as page_at}
-use Rattle.dtml_render.specs.Access.{HasNoRoles, HasRolesOfOne}
+use Rattle.dtml_lex.specs.Reading.{word_at, quotation_at, value_at, attribute_at, next_attribute, tag_end, attributes_at, tag_named, tag_at, name_at, entity_at, begins_part, plain_len, part_at}
+use Rattle.dtml_parse.specs.Trees as trees
+use Rattle.dtml_parse.specs.Trees.{Items, Marks}
+use Rattle.dtml_parse.specs.TreeReading.{arms_at, nodes_at, template, template_at}
+use Rattle.dtml_render.specs.Access.{HasNoRoles, HasRolesOfOne, HasSkip, RefusesRightly, SkipsIn, SkipsInOne}
+use Rattle.dtml_render.specs.Rendering.{source_of}
 use Rattle.publisher.specs.Access.{DeniesRightly, IsOfPage, IsPageFor, IsTargetFor, ShowsRightly, StaysApart}
 use Rattle.publisher.specs.Site.{authorization}
 use Rattle.publisher.specs.Worked.{held, managers, shown, site}
-use Rattle.publisher.specs.WrongSites.{for_anyone, front_page, not_granted, open_page, private_page, renamed_site, site_with_proxy, with_a_title, with_anothers_roles}
+use Rattle.publisher.specs.WrongSites.{for_anyone, front_page, listing_site, not_granted, open_page, past_an_item, private_page, renamed_site, site_with_proxy, with_a_title, with_anothers_roles}
 use Rattle.publisher.proofs.ForUsers.{AreForUsers, are_own}
 
 ok_is : {A F : Type 0} (x y : A) → ◌≡◌ {A = Result A F} (Ok x) (Ok y) → x ≡ y
@@ -137,9 +142,9 @@ last_judged : (k : ℕ → Option (Seen Object)) (before : List Look) (last : Lo
 last_judged k [] last are = are.0
 last_judged k (l ∷ before) last are = last_judged k before last are.1
 
-last_of : (Sort : List ℕ → Who → Type 0) (objects : List ℕ) (before : List Look) (last : Look) → AreOf Sort objects (before ++ last ∷ []) → (seen : List ℕ) × Sort seen last.user
-last_of Sort objects [] last are = (objects, are.0)
-last_of Sort objects (l ∷ before) last are = last_of Sort (viewed_at l.kind l.oid l.verdict objects) before last are.1
+last_of : (Sort Turns : List ℕ → Who → Type 0) (objects : List ℕ) (before : List Look) (last : Look) → AreOf Sort Turns objects (before ++ last ∷ []) → (seen : List ℕ) × Sort seen last.user
+last_of Sort Turns objects [] last are = (objects, are.0.0)
+last_of Sort Turns objects (l ∷ before) last are = last_of Sort Turns (viewed_at l.kind l.oid l.verdict objects) before last are.1
 
 is_his : (objects : List ℕ) (user w : Who) → user ≡ admin_user → IsOfPage site user objects w → w ≡ admin_user
 is_his objects user w is (inl same) = same ∙ is
@@ -156,7 +161,7 @@ ignoring_refuted (inl page) =
     let user = his_user p.credentials page.user page.o p.carried (private_object p.object page.client page.o p.target p.is_object) p.is_user in
     let refused = page.refused.refused in
     let judged = last_judged site refused.before refused.last (subst (AreJudged site) refused.are page.refused.judged) in
-    let of = last_of (IsOfPage site page.user) [] refused.before refused.last (subst (AreOf (IsOfPage site page.user) []) refused.are page.refused.users) in
+    let of = last_of (IsOfPage site page.user) (SkipsInOne site page.user) [] refused.before refused.last (subst (AreOf (IsOfPage site page.user) (SkipsInOne site page.user) []) refused.are page.refused.users) in
     let his = is_his of.0 page.user refused.last.user user of.1 in
     let verdict =
     ap (λ w. run (veiled site) (verdict_on w 4 VIEW)) (sym his) ∙ ap (λ o. run (veiled site) (verdict_on refused.last.user o VIEW)) (sym refused.object)
@@ -232,6 +237,48 @@ borrowed_refuted shows =
     let p = shows.publishes in
     let none = ok_is None p.credentials (sym nobodys ∙ p.carried) in
     borrowed_at shows.user shows.uses (nobody_is site_with_proxy p.credentials shows.o shows.user none p.is_user) shows.shown shows.granted
+
+-- ---- one that passes over an item that isn't to be passed over
+
+-- an object whose source has no such `dtml-in`
+unskipped : (o : ℕ) (object : Object) (tree : Items) → run listing_site (here o) ≡ Ok object → template (source_of object.part) ≡ Ok tree → (HasSkip tree → ⊥) →
+    (p : ℕ) → o ≡ p → (user w : Who) → SkipsIn listing_site user p w → ⊥
+unskipped o object tree there reads none p same user w (other, at, (t, is, has), acts) =
+    let one = ok_is object other (sym there ∙ subst (λ q. run listing_site (here q) ≡ Ok other) (sym same) at) in
+    none (subst HasSkip (sym (ok_is tree t (sym reads ∙ ap (λ (x : Object). template (source_of x.part)) one ∙ is))) has)
+
+abbrev no_marks : Marks
+no_marks = record { html_quote = false; url_quote = false; newline_to_br = false; lower = false; upper = false; capitalize = false; missing = None; size = None; etc = None }
+
+abbrev the_loop : Items
+the_loop = trees.more (trees.Loop 13 (trees.Name (codes "objectValues")) false false trees.none trees.absent) trees.none
+
+abbrev listing : Items
+listing = trees.more (trees.With 0 (trees.Name (codes "H")) the_loop) (trees.more (trees.Var 57 (trees.Name (codes "s")) no_marks) trees.none)
+
+listing_is : template (codes "<dtml-with H><dtml-in objectValues></dtml-in></dtml-with><dtml-var s>") ≡ Ok listing
+unfolding word_at quotation_at value_at attribute_at next_attribute tag_end attributes_at tag_named tag_at name_at entity_at begins_part plain_len part_at nodes_at arms_at template_at
+listing_is = refl
+
+nothing_is : template [] ≡ Ok trees.none
+unfolding word_at quotation_at value_at attribute_at next_attribute tag_end attributes_at tag_named tag_at name_at entity_at begins_part plain_len part_at nodes_at arms_at template_at
+nothing_is = refl
+
+no_skip : HasSkip listing → ⊥
+no_skip (inl (inl (inl bad))) = (let no : false ≡ true = bad in cc)
+no_skip (inl (inl (inr (inl bad)))) = bad
+no_skip (inl (inl (inr (inr bad)))) = bad
+no_skip (inl (inr bad)) = bad
+no_skip (inr (inl bad)) = bad
+no_skip (inr (inr bad)) = bad
+
+none_skips : SkipsInOne listing_site users.Anonymous (6 ∷ 2 ∷ []) users.Anonymous → ⊥
+none_skips (o, inl same, skips) = unskipped 6 _ trees.none refl nothing_is (λ bad. bad) o same users.Anonymous users.Anonymous skips
+none_skips (o, inr (inl same), skips) = unskipped 2 _ listing refl listing_is no_skip o same users.Anonymous users.Anonymous skips
+none_skips (o, inr (inr none), skips) = none
+
+pub passing_refuted : RefusesRightly (IsOfPage listing_site users.Anonymous) (SkipsInOne listing_site users.Anonymous) listing_site 4 VIEW past_an_item → ⊥
+passing_refuted refuses = none_skips refuses.users.1.1.1.0.1
 
 -- ---- one in which another's title changes a page
 

@@ -1,6 +1,7 @@
 -- To whom a site shows what.
 --
--- Zope Developer's Guide, "Security"; Zope Book, "Users and Security": proxy roles.
+-- Zope Developer's Guide, "Security"; Zope Book, "Users and Security": proxy roles; "Advanced DTML": `skip_unauthorized` of
+-- `dtml-in`.
 use Rattle.std.specs.Prelude.{ℕ, ◌≡◌, ◌≢◌, ◌⊎◌, List, [], Option, Some, Ok}
 use Rattle.zbase.specs.History.{History}
 use Rattle.zbase.specs.Query.{run}
@@ -44,7 +45,7 @@ use Rattle.traverse.specs.declared.target.Target.{Target}
 use Rattle.traverse.specs.declared.target.Target.TheVariants as targets
 use Rattle.traverse.specs.Publishing.{published}
 use Rattle.dtml_values.specs.Values.{Left}
-use Rattle.dtml_render.specs.Access.{HasNoRoles, HasRolesOfOne, RefusesRightly}
+use Rattle.dtml_render.specs.Access.{HasNoRoles, HasRolesOfOne, LooksRightly, RefusesRightly, SkipsInOne}
 use Rattle.publisher.specs.Comes.{Tells}
 use Rattle.publisher.specs.Pages.{page_text}
 use Rattle.publisher.specs.Replies.{by_verb, log_reply, runaway_facts}
@@ -80,8 +81,9 @@ abbrev pub IsOfPage : (ℕ → Option (Seen Object)) → Who → List ℕ → Wh
 IsOfPage k user objects w = (w ≡ user) ⊎ HasRolesOfOne k objects w
 
 -- What a page shows are the first uses that it made. Each was granted to the user who looked, by the role that is told: to
--- the user of the page, or to someone who has the proxy roles of an object that is shown before. And each object whose
--- contents the page uses is shown.
+-- the user of the page, or to someone who has the proxy roles of an object that is shown before. Each object whose contents
+-- the page uses is shown. And all that it looked at was granted to such a one, or passed over for who acts in the source of an
+-- object whose contents it saw before, in which there is a `dtml-in` with `skip_unauthorized`.
 pub record ShowsRightly (k : ℕ → Option (Seen Object)) (q : Request) (x : Reply) : Type 0 where
   pub o : ℕ
   pub client : List ℕ
@@ -94,17 +96,19 @@ pub record ShowsRightly (k : ℕ → Option (Seen Object)) (q : Request) (x : Re
   pub shown : x.shown ≡ without_users uses
   pub granted : AreGrantedBy (IsOfPage k user) k [] uses
   pub used : (p : ℕ) → Views k p (page_of q fields user o client) → IsShown p x.shown
+  pub looks : LooksRightly (IsOfPage k user) (SkipsInOne k user) k (trace k (page_of q fields user o client))
 
 -- A page is refused for the object and the permission of its last look. That isn't granted to the user who looked, who is
--- the user of the page or has the proxy roles of an object whose contents it saw before; all that it looked at before was
--- granted so, or passed over by a `dtml-in` with `skip_unauthorized`.
+-- the user of the page or has the proxy roles of an object whose contents it saw before. All that it looked at before was
+-- granted to such a one, or passed over for who acts in the source of an object whose contents it saw before, in which there is
+-- a `dtml-in` with `skip_unauthorized`.
 pub record DeniesPage (k : ℕ → Option (Seen Object)) (q : Request) (d : Denial) : Type 0 where
   pub o : ℕ
   pub client : List ℕ
   pub fields : List Field
   pub user : Who
   pub publishes : Publishes k q o client fields user
-  pub refused : RefusesRightly (IsOfPage k user) k d.oid d.permission (trace k (page_of q fields user o client))
+  pub refused : RefusesRightly (IsOfPage k user) (SkipsInOne k user) k d.oid d.permission (trace k (page_of q fields user o client))
 
 -- ---- calls
 
