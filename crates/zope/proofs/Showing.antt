@@ -16,7 +16,7 @@ use Rattle.schedule.specs.declared.line.Line.{Line}
 use Rattle.schedule.specs.Courses.{Place, request_of, worker_of}
 use Rattle.schedule.specs.Moments.{Moment, doing}
 use Rattle.schedule.specs.Right.{AreRight, RightGrowth, RightReply}
-use Rattle.publisher.specs.Access.{ChangesAreGranted, PagesShowRightly, RefusalsAreDenied}
+use Rattle.publisher.specs.Access.{ChangesAreGranted, PagesShowRightly, RefusalsAreDenied, RefusalsAreNamed}
 use Rattle.publisher.specs.Comes.{history_tells}
 use Rattle.publisher.specs.Replies.{message_reply}
 use Rattle.publisher.specs.Site.{site}
@@ -36,10 +36,11 @@ silent h messages.Multipart = (refl, refl)
 answer_is : (x y : Reply) → Outcome.Answer x ≡ Outcome.Answer y → x ≡ y
 answer_is x y e = cc
 
-module _ (shows : PagesShowRightly) (denies : RefusalsAreDenied) where
+module _ (shows : PagesShowRightly) (names : RefusalsAreNamed) (denies : RefusalsAreDenied) where
   rightly : (h : History) (message : Message) (x : Reply) → exec site h message ≡ Outcome.Answer x → AnswersRightly h message x
   rightly h (Whole q) x e = (
     shows (λ ask. Some (fact h ask)) q x (history_tells h) e,
+    names (λ ask. Some (fact h ask)) q x (history_tells h) e,
     λ d denied. denies (λ ask. Some (fact h ask)) q x d (history_tells h) e denied,
   )
   rightly h (Refused cause) x e = subst (λ (y : Reply). AnswersRightly h (Refused cause) y) (answer_is (message_reply cause) x e) (silent h cause)

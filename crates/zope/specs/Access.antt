@@ -22,11 +22,13 @@ use Rattle.schedule.specs.Courses.{Place}
 use Rattle.publisher.specs.Access.{DeniesRightly, IsGrantedChange, ListsRightly, ShowsRightly, objects_in}
 use Rattle.publisher.specs.Site.{site}
 
--- What a reply over a history shows was granted to the user who looked, and all whose contents the page uses is shown; what it
--- denies isn't granted to the request's own user there. A refused message shows and denies nothing.
+-- What a reply over a history shows was granted to the user who looked, and all whose contents the page uses is shown; a 401
+-- denies something, and what a reply denies isn't granted to the request's own user there. A refused message shows and denies
+-- nothing.
 abbrev pub AnswersRightly : History → Message → Reply → Type 0
 AnswersRightly h (Whole q) x =
     (x.status ≡ 200 → ShowsRightly (objects_in h) q x ⊎ ListsRightly (in_history h) q x)
+    × (x.status ≡ 401 → (d : Denial) × (x.denied ≡ Some d))
     × ((d : Denial) → x.denied ≡ Some d → DeniesRightly (objects_in h) q d)
 AnswersRightly h (Refused cause) x = (x.shown ≡ []) × (x.denied ≡ None)
 

@@ -31,10 +31,12 @@ pub fn giving_up_is_refuted()
 /// Of what a replay prints, also of one that is broken off at a line that can't be run, each reading reply and the lines
 /// behind it are right. A page with status 200 shows each object whose title, source or property it uses, and each that it
 /// shows was granted to the user who looked first, by the role that its line tells: to the page's user, or to someone who has
-/// the proxy roles of an object that is shown before. What a `denied` line names isn't granted to the request's own user
-/// there: for a page, to the user whom the walk finds for the published object and `View`, or to someone who has the proxy
-/// roles of an object whose contents the page saw before, and all that the page looked at before was granted, or passed over
-/// by a `dtml-in` with `skip_unauthorized`; for a call, to the user for the object called on and the permission of that call.
+/// the proxy roles of an object that is shown before; all that it looked at was granted, or passed over where the source of an
+/// object whose contents it saw before has a `dtml-in` with `skip_unauthorized`, for who acts in that source. A 401 to a whole
+/// message has a `denied` line. What such a line names isn't granted to the request's own user there: for a page, to the user
+/// whom the walk finds for the published object and `View`, or to someone who has the proxy roles of an object whose contents
+/// the page saw before, and all that the page looked at before was granted or passed over so; for a call, to the user for the
+/// object called on and the permission of that call.
 /// All this by the objects of the history up to the transaction that the reply names. And each transaction by which its
 /// history grew, acknowledged or not, is the change of a call whose permission its user was granted before it.
 pub fn replays_keep_access()
