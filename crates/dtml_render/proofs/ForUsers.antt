@@ -1,7 +1,7 @@
 -- A page takes its verdicts for users of a sort, where the user of the request is of that sort, and whoever has the proxy
 -- roles of an object whose contents were seen before. It may pass something over for those alone who act in a source in which
 -- there is a `dtml-in` with `skip_unauthorized`.
-use Rattle.std.proofs.Common.{ℕ, suc, zero, ◌≡◌, refl, sym, subst, List, [], ◌∷◌, ◌++◌, length, Option, Some, None, Bool, true, false, if◌then◌else◌, Result, Ok, Err, inl, inr, ◌∙◌, ap, ◌⊎◌}
+use Rattle.std.proofs.Common.{ℕ, suc, zero, ◌≡◌, refl, sym, subst, List, [], ◌∷◌, ◌++◌, length, Option, Some, None, Bool, true, false, if◌then◌else◌, Result, Ok, Err, inl, inr}
 use Rattle.std.specs.Prelude.{◌==◌, ◌+◌}
 use Rattle.zbase.specs.Query.{run}
 use Rattle.dtml_lex.specs.declared.refusal.DtmlRefusal.{DtmlRefusal}
@@ -24,7 +24,7 @@ use Rattle.namespace.specs.declared.val.Layer.{Layer}
 use Rattle.namespace.specs.declared.val.Layer.TheVariants as layer
 use Rattle.namespace.specs.Looks.{Looks, Done, Stops, ◌>>=◌, Runaway, Renders}
 use Rattle.namespace.specs.LookLaws.{IsFor}
-use Rattle.namespace.specs.Traces.{IsAlong, IsIn, Stays, Within, along_for, along_then, within_more}
+use Rattle.namespace.specs.Traces.{IsAlong, IsIn, Stays, Within, along_for, along_then}
 use Rattle.namespace.specs.NameLaws.{for_then, for_named}
 use Rattle.namespace.specs.Names.{Scope, whose, named, push, act}
 use Rattle.dtml_values.specs.Values.{Left, spend_tag, spend_output, is_met, defined, sequence, object_in}
