@@ -22,7 +22,8 @@ OVER_THE_PROGRAM = [
     ("backup", "--transactions 20 --size 100 --day 5 --rounds 1"), ("check", "--records 1000 --few 100 --rounds 1"),
     ("children", "--children 50 --folders 4 --rounds 1"), ("commits", "--part opening --records 1000 --rounds 1"),
     ("dump", "--records 1000 --rounds 1"), ("linear", ""), ("listing", "--rounds 1"), ("pages", "--pages 100 --rounds 1"),
-    ("replay", "--transactions 20 --size 100 --requests 3 --rounds 1"), ("serving", "0.1"), ("underway", "--sites text"),
+    ("replay", "--transactions 20 --size 100 --requests 3 --rounds 1"), ("serving", "0.1"),
+    ("underway", "--sites text"), ("undo_parts", "--parts 3 6 --transactions 2 --rounds 1"),
 ]
 OVER_CRATES = [
     ("append", ""), ("commits", "--part commits"), ("forms", ""), ("http", ""), ("names", ""), ("parse", ""), ("paths", ""), ("records", ""),

@@ -8,4 +8,5 @@ mod WrongAnswers
 mod Learning
 mod PageSteps
 mod Stages
+mod Undoing
 mod Limiting

@@ -18,7 +18,6 @@ use Rattle.evaluator.specs.Exec.{IsTrail, most_asks}
 use Rattle.evaluator.specs.FactLaws.{trail_once}
 use Rattle.evaluator.specs.Facts.{EachOnce, look}
 use Rattle.evaluator.specs.Questions.{Made, Reads, Changes, as_ask, most_bytes, objects_of, outcome, size_of_fact}
-use Rattle.fs_undo.specs.Undo.{IsFar}
 use Rattle.http_in.specs.declared.message.Message.{Message}
 use Rattle.http_in.specs.declared.message.Message.TheVariants.{Whole}
 use Rattle.http_in.specs.declared.message.Request.{Request}
@@ -151,10 +150,6 @@ pub undone_to : (known : Ask → Option Fact) (q : Request) (user : List ℕ) (t
 unfolding undo_by
 undone_to known q user t entries it e is =
     is ∙ sym (ap outcome (run_goes known (or_else (call_refused q.method) (undone t)) (undo_made q user) entries (or_else_goes known (call_refused q.method) (undone t) entries e)))
-
--- an undo that begins
-pub nothing_far : (asked : Ask → Option Fact) (t : ℕ) → IsFar t asked 0
-nothing_far asked t = λ later u parts grows is. refl
 
 abbrev reword_by : Verb → Halt Ask ManageRefusal → Halt Ask Reply
 reword_by verb (Need ask) = Need ask

@@ -4,8 +4,6 @@ use Rattle.evaluator.specs.declared.ask.Ask.{Ask}
 use Rattle.evaluator.specs.declared.reply.Shown.{Shown}
 use Rattle.form_fields.specs.declared.field.Field.{Field}
 use Rattle.form_fields.specs.Fields.{fields_of}
-use Rattle.http_in.specs.declared.message.Message.{Message}
-use Rattle.http_in.specs.declared.message.Message.TheVariants.{Whole, Refused}
 use Rattle.http_in.specs.declared.message.Request.{Request}
 use Rattle.user_folder.specs.Credentials.{credentials_of}
 use Rattle.zbase.specs.Query.{◌>>=◌, Answers, Grows, Halt, Need, Cause, IsDecided, Told, run}
@@ -37,7 +35,7 @@ use Rattle.publisher.specs.Faults as faults
 use Rattle.publisher.specs.Faults.{Fault, comes_to, or_stops, told}
 use Rattle.publisher.specs.Pages.{scope_page}
 use Rattle.publisher.specs.Site.{authorization, bad_credentials, request, scope_answer, with_credentials, with_fields}
-use Rattle.publisher.specs.Underway.{Begins, IsRead, IsStage, IsStageOf, IsUnderway, Meets, is_need, place, rest_answer}
+use Rattle.publisher.specs.Underway.{Begins, IsRead, IsStage, IsUnderway, Meets, is_need, place, rest_answer}
 use Rattle.publisher.specs.Replies.{page_reply}
 use Rattle.publisher.proofs.PageSteps.{answer_goes, page_done, page_halts, scope_is}
 use Rattle.publisher.proofs.Steps.{goes, goes_told, passes}
@@ -82,10 +80,14 @@ asked_ok (Err (Cause cause)) x e = cc
 ok_decided : {E A : Type 0} (r : Result A (Halt ℕ E)) (x : A) → r ≡ Ok x → IsDecided r
 ok_decided r x e = subst IsDecided (sym e) tt
 
-later_goes : {E A B : Type 0} (rows : List (ℕ × Kept)) (q : Objects E A) (next : A → Objects E B) (x : A) → comes_to rows q ≡ Ok x → (later : ℕ → Option (Seen Object)) → Grows (objects rows) later → run later (q >>= next) ≡ run later (next x)
-later_goes rows q next x e later grows =
+-- and is come to wherever more is known
+pub comes_later : {E A : Type 0} (rows : List (ℕ × Kept)) (q : Objects E A) (x : A) → comes_to rows q ≡ Ok x → (later : ℕ → Option (Seen Object)) → Grows (objects rows) later → run later q ≡ Ok x
+comes_later rows q x e later grows =
     let was = asked_ok (run (objects rows) q) x e in
-    run_goes later q next x (run_more (objects rows) later q grows (ok_decided (run (objects rows) q) x was) ∙ was)
+    run_more (objects rows) later q grows (ok_decided (run (objects rows) q) x was) ∙ was
+
+later_goes : {E A B : Type 0} (rows : List (ℕ × Kept)) (q : Objects E A) (next : A → Objects E B) (x : A) → comes_to rows q ≡ Ok x → (later : ℕ → Option (Seen Object)) → Grows (objects rows) later → run later (q >>= next) ≡ run later (next x)
+later_goes rows q next x e later grows = run_goes later q next x (comes_later rows q x e later grows)
 
 -- behind what is come to
 pub goes_under : {A : Type 0} (rows : List (ℕ × Kept)) (u : Underway) (q : Objects Fault A) (next : A → Objects Fault Answer) (x : A) → comes_to rows q ≡ Ok x → IsUnderway (objects rows) u (next x) → IsUnderway (objects rows) u (q >>= next)
@@ -161,11 +163,7 @@ module _ (rows : List (ℕ × Kept)) (u : Underway) where
 still_under : (known more : ℕ → Option (Seen Object)) (u : Underway) (q : Objects Fault Answer) → Grows known more → IsUnderway known u q → IsUnderway more u q
 still_under known more u q grows is = record { stands = is.stands; goes = λ later later_grows. is.goes later (λ o seen e. later_grows o seen (grows o seen e)) }
 
-still_stage : (known more : ℕ → Option (Seen Object)) (stage : Stage) (q : Request) → Grows known more → IsStage known stage q → IsStage more stage q
+pub still_stage : (known more : ℕ → Option (Seen Object)) (stage : Stage) (q : Request) → Grows known more → IsStage known stage q → IsStage more stage q
 still_stage known more stages.Fresh q grows is = tt
 still_stage known more (stages.Read r) q grows is = is
 still_stage known more (stages.Page u) q grows is = still_under known more u (request q) grows is
-
-pub still_stage_of : (known more : ℕ → Option (Seen Object)) (stage : Stage) (message : Message) → Grows known more → IsStageOf known stage message → IsStageOf more stage message
-still_stage_of known more stage (Whole q) grows is = still_stage known more stage q grows is
-still_stage_of known more stage (Refused cause) grows is = is

@@ -1,5 +1,5 @@
 -- What is kept of a message between its evaluations: what each object's fact came to, the bytes of all facts, and how far
--- the answer to its request came.
+-- its evaluation came.
 use Rattle.std.specs.Prelude.{ℕ, ◌≡◌, ◌==◌, ◌^◌, ◌-◌, min, List, ◌++◌, length, sum_by, Some, None, option_map, Result, Ok, Err, if◌then◌else◌}
 use Rattle.zbase.specs.History.{Value}
 use Rattle.zobject.specs.declared.object.Object.{Object}
@@ -15,7 +15,7 @@ use Rattle.http_in.specs.declared.message.Message.{Message}
 use Rattle.manage.specs.Changing.{KeepRules}
 use Rattle.publisher.specs.declared.learned.Learned.{Learned}
 use Rattle.publisher.specs.declared.state.SiteState.{SiteState}
-use Rattle.publisher.specs.Underway.{IsStageOf}
+use Rattle.publisher.specs.Underway.{IsProgressOf}
 
 abbrev pub kept_as : Result Object ℕ → Kept
 kept_as (Ok object) = kept.Here object
@@ -66,4 +66,4 @@ pub record HoldsFirst (learned : Learned) (facts : List Fact) : Type 0 where
 -- what is kept was found out of these facts, or of the first of them, and of this message
 pub record Fits (state : SiteState) (facts : List Fact) (message : Message) : Type 0 where
   pub learned : HoldsFirst state.learned facts
-  pub stage : IsStageOf (objects state.learned.known) state.stage message
+  pub progress : IsProgressOf (objects state.learned.known) (look facts) state.progress message

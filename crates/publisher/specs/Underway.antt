@@ -1,10 +1,13 @@
--- Pages that are under way as answers to their requests, and how far the answer to a request came.
+-- Pages and undos that are under way, and how far an evaluation came.
 use Rattle.std.specs.Prelude.{ℕ, ◌≡◌, Bool, true, false, List, [], Option, Result, Ok, Err}
 use Rattle.zbase.specs.Query.{◌>>=◌, Grows, Told, or_else, run}
 use Rattle.zobject.specs.declared.object.Object.{Object}
 use Rattle.zknown.specs.declared.kept.Kept.{Kept}
 use Rattle.zknown.specs.Seen.{Seen, Objects, objects}
+use Rattle.evaluator.specs.declared.ask.Ask.{Ask}
+use Rattle.evaluator.specs.declared.fact.Fact.{Fact}
 use Rattle.evaluator.specs.declared.reply.Shown.{Shown}
+use Rattle.fs_undo.specs.Undo.{IsFar}
 use Rattle.form_fields.specs.Fields.{fields_of}
 use Rattle.http_in.specs.declared.message.Message.{Message}
 use Rattle.http_in.specs.declared.message.Message.TheVariants.{Whole, Refused}
@@ -20,13 +23,17 @@ use Rattle.dtml_values.specs.declared.refusal.RenderRefusal.TheVariants as refus
 use Rattle.dtml_render.specs.declared.page.Page.{Page}
 use Rattle.dtml_render.specs.Frames.{IsStanding, Place, place_of, rest_of}
 use Rattle.publisher.specs.declared.answer.Answer.{Answer}
+use Rattle.publisher.specs.declared.answer.Answer.TheVariants as answer
 use Rattle.publisher.specs.declared.reading.Read.{Read}
 use Rattle.publisher.specs.declared.refusal.SiteRefusal.{SiteRefusal}
 use Rattle.publisher.specs.declared.stage.Met.{Met}
 use Rattle.publisher.specs.declared.stage.Met.TheVariants as met
+use Rattle.publisher.specs.declared.stage.Progress.{Progress}
+use Rattle.publisher.specs.declared.stage.Progress.TheVariants as progress
 use Rattle.publisher.specs.declared.stage.Stage.{Stage}
 use Rattle.publisher.specs.declared.stage.Stage.TheVariants as stages
 use Rattle.publisher.specs.declared.stage.Underway.{Underway}
+use Rattle.publisher.specs.declared.stage.Undoing.{Undoing}
 use Rattle.publisher.specs.Faults as faults
 use Rattle.publisher.specs.Faults.{Fault, comes_to, told}
 use Rattle.publisher.specs.Site.{authorization, request, shown_page}
@@ -82,7 +89,16 @@ IsStage known stages.Fresh q = Unit {0}
 IsStage known (stages.Read r) q = IsRead r q
 IsStage known (stages.Page u) q = IsUnderway known u (request q)
 
+-- wherever more is known, a request comes to an undo, of which these parts are known
+pub record IsUndoing (known : ℕ → Option (Seen Object)) (asked : Ask → Option Fact) (u : Undoing) (q : Request) : Type 0 where
+  pub comes : (later : ℕ → Option (Seen Object)) → Grows known later → run later (request q) ≡ Ok (answer.Undo u.user u.tid)
+  pub far : IsFar u.tid asked u.far
+
+abbrev pub IsProgress : (ℕ → Option (Seen Object)) → (Ask → Option Fact) → Progress → Request → Type 0
+IsProgress known asked (progress.Answering stage) q = IsStage known stage q
+IsProgress known asked (progress.Undoing u) q = IsUndoing known asked u q
+
 -- a refused message is answered at once
-abbrev pub IsStageOf : (ℕ → Option (Seen Object)) → Stage → Message → Type 0
-IsStageOf known stage (Whole q) = IsStage known stage q
-IsStageOf known stage (Refused cause) = stage ≡ stages.Fresh
+abbrev pub IsProgressOf : (ℕ → Option (Seen Object)) → (Ask → Option Fact) → Progress → Message → Type 0
+IsProgressOf known asked so_far (Whole q) = IsProgress known asked so_far q
+IsProgressOf known asked so_far (Refused cause) = so_far ≡ progress.Answering stages.Fresh

@@ -4,6 +4,7 @@ ghost use Rattle.evaluator.specs.declared.fact.LogRow.{LogRow};
 ghost use Rattle.evaluator.specs.declared.outcome.Outcome.{Outcome as OutcomeValue};
 ghost use Rattle.evaluator.specs.Facts.{EachOnce, look};
 ghost use Rattle.evaluator.specs.Questions.{outcome};
+ghost use Rattle.fs_undo.specs.Undo.{IsFar};
 ghost use Rattle.publisher.specs.declared.answer.Answer.TheVariants as answers;
 ghost use Rattle.publisher.specs.Halting as halting;
 ghost use Rattle.publisher.specs.Replies as replies;
@@ -13,12 +14,12 @@ use crate::calling::{done, drafted};
 use crate::halted::Halted;
 use crate::refusal::SiteRefusal;
 use crate::replies::{by_verb, halt_of, log_reply};
+use crate::stage::Undoing;
 use evaluator::{Ask, Fact, Facts, LogRows, Outcome, look};
-use fs_undo::Far;
 use http_in::{Request, Verb};
 use manage::{Change, ManageRefusal, undo_from};
 use std::alloc::Global;
-use zbase::{Memory, Text, Tid};
+use zbase::{Memory, Text};
 
 /// What a refusal comes to, to a message of that method.
 pub(crate) fn refused(verb: Verb, halted: Halted) -> Outcome
@@ -49,21 +50,22 @@ fn not_undone(alloc: Global, request: &Request, cause: ManageRefusal) -> Result<
     Ok(refused(request.method, halted))
 }
 
-/// What the undo of a transaction comes to, by a user of this name.
-#[tactic(auto, using(crate::proofs::Limiting::nothing_far))]
+/// What an undo that is under way comes to.
 pub(crate) fn undo_by(
     alloc: Global,
     request: &Request,
     facts: &Facts,
-    user: Text,
-    tid: Tid,
+    undoing: &mut Undoing,
 ) -> Result<Outcome, Memory>
     requires once { EachOnce facts.now }
-    ensures { IfOk result (λ it. it ≡ outcome (run (look facts.now) (spec.undo_by request.now user tid))) }
+    requires far { IsFar undoing.old.tid (look facts.now) undoing.old.far }
+    ensures value { IfOk result (λ it. it ≡ outcome (run (look facts.now) (spec.undo_by request.now undoing.old.user undoing.old.tid))) }
+    ensures far { IsFar undoing.new.tid (look facts.now) undoing.new.far }
+    ensures user { undoing.new.user ≡ undoing.old.user }
+    ensures tid { undoing.new.tid ≡ undoing.old.tid }
 {
-    let mut far = Far::new();
-    match undo_from(alloc, facts, tid, &mut far) {
-        Ok(change) => Ok(undone_so(alloc, request, user, change)?),
+    match undo_from(alloc, facts, undoing.tid, &mut undoing.far) {
+        Ok(change) => Ok(undone_so(alloc, request, undoing.user.copy()?, change)?),
         Err(cause) => Ok(not_undone(alloc, request, cause)?),
     }
 }

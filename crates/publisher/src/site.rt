@@ -1,11 +1,15 @@
-ghost use Rattle.std.specs.Prelude.{◌≡◌, ◌==◌, ◌&&◌, IfOk, nat_lt};
-ghost use Rattle.zknown.specs.Seen.{objects};
+ghost use Rattle.std.specs.Prelude.{◌≡◌, ◌==◌, ◌&&◌, ℕ, Option, IfOk, nat_lt};
+ghost use Rattle.zbase.specs.Query.{run};
+ghost use Rattle.zobject.specs.declared.object.Object.{Object};
+ghost use Rattle.zknown.specs.Seen.{Seen, objects};
 ghost use Rattle.evaluator.specs.declared.outcome.Outcome.{Outcome as OutcomeValue};
 ghost use Rattle.evaluator.specs.Counting.{judged};
 ghost use Rattle.evaluator.specs.Exec.{IsTrail, most_asks};
 ghost use Rattle.evaluator.specs.Facts.{EachOnce, look};
 ghost use Rattle.evaluator.specs.Questions.{most_bytes, outcome};
+ghost use Rattle.fs_undo.specs.Undo.{IsFar};
 ghost use Rattle.http_in.specs.Messages.{one_message};
+ghost use Rattle.http_in.specs.declared.message.Request.{Request as RequestValue};
 ghost use Rattle.manage.specs.Changing.{KeepRules};
 ghost use Rattle.publisher.specs.Comes.{made_of};
 ghost use Rattle.publisher.specs.Faults.{comes_to};
@@ -13,7 +17,7 @@ ghost use Rattle.publisher.specs.Halting as halting;
 ghost use Rattle.publisher.specs.Keeping as keeping;
 ghost use Rattle.publisher.specs.Replies as replies;
 ghost use Rattle.publisher.specs.Site as spec;
-ghost use Rattle.publisher.specs.Underway.{IsStage, IsStageOf};
+ghost use Rattle.publisher.specs.Underway.{IsProgress, IsProgressOf, IsStage, IsUndoing};
 ghost use Rattle.publisher.specs.ChangeLaws.{site_changes};
 ghost use Rattle.publisher.specs.SiteLaws.{site_asks_few, site_is_lawful, site_replies};
 
@@ -22,11 +26,13 @@ use crate::answering::answer;
 use crate::finishing::{listed, refused, undo_by};
 use crate::learned::Learned;
 use crate::replies::{by_verb, halt_of, line, message_reply};
-use crate::stage::Stage;
+use crate::stage::{Progress, Stage, Undoing};
 use crate::state::SiteState;
 use evaluator::{Evaluator, Facts, Outcome};
+use fs_undo::Far;
 use http_in::{Message, Request, Verb, take_message};
 use std::alloc::Global;
+use std::mem;
 use zbase::Memory;
 use zknown::Known;
 
@@ -44,32 +50,79 @@ pub struct Site {
     alloc: Global,
 }
 
+// What an undo that is under way comes to; it stays under way.
+#[tactic(auto, using(crate::proofs::Undoing::undoing_on))]
+fn undo_on(
+    alloc: Global,
+    request: &Request,
+    facts: &Facts,
+    mut undoing: Undoing,
+    progress: &mut Progress,
+) -> Result<Outcome, Memory>
+    requires once { EachOnce facts.now }
+    requires far { IsFar undoing.tid (look facts.now) undoing.far }
+    ensures value { IfOk result (λ it. it ≡ outcome (run (look facts.now) (spec.undo_by request.now undoing.user undoing.tid))) }
+    ensures progress { (known : ℕ → Option (Seen Object)) (q : RequestValue) → IsUndoing known (look facts.now) undoing q
+        → IsProgress known (look facts.now) progress.new q }
+{
+    let outcome = undo_by(alloc, request, facts, &mut undoing);
+    *progress = Progress::Undoing(undoing);
+    outcome
+}
+
+// What a whole message comes to, from the stage on to which its answer came.
+#[tactic(auto, using(crate::proofs::Limiting::paged, crate::proofs::Limiting::changes_to, crate::proofs::Limiting::undoes_to, crate::proofs::Limiting::lists_to, crate::proofs::Limiting::halts_at, crate::proofs::Undoing::nothing_far))]
+fn answer_on(
+    alloc: Global,
+    request: &Request,
+    facts: &Facts,
+    known: &Known,
+    mut stage: Stage,
+    progress: &mut Progress,
+) -> Result<Outcome, Memory>
+    requires lawful { KeepRules (objects known.now) }
+    requires once { EachOnce facts.now }
+    requires stage { IsStage (objects known.now) stage request.now }
+    requires progress { IsProgress (objects known.now) (look facts.now) progress.old request.now }
+    ensures value { IfOk result (λ it. it ≡ outcome (made_of (look facts.now) request.now (comes_to known.now (spec.request request.now)))) }
+    ensures progress { IsProgress (objects known.now) (look facts.now) progress.new request.now }
+{
+    match answer(alloc, request, known, &mut stage) {
+        Ok(Answer::Page(reply)) => Ok(Outcome::Answer(by_verb(request.method, reply))),
+        Ok(Answer::Change(reply, draft)) => {
+            Ok(Outcome::Change(by_verb(request.method, reply), draft))
+        }
+        Ok(Answer::Undo(user, tid)) => {
+            let far = Far::new();
+            undo_on(alloc, request, facts, Undoing { user, tid, far }, progress)
+        }
+        Ok(Answer::Log) => listed(alloc, request, facts),
+        Err(cause) => {
+            *progress = Progress::Answering(stage);
+            let halted = halt_of(alloc, &cause)?;
+            Ok(refused(request.method, halted))
+        }
+    }
+}
+
 // What a whole message comes to, without limits.
-#[tactic(auto, using(crate::proofs::Limiting::paged, crate::proofs::Limiting::changes_to, crate::proofs::Limiting::undoes_to, crate::proofs::Limiting::lists_to, crate::proofs::Limiting::halts_at))]
+#[tactic(auto, using(crate::proofs::Undoing::undoing_comes))]
 fn outcome_of(
     alloc: Global,
     request: &Request,
     facts: &Facts,
     known: &Known,
-    stage: &mut Stage,
+    progress: &mut Progress,
 ) -> Result<Outcome, Memory>
     requires lawful { KeepRules (objects known.now) }
     requires once { EachOnce facts.now }
-    requires stage { IsStage (objects known.now) stage.old request.now }
+    requires progress { IsProgress (objects known.now) (look facts.now) progress.old request.now }
     ensures value { IfOk result (λ it. it ≡ outcome (made_of (look facts.now) request.now (comes_to known.now (spec.request request.now)))) }
-    ensures stage { IsStage (objects known.now) stage.new request.now }
+    ensures progress { IsProgress (objects known.now) (look facts.now) progress.new request.now }
 {
-    match answer(alloc, request, known, stage) {
-        Ok(Answer::Page(reply)) => Ok(Outcome::Answer(by_verb(request.method, reply))),
-        Ok(Answer::Change(reply, draft)) => {
-            Ok(Outcome::Change(by_verb(request.method, reply), draft))
-        }
-        Ok(Answer::Undo(user, tid)) => undo_by(alloc, request, facts, user, tid),
-        Ok(Answer::Log) => listed(alloc, request, facts),
-        Err(cause) => {
-            let halted = halt_of(alloc, &cause)?;
-            Ok(refused(request.method, halted))
-        }
+    match mem::replace(progress, Progress::Answering(Stage::Fresh)) {
+        Progress::Answering(stage) => answer_on(alloc, request, facts, known, stage, progress),
+        Progress::Undoing(undoing) => undo_on(alloc, request, facts, undoing, progress),
     }
 }
 
@@ -107,22 +160,22 @@ fn has_too_many_bytes(learned: &Learned) -> bool
 fn limited(
     alloc: Global,
     learned: &Learned,
-    stage: &mut Stage,
+    progress: &mut Progress,
     facts: &Facts,
     request: &Request,
 ) -> Result<Outcome, Memory>
     requires holds { keeping.Holds learned.now facts.now }
     requires once { EachOnce facts.now }
-    requires stage { IsStage (objects learned.now.known) stage.old request.now }
+    requires progress { IsProgress (objects learned.now.known) (look facts.now) progress.old request.now }
     ensures value { IfOk result (λ it. it ≡ outcome (judged (replies.by_verb request.now.method replies.runaway_facts) facts.now
         (made_of (look facts.now) request.now (comes_to learned.now.known (spec.request request.now))))) }
-    ensures stage { IsStage (objects learned.now.known) stage.new request.now }
+    ensures progress { IsProgress (objects learned.now.known) (look facts.now) progress.new request.now }
 {
     if has_too_many_bytes(learned) {
         let runaway = runaway(alloc, request.method)?;
         return Ok(runaway);
     }
-    let outcome = outcome_of(alloc, request, facts, learned.known(), stage)?;
+    let outcome = outcome_of(alloc, request, facts, learned.known(), progress)?;
     if asks_more(facts.len(), &outcome) {
         let runaway = runaway(alloc, request.method)?;
         return Ok(runaway);
@@ -135,15 +188,15 @@ fn limited(
 fn evaluated(
     alloc: Global,
     learned: &Learned,
-    stage: &mut Stage,
+    progress: &mut Progress,
     facts: &Facts,
     message: &Message,
 ) -> Result<Outcome, Memory>
     requires holds { keeping.Holds learned.now facts.now }
     requires trail { IsTrail (λ known. spec.site (look known) message.now) facts.now }
-    requires stage { IsStageOf (objects learned.now.known) stage.old message.now }
+    requires progress { IsProgressOf (objects learned.now.known) (look facts.now) progress.old message.now }
     ensures value { IfOk result (λ it. it ≡ spec.site (look facts.now) message.now) }
-    ensures stage { IsStageOf (objects learned.now.known) stage.new message.now }
+    ensures progress { IsProgressOf (objects learned.now.known) (look facts.now) progress.new message.now }
 {
     match message {
         Message::Refused(cause) => {
@@ -151,7 +204,7 @@ fn evaluated(
             Ok(Outcome::Answer(reply))
         }
         Message::Whole(request) => {
-            let outcome = limited(alloc, learned, stage, facts, request)?;
+            let outcome = limited(alloc, learned, progress, facts, request)?;
             Ok(outcome)
         }
     }
@@ -183,6 +236,7 @@ impl Evaluator for Site {
         SiteState::new(self.alloc)
     }
 
+    #[tactic(auto, using(crate::proofs::Undoing::progress_further, crate::proofs::Undoing::progress_grows))]
     fn eval(
         &mut self,
         state: &mut SiteState,
@@ -190,7 +244,13 @@ impl Evaluator for Site {
         request: &Message,
     ) -> Result<Outcome, Memory> {
         state.learned.learn(self.alloc, known)?;
-        let outcome = evaluated(self.alloc, &state.learned, &mut state.stage, known, request)?;
+        let outcome = evaluated(
+            self.alloc,
+            &state.learned,
+            &mut state.progress,
+            known,
+            request,
+        )?;
         Ok(outcome)
     }
 

@@ -4,14 +4,14 @@ ghost use Rattle.http_in.specs.declared.message.Message.{Message as MessageValue
 ghost use Rattle.publisher.specs.Keeping as keeping;
 
 use crate::learned::Learned;
-use crate::stage::Stage;
+use crate::stage::{Progress, Stage};
 use std::alloc::Global;
 
-/// What is kept for one message between its evaluations: the facts that were taken over, and how far its answer came.
+/// What is kept for one message between its evaluations: the facts that were taken over, and how far its evaluation came.
 #[derive(Drop)]
 pub struct SiteState {
     pub(crate) learned: Learned,
-    pub(crate) stage: Stage,
+    pub(crate) progress: Progress,
 }
 
 impl SiteState {
@@ -21,7 +21,7 @@ impl SiteState {
     {
         SiteState {
             learned: Learned::new(alloc),
-            stage: Stage::Fresh,
+            progress: Progress::Answering(Stage::Fresh),
         }
     }
 }
