@@ -9,9 +9,10 @@ and data/stops.cases of zope_cases.
 The reports are worked out by a small model of a run: the formats (`FORMATS.md`), what a disk in memory is left with by an
 armed entry and its seed (`stops.py`), the table of a worker's steps, and the device calls of a store:
 
-- An opening syncs, looks at the length twice, and reads the magic, then of each transaction its head and the whole of it, and
-  at the end what is left: no byte, a rest of less than a head, or the head of a torn rest. A rest is cut off, which is synced;
-  of one that has a head the status is read before that.
+- An opening syncs, looks at the length twice, and goes over the file by pieces of 65,536 bytes: one is read where bytes aren't in
+  the one before that are looked at, which are the magic, and of each transaction its head, the first 50 bytes of each record, and
+  its second length. Of each back pointer the id is read that stands where it points. A torn rest is cut off, which is synced; of
+  one that has a head the status is read before that.
 - Loading an object reads the head of its newest record, and of each one before it up to the transaction that is asked for,
   and then that record's data. An object without a record takes no call.
 - A vote writes its record and syncs, a finish writes the status and syncs, an abort cuts the record off and syncs. A vote that
@@ -142,23 +143,48 @@ def transaction_at(content, place):
     return int.from_bytes(head[:8], "big"), texts, records
 
 
+class ReadAhead:
+    """What is looked at of a disk's file, by pieces that are read."""
+
+    def __init__(self, disk):
+        self.disk, self.begin, self.end = disk, 0, 0
+
+    def show(self, at, size):
+        if not (self.begin <= at and at + size <= self.end):
+            self.disk.read()
+            self.begin, self.end = at, min(at + 65536, len(self.disk.content))
+
+    def show_transaction(self, place, length):
+        """Of one that counts: its records, by their heads, and its second length."""
+        content = self.disk.content
+        at = place + 23 + sum(int.from_bytes(content[place + n : place + n + 2], "big") for n in (17, 19, 21))
+        while at < place + length:
+            self.show(at, min(50, place + length - at))
+            size = int.from_bytes(content[at + 34 : at + 42], "big")
+            if size == 0 and any(content[at + 42 : at + 50]):
+                self.disk.read()
+            at += 42 + (size or 8)
+        self.show(at, 8)
+
+
 def opening(disk):
     known = Known()
     disk.sync()
-    for _ in range(3):
+    for _ in range(2):
         disk.read()
-    content = disk.content
+    content, pieces = disk.content, ReadAhead(disk)
+    pieces.show(0, 4)
     assert content[:4] == b"FS21"
     while True:
         left = len(content) - known.end
-        disk.read()
+        pieces.show(known.end, min(23, left))
         if left < 23:
             break
         length = int.from_bytes(content[known.end + 8 : known.end + 16], "big")
         status = content[known.end + 16]
         if status in b"c\0" or length + 8 > left:
             break
-        disk.read()
+        pieces.show_transaction(known.end, length)
         assert status in b" p"
         found = transaction_at(content, known.end)
         assert found[0] > known.last()

@@ -1,7 +1,8 @@
 -- The data record at the front of an area, or none.
 use Rattle.std.proofs.Common.{◌≡◌, ℕ, zero, suc, ◌+◌, ◌-◌, ◌^◌, ◌<◌, ◌≤◌, List, ◌++◌, length, take, drop, refl, sym, ap, subst, ◌∙◌, append_assoc, arith, inl, inr}
-use Rattle.std.specs.Prelude.{◌⊎◌}
-use Rattle.std.proofs.lemmas.List.{length-append, length-drop, length-take, take-append-drop, drop-drop}
+use Rattle.std.specs.Prelude.{◌⊎◌, min}
+use Rattle.std.proofs.lemmas.Bool.{cases_lt}
+use Rattle.std.proofs.lemmas.List.{append-nil, drop_all, drop-append-le, length-append, length-drop, length-take, take-append-drop, take_all, drop-drop}
 use Rattle.zbase.specs.NumberLaws.{length-be64}
 use Rattle.zbase.specs.Numbers.{be64}
 use Rattle.fs_record.specs.declared.heads.DataHead.{DataHead}
@@ -11,7 +12,7 @@ use Rattle.fs_record.specs.Spelling.{Data, data_head, head_of, data_spelling, bo
 use Rattle.fs_record.specs.Fits.{FitsDataHead, FitsBody}
 use Rattle.fs_record.specs.SpellingLaws.{same_data_head, long_data, data_head_from}
 use Rattle.fs_scan.specs.declared.data.Found.{Found}
-use Rattle.fs_scan.specs.Found.{body_in, data_in, DataStands, NoData}
+use Rattle.fs_scan.specs.Found.{body_in, data_in, DataStands, IsFront, NoData}
 
 pub too_short : (area : List ℕ) → length area < 42 → NoData area
 too_short area short d rest s = absurd (omega (arith, long_data d s.fits.body, ap length s.spelled, length-append (data_spelling d) rest))
@@ -65,3 +66,41 @@ pub full_stands : (area : List ℕ) (f : Found) → area ≡ data_head f.head ++
 full_stands area f e fits p q =
     let b = body_full f.head.length f.back (drop 42 area) p (omega (arith, length-drop 42 area)) in
     subst (DataStands (data_in f area) area) (drop-drop f.head.length 42 area) (stands area f (drop f.head.length (drop 42 area)) e fits b)
+
+-- ---- by the first bytes of an area
+
+-- what was read of the head there stands in the area
+headed : (left : ℕ) (front area : List ℕ) (h : DataHead) → IsFront 50 left front area → front ≡ data_head h ++ drop 42 front → 42 ≤ length front → area ≡ data_head h ++ drop 42 area
+headed left front area h f read long =
+    let whole : area ≡ front ++ drop 50 area = sym (take-append-drop 50 area) ∙ ap (λ (x : List ℕ). x ++ drop 50 area) (sym f.taken) in
+    let behind : drop 42 front ++ drop 50 area ≡ drop 42 area = sym (drop-append-le 42 front (drop 50 area) long) ∙ ap (drop 42) (sym whole) in
+    whole ∙ ap (λ (x : List ℕ). x ++ drop 50 area) read ∙ append_assoc (data_head h) (drop 42 front) (drop 50 area) ∙ ap (λ (x : List ℕ). data_head h ++ x) behind
+
+pub too_few : (left : ℕ) (front area : List ℕ) → IsFront 50 left front area → length front < 42 → NoData area
+too_few left front area f short = too_short area (omega (arith, ap length f.taken, length-take 50 area))
+
+pub none_at : (left : ℕ) (front area : List ℕ) (h : DataHead) → IsFront 50 left front area → front ≡ data_head h ++ drop 42 front → 42 ≤ length front → FitsDataHead h → ((h.length ≡ 0) × (left - 42 < 8)) ⊎ (left - 42 < h.length) → NoData area
+none_at left front area h f read long fits short =
+    none_here area h (headed left front area h f read long) fits (subst (λ (n : ℕ). ((h.length ≡ 0) × (n - 42 < 8)) ⊎ (n - 42 < h.length)) (sym f.long) short)
+
+pub back_at : (left : ℕ) (front area : List ℕ) (f : Found) → IsFront 50 left front area → front ≡ data_head f.head ++ drop 42 front → 42 ≤ length front → FitsDataHead f.head → f.head.length ≡ 0 → length front ≡ 50 → drop 42 front ≡ be64 f.back ++ drop 50 front → f.back < 2 ^ 64 → DataStands (data_in f area) area (drop 50 area)
+back_at left front area f is read long fits none size back lt =
+    let whole : area ≡ front ++ drop 50 area = sym (take-append-drop 50 area) ∙ ap (λ (x : List ℕ). x ++ drop 50 area) (sym is.taken) in
+    let behind : drop 42 area ≡ be64 f.back ++ drop 50 area =
+    ap (drop 42) whole ∙ drop-append-le 42 front (drop 50 area) long ∙ ap (λ (x : List ℕ). x ++ drop 50 area) (back ∙ ap (λ (x : List ℕ). be64 f.back ++ x) (drop_all 50 front (omega (arith, size))) ∙ append-nil (be64 f.back)) in
+    back_stands area f (headed left front area f.head is read long) fits none behind lt
+
+pub full_at : (left : ℕ) (front area : List ℕ) (f : Found) → IsFront 50 left front area → front ≡ data_head f.head ++ drop 42 front → 42 ≤ length front → FitsDataHead f.head → 0 < f.head.length → f.head.length ≤ left - 42 → DataStands (data_in f area) area (drop (42 + f.head.length) area)
+full_at left front area f is read long fits some le = full_stands area f (headed left front area f.head is read long) fits some (omega (arith, is.long, le))
+
+-- the front of an area that is there whole
+pub slice_front : (rest : List ℕ) (size : ℕ) → size ≡ min 50 (length rest) → IsFront 50 (length rest) (take size rest) rest
+slice_front rest size cut = record {
+  long = refl;
+  taken = elim (cases_lt (length rest) 50) [
+    | inl lt ↦ take_all size rest (omega (arith, cut, lt)) ∙ sym (take_all 50 rest (omega (arith, lt)))
+    | inr le ↦
+        let most : size ≡ 50 = omega (arith, cut, le) in
+        ap (λ (n : ℕ). take n rest) most
+  ];
+}

@@ -5,7 +5,7 @@ use Rattle.std.proofs.lemmas.Bool.{eq-eqb, ne_eqb, false≢true}
 use Rattle.fs_record.specs.declared.body.TxnTexts.{TxnTexts}
 use Rattle.fs_record.specs.Spelling.{Data, Inside, Records, Skipped, Block, data_spelling, txn_head_of, block_spelling, long_of, texts_spelling, inside_spelling}
 use Rattle.fs_record.specs.Fits.{FitsTxnHead, FitsInside, FitsBlock}
-use Rattle.fs_record.specs.SpellingLaws.{same_parts}
+use Rattle.fs_record.specs.SpellingLaws.{same_parts, txn_head_from}
 use Rattle.zbase.specs.declared.ids.Row.{Row}
 use Rattle.fs_record.specs.declared.damage.Damage.{Damage}
 use Rattle.fs_record.specs.declared.damage.Damage.TheVariants.{BadTail}
@@ -108,3 +108,7 @@ pub records_wrong : (rest : List ℕ) (w : Extent) (place last : ℕ) (old begin
     → fault_by last w.head.tid w.head.status w.tail w.head.length marks ≡ Some kind → IsDamageAt rest place last old kind
 records_wrong rest w place last old begin rows marks kind whole u r some =
     inr (block_in w rest (Records r.ds), drop (w.long + 8) rest, records_stand rest w r.ds whole u r.are, fault_is rest w place last old marks r.ds whole (sym r.are.spelled) r.marked ∙ some)
+
+-- the head of what stands there
+pub head_of_block : (rest : List ℕ) (w : Extent) (i : Inside) → IsWhole rest w → long_of (block_in w rest i) ≡ w.long → w.head ≡ txn_head_of (block_in w rest i)
+head_of_block rest w i whole size = txn_head_from w.head (txn_head_of (block_in w rest i)) refl (sym (size ∙ whole.long)) refl (sym whole.user) (sym whole.description) (sym whole.extension)

@@ -1,8 +1,8 @@
 -- What a transaction's head says of what stands behind it.
-use Rattle.std.proofs.Common.{◌≡◌, ℕ, ◌+◌, ◌-◌, ◌^◌, ◌<◌, ◌≤◌, Bool, true, false, ◌||◌, eqb, ltb, List, [], ◌∷◌, ◌++◌, length, get_or, take, drop, refl, sym, ap, ◌∙◌, append_assoc, arith, inl, inr}
+use Rattle.std.proofs.Common.{◌≡◌, ℕ, ◌+◌, ◌-◌, ◌^◌, ◌<◌, ◌≤◌, Bool, true, false, ◌||◌, eqb, ltb, List, [], ◌∷◌, ◌++◌, length, get_or, take, drop, refl, sym, ap, subst, ◌∙◌, append_assoc, append-nil, arith, inl, inr}
 use Rattle.std.specs.Prelude.{◌⊎◌}
 use Rattle.std.specs.Int.{w64, from_be_bytes}
-use Rattle.std.proofs.lemmas.List.{get_or_at, take_at, drop_at, length-append, length-drop, length-take, take-append-drop, drop-drop}
+use Rattle.std.proofs.lemmas.List.{get_or_at, take_at, drop_at, drop_all, length-append, length-drop, length-take, take-append-drop, drop-drop}
 use Rattle.std.proofs.lemmas.Nat.{from_be_bytes-to_be_bytes_8}
 use Rattle.std.proofs.lemmas.Bool.{le-ltb, lt-ltb, ne_eqb}
 use Rattle.zbase.specs.NumberLaws.{length-be64}
@@ -13,7 +13,9 @@ use Rattle.fs_record.specs.Fits.{FitsTxnHead}
 use Rattle.fs_record.specs.SpellingLaws.{same_txn_head, txn_head_from}
 use Rattle.fs_record.specs.Opening.{is_end, length_in, NoBlock}
 use Rattle.fs_scan.specs.declared.extent.Extent.{Extent}
-use Rattle.fs_scan.specs.Extent.{area_in, block_in, IsWhole}
+use Rattle.fs_scan.specs.declared.extent.Frame.{Frame}
+use Rattle.fs_scan.specs.Extent.{area_in, block_in, extent_of, FrameFits, IsFrame, IsWhole}
+use Rattle.fs_scan.specs.Found.{IsFront}
 
 -- the id and the length, the status, and the rest
 regroup_parts : (t l s u d e x : List ℕ) → (((((t ++ l) ++ s) ++ u) ++ d) ++ e) ++ x ≡ (t ++ l) ++ (s ++ ((u ++ d) ++ e ++ x))
@@ -134,3 +136,32 @@ ends rest h e fits long (inr (inr c)) = end_by rest h e fits long ∙ all_true (
 
 pub goes_on : (rest : List ℕ) (h : TxnHead) → rest ≡ txn_head h ++ drop 23 rest → FitsTxnHead h → 23 ≤ length rest → (h.status ≡ 99 → ⊥) → (h.status ≡ 0 → ⊥) → h.length ≤ length rest - 8 → is_end rest ≡ false
 goes_on rest h e fits long a b c = end_by rest h e fits long ∙ all_false _ _ _ (ne_eqb h.status 99 a) (ne_eqb h.status 0 b) (le-ltb _ _ (omega arith))
+
+-- ---- by the first bytes of what stands there
+
+-- what was read of the head there stands in the whole
+headed : (left : ℕ) (front rest : List ℕ) (h : TxnHead) → IsFront 23 left front rest → front ≡ txn_head h ++ drop 23 front → 23 ≤ length front → rest ≡ txn_head h ++ drop 23 rest
+headed left front rest h f read long =
+    let size : length front ≤ 23 = omega (arith, ap length f.taken, length-take 23 rest) in
+    sym (take-append-drop 23 rest) ∙ ap (λ (x : List ℕ). x ++ drop 23 rest) (sym f.taken ∙ read ∙ ap (λ (x : List ℕ). txn_head h ++ x) (drop_all 23 front size) ∙ append-nil (txn_head h))
+
+pub few_end : (left : ℕ) (front rest : List ℕ) → IsFront 23 left front rest → length front < 23 → is_end rest ≡ true
+few_end left front rest f short = short_ends rest (omega (arith, ap length f.taken, length-take 23 rest))
+
+pub ends_at : (left : ℕ) (front rest : List ℕ) (h : TxnHead) → IsFront 23 left front rest → front ≡ txn_head h ++ drop 23 front → 23 ≤ length front → FitsTxnHead h → (h.status ≡ 99) ⊎ ((h.status ≡ 0) ⊎ (left - 8 < h.length)) → is_end rest ≡ true
+ends_at left front rest h f read long fits why =
+    ends rest h (headed left front rest h f read long) fits (omega (arith, ap length f.taken, length-take 23 rest)) (subst (λ (n : ℕ). (h.status ≡ 99) ⊎ ((h.status ≡ 0) ⊎ (n - 8 < h.length))) (sym f.long) why)
+
+goes_at : (left : ℕ) (front rest : List ℕ) (h : TxnHead) → IsFront 23 left front rest → front ≡ txn_head h ++ drop 23 front → 23 ≤ length front → FitsTxnHead h → (h.status ≡ 99 → ⊥) → (h.status ≡ 0 → ⊥) → h.length ≤ left - 8 → is_end rest ≡ false
+goes_at left front rest h f read long fits a b le =
+    goes_on rest h (headed left front rest h f read long) fits (omega (arith, ap length f.taken, length-take 23 rest)) a b (omega (arith, f.long, le))
+
+pub bad_at : (left : ℕ) (front rest : List ℕ) (h : TxnHead) → IsFront 23 left front rest → front ≡ txn_head h ++ drop 23 front → 23 ≤ length front → FitsTxnHead h → (h.status ≡ 99 → ⊥) → (h.status ≡ 0 → ⊥) → h.length ≤ left - 8 → h.length < 23 + h.user + h.description + h.extension → (is_end rest ≡ false) × NoBlock rest
+bad_at left front rest h f read long fits a b le lt = (goes_at left front rest h f read long fits a b le, no_block rest h (headed left front rest h f read long) fits lt)
+
+pub frame_is : (left : ℕ) (front rest : List ℕ) (f : Frame) → IsFront 23 left front rest → front ≡ txn_head f.head ++ drop 23 front → 23 ≤ length front → FitsTxnHead f.head → (f.head.status ≡ 99 → ⊥) → (f.head.status ≡ 0 → ⊥) → f.head.length ≤ left - 8 → (is_end rest ≡ false) × IsFrame rest f
+frame_is left front rest f is read long fits a b le = (goes_at left front rest f.head is read long fits a b le, record { head = fits; spelled = headed left front rest f.head is read long })
+
+-- with its second length
+pub with_tail : (rest : List ℕ) (place tail : ℕ) (f : Frame) → FrameFits place (length rest) f → IsFrame rest f → drop f.long rest ≡ be64 tail ++ drop (f.long + 8) rest → tail < 2 ^ 64 → IsWhole rest (extent_of f tail)
+with_tail rest place tail f fits is there lt = whole_is rest (extent_of f tail) is.spelled is.head (omega (arith, fits.room, fits.within, fits.from)) fits.from fits.within fits.long fits.room there lt

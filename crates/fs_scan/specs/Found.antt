@@ -1,5 +1,5 @@
 -- The data record that a head and an area make.
-use Rattle.std.specs.Prelude.{◌≡◌, ℕ, zero, suc, List, ◌++◌, take, drop}
+use Rattle.std.specs.Prelude.{◌≡◌, ℕ, zero, suc, List, ◌++◌, length, take, drop}
 use Rattle.fs_record.specs.declared.body.Body.{Body}
 use Rattle.fs_record.specs.declared.body.Body.TheVariants.{Full, Back}
 use Rattle.fs_record.specs.Spelling.{Data, data_spelling}
@@ -23,3 +23,8 @@ pub record DataStands (d : Data) (area rest : List ℕ) : Type 0 where
 -- the area begins with no record, whatever its fields say
 abbrev pub NoData : List ℕ → Type 0
 NoData area = (d : Data) (rest : List ℕ) → DataStands d area rest → ⊥
+
+-- the first bytes of an area that is so long, at most so many
+pub record IsFront (most left : ℕ) (front area : List ℕ) : Type 0 where
+  pub long : length area ≡ left
+  pub taken : front ≡ take most area

@@ -5,13 +5,15 @@ pub mod Extent
 pub mod Taking
 pub mod Rising
 pub mod Newest
+pub mod Keeping
+pub mod Stepped
 pub mod OnlyReads
 pub mod Wholes
 pub mod Scanned
 pub mod Present
 pub mod Checked
-pub mod Windows
 pub mod Walked
 pub mod Followed
 pub mod Backs
+pub mod Pacing
 pub mod WalkedLaws

@@ -2,7 +2,6 @@
 use Rattle.std.specs.Prelude.{◌≡◌, ℕ, ◌==◌, max, List, [], ◌∷◌, Option, Some, None, if◌then◌else◌}
 use Rattle.zbase.specs.declared.ids.Row.{Row}
 use Rattle.fs_index.specs.Places.{Slots, place_of}
-use Rattle.fs_scan.specs.Rising.{RiseFrom}
 
 -- the place of the object's last data record, else what was found before
 abbrev pub last_row : ℕ → Option ℕ → List Row → Option ℕ
@@ -26,10 +25,3 @@ IsNewest all newest = (oid : ℕ) → place_of newest oid ≡ last_row oid None 
 abbrev pub place_in : Option ℕ → ℕ
 place_in None = 0
 place_in (Some place) = place
-
--- ---- records by their places, with where each object's last one stands
-
-pub record IsIndex (newest : Slots) (greatest : Option ℕ) (rows : List Row) : Type 0 where
-  pub newest_of : IsNewest rows newest
-  pub greatest_in : greatest ≡ greatest_of rows
-  pub rise : RiseFrom 0 rows

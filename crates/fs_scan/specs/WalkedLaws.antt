@@ -1,14 +1,11 @@
--- A place of bytes has one front, and a walk there has the places of its data records.
-use Rattle.std.specs.Prelude.{◌≡◌, ℕ, ◌<◌, nat_lt, if◌then◌else◌, Bool, true, List, [], length, take, Option, Some, None}
-use Rattle.std.proofs.Common.{refl, sym, ap, ◌∙◌, append-nil, lt-ltb}
-use Rattle.zbase.specs.declared.ids.Row.{Row}
+-- A place of bytes has one front.
+use Rattle.std.specs.Prelude.{◌≡◌, ℕ, true, List, [], take, Option, Some, None}
+use Rattle.std.proofs.Common.{refl, sym, ap, ◌∙◌, append-nil}
 use Rattle.std.proofs.lemmas.List.{take_at}
 use Rattle.fs_record.specs.File.{Front}
 use Rattle.fs_record.specs.Opening.{is_end, SplitsAt, Cut}
 use Rattle.fs_record.specs.OpeningLaws.{one_cut}
-use Rattle.fs_record.specs.File.{rows}
-use Rattle.fs_scan.specs.Rising.{row_at}
-use Rattle.fs_scan.specs.Walked.{Course, FrontAt, IsOn, record_count, record_place}
+use Rattle.fs_scan.specs.Walked.{FrontAt}
 
 end_of_none : is_end [] ≡ true
 unfolding is_end
@@ -23,12 +20,3 @@ cut_there bytes rest place front s =
 pub one_front : (bytes : List ℕ) (place : Option ℕ) (f g : Front) → FrontAt bytes place f → FrontAt bytes place g → f ≡ g
 one_front bytes None f g a b = a ∙ sym b
 one_front bytes (Some place) f g a b = (one_cut (take place bytes) f g place place (cut_there bytes a.0 place f a.1) (cut_there bytes b.0 place g b.1)).0
-
--- a walk counts the data records that are behind it, and has their places
-pub counted_on : (bytes : List ℕ) (c : Course) (on : IsOn bytes c) → record_count c ≡ length (rows on.front.records)
-counted_on bytes c on = ap length (sym on.records)
-
-pub placed_on : (bytes : List ℕ) (c : Course) (on : IsOn bytes c) (number : ℕ) → number < length (rows on.front.records) → record_place c number ≡ Some (row_at (rows on.front.records) number).place
-placed_on bytes c on number within =
-    ap (λ (rs : List Row). if nat_lt number (length rs) then Some (row_at rs number).place else None) (sym on.records)
-    ∙ ap (λ (t : Bool). if t then Some (row_at (rows on.front.records) number).place else None) (lt-ltb number (length (rows on.front.records)) within)

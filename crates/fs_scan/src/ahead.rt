@@ -1,4 +1,4 @@
-ghost use Rattle.std.specs.Prelude.{◌≡◌, ◌+◌, ◌-◌, ◌<◌, ◌≤◌, ℕ, List, IfOk, IfSome, IsErrOf, OnOk, Some, drop, false, length, take, true};
+ghost use Rattle.std.specs.Prelude.{◌≡◌, ◌+◌, ◌-◌, ◌<◌, ◌≤◌, [], ℕ, List, IfOk, IfSome, IsErrOf, OnOk, Some, drop, false, length, take, true};
 ghost use Rattle.std.specs.Option.{ForSome};
 ghost use Rattle.zdisk.specs.Disk.{content};
 ghost use Rattle.fs_record.specs.declared.damage.Damage.{Damage as Kind};
@@ -6,11 +6,12 @@ ghost use Rattle.fs_record.specs.Opening.{Stands};
 ghost use Rattle.fs_record.specs.Spelling.{Block, txn_head_of};
 ghost use Rattle.fs_scan.specs.Ahead.{Covers, IsAhead, unread};
 ghost use Rattle.fs_scan.specs.OnlyReads.{OnlyReads};
+ghost use Rattle.fs_scan.specs.Pacing.{Forward, IsPiece};
 
 use crate::ScanRefusal;
 use crate::texts::copy_texts;
 use crate::window::Window;
-use fs_record::{TXN_HEAD_LEN, TxnHead, TxnTexts, read_txn_head, texts_end};
+use fs_record::{BACK_RECORD_LEN, TXN_HEAD_LEN, TxnHead, TxnTexts, read_txn_head, texts_end};
 use std::alloc::Global;
 use std::marker::Model;
 use zdisk::Disk;
@@ -50,7 +51,8 @@ impl Ahead {
 
     // Whether so many bytes at a place are among those that were read.
     fn covers(&self, at: u64, size: u64) -> bool
-        ensures { result ≡ true → Covers self.now at size }
+        ensures yes { result ≡ true → Covers self.now at size }
+        ensures no { result ≡ false → Covers self.now at size → ⊥ }
     {
         if at < self.from {
             return false;
@@ -60,8 +62,37 @@ impl Ahead {
         skipped <= long && size <= long - skipped
     }
 
-    // Sees to it that so many bytes at a place are among those that were read, by one device call at most; not where a
-    // disk's file of this length is shorter.
+    /// Sees to it that so many bytes at a place of a disk's file of this length are among those that were read, by one device
+    /// call at most: by none where they are there, else the piece that is read begins with them.
+    pub(crate) fn show<D: Disk>(
+        &mut self,
+        disk: &mut D,
+        len: u64,
+        at: u64,
+        size: u64,
+    ) -> Result<(), ScanRefusal>
+        requires len { ForSome (D.told disk.old) (λ told. len ≡ length (content told)) }
+        requires ahead { IsAhead (D.told disk.old) self.old }
+        requires within { at + size ≤ len }
+        ensures ahead { IsAhead (D.told disk.old) self.new }
+        ensures covers { OnOk result (Covers self.new at size) }
+        ensures piece { OnOk result (IsPiece len at self.old → IsPiece len at self.new) }
+        ensures first { OnOk result (self.old.bytes ≡ [] → 0 < size → IsPiece len at self.new) }
+        ensures forward { IsPiece len at self.old → size ≤ BACK_RECORD_LEN
+            → Forward at self.old self.new (D.counter disk.old).calls (D.counter disk.new).calls }
+        ensures undamaged { (kind : Kind) (place : ℕ) → IsErrOf result (ScanRefusal.Damaged kind place) → ⊥ }
+        ensures reads { (D.counter disk.new).calls ≤ (D.counter disk.old).calls + 1 }
+        ensures only_reads { OnlyReads D.Disk disk.old disk.new (IsErrOf result ScanRefusal.Disk) }
+    {
+        if self.covers(at, size) {
+            return Ok(());
+        }
+        let left = len - at;
+        self.from = at;
+        self.bytes.read(disk, at, left.min(size.max(AHEAD_LEN)))
+    }
+
+    // The same, but not where the file is shorter.
     fn reach<D: Disk>(
         &mut self,
         disk: &mut D,
@@ -78,23 +109,18 @@ impl Ahead {
         ensures reads { (D.counter disk.new).calls ≤ (D.counter disk.old).calls + 1 }
         ensures only_reads { OnlyReads D.Disk disk.old disk.new (IsErrOf result ScanRefusal.Disk) }
     {
-        if self.covers(at, size) {
-            return Ok(true);
-        }
         if len < at {
             return Ok(false);
         }
-        let left = len - at;
-        if left < size {
+        if len - at < size {
             return Ok(false);
         }
-        self.from = at;
-        self.bytes.read(disk, at, left.min(size.max(AHEAD_LEN)))?;
+        self.show(disk, len, at, size)?;
         Ok(true)
     }
 
-    // So many bytes at a place, that were read.
-    fn piece(&self, at: u64, size: u64) -> &[u8]
+    /// So many bytes at a place, that were read.
+    pub(crate) fn piece(&self, at: u64, size: u64) -> &[u8]
         requires { Covers self.now at size }
         ensures { result.now ≡ take size (drop (at - self.now.from) self.now.bytes) }
     {

@@ -36,8 +36,8 @@ pub struct Checked {
 /// call at most, and no memory.
 fn back_at<D: Disk>(disk: &mut D, len: u64, at: u64) -> Result<Option<u64>, Failed>
     requires { ForSome (D.told disk.old) (λ told. len ≡ length (content told)) }
-    ensures back { IfOk result (λ back. IfSome (D.told disk.old) (λ told. (d : Data) (more : List ℕ) → FitsData d → drop at (content told) ≡ data_spelling d ++ more
-        → back ≡ back_in d.body)) }
+    ensures back { IfOk result (λ back. IfSome (D.told disk.old)
+        (λ told. (d : Data) (more : List ℕ) → FitsData d → drop at (content told) ≡ data_spelling d ++ more → back ≡ back_in d.body)) }
     ensures only_reads { OnlyReads D.Disk disk.old disk.new (IsErr result) }
 {
     // a back pointer ends a record of so many bytes, so one with less behind it has data
@@ -76,8 +76,8 @@ fn has_value<D: Disk>(disk: &mut D, len: u64, place: u64) -> Result<bool, Failed
 /// How many of these data records mean a value.
 fn count_present<D: Disk>(disk: &mut D, len: u64, rows: &[Row]) -> Result<u64, Failed>
     requires { ForSome (D.told disk.old) (λ told. len ≡ length (content told)) }
-    ensures count { IfOk result (λ count. IfSome (D.told disk.old) (λ told. (records : List Earlier) → AllStand (content told) records → ArePlaces records rows.now
-        → count ≡ length (filter (λ row. means_value records row.place) rows.now))) }
+    ensures count { IfOk result (λ count. IfSome (D.told disk.old) (λ told. (records : List Earlier) → AllStand (content told) records
+        → ArePlaces records rows.now → count ≡ length (filter (λ row. means_value records row.place) rows.now))) }
     ensures only_reads { OnlyReads D.Disk disk.old disk.new (IsErr result) }
 {
     let mut count = 0;

@@ -1,21 +1,49 @@
-ghost use Rattle.std.specs.Prelude.{◌≡◌, ◌+◌, ◌<◌, ◌≤◌, ◌==◌, ◌^◌, length, drop, if◌then◌else◌};
-ghost use Rattle.fs_scan.specs.Extent.{PartsSay};
+ghost use Rattle.std.specs.Prelude.{◌≡◌, ◌+◌, ◌<◌, ◌==◌, ◌^◌, ℕ, List, length, min, if◌then◌else◌};
+ghost use Rattle.fs_scan.specs.Extent.{FramesFit, PartsSay, extent_of};
+ghost use Rattle.fs_scan.specs.Found.{IsFront};
 
 use fs_record::{
-    RecordRefusal, STATUS_UNDONE, STATUS_WAITING, TAIL_LEN, TxnHead, read_txn_head, texts_end,
+    RecordRefusal, STATUS_UNDONE, STATUS_WAITING, TAIL_LEN, TXN_HEAD_LEN, TxnHead, read_txn_head,
+    texts_end,
 };
-use zbase::{Tid, u64_at};
+use zbase::Tid;
+
+/// A transaction whose texts lie within it, as its head says.
+#[derive(Clone, Copy)]
+pub struct Frame {
+    /// Where it begins, in bytes from the file's start.
+    pub place: u64,
+    pub head: TxnHead,
+    /// Where its data records begin, in bytes from its start.
+    pub from: u64,
+    /// Where they end, and the second length begins.
+    pub long: u64,
+}
 
 /// A transaction whose texts lie within it, in bytes from its start.
 #[derive(Clone, Copy)]
 pub struct Extent {
     pub head: TxnHead,
     /// Where its data records begin.
-    pub from: usize,
+    pub from: u64,
     /// Where they end, and the second length begins.
-    pub long: usize,
+    pub long: u64,
     /// The second length.
     pub tail: u64,
+}
+
+impl Frame {
+    /// The transaction with its second length.
+    pub fn with_tail(&self, tail: u64) -> Extent
+        ensures { result ≡ extent_of self.now tail }
+    {
+        Extent {
+            head: self.head,
+            from: self.from,
+            long: self.long,
+            tail,
+        }
+    }
 }
 
 impl Extent {
@@ -24,7 +52,7 @@ impl Extent {
         requires { self.now.long + TAIL_LEN < 2 ^ 64 }
         ensures { result ≡ self.now.long + TAIL_LEN }
     {
-        self.long as u64 + TAIL_LEN as u64
+        self.long + TAIL_LEN as u64
     }
 }
 
@@ -36,18 +64,20 @@ pub enum Parts {
     /// A transaction whose head and texts pass its end.
     Bad,
     /// A transaction with a place for data records.
-    Whole(Extent),
+    Whole(Frame),
 }
 
-/// What stands at the front, down to where its data records begin and end. Takes no memory.
+/// What stands at a place in a file where so many bytes are left, down to where its data records begin and end. Of these
+/// bytes the first are given, as many as a head has. Takes no memory.
 ///
 /// FileStorage format notes: no whole head, a status `c` or 0, and a length that passes the file's end are a
 /// write that was broken off.
-pub fn whole_at(rest: &[u8]) -> Parts
-    requires { length rest.now < 2 ^ 63 }
-    ensures { PartsSay rest.now result }
+pub fn frame_at(front: &[u8], left: u64, place: u64) -> Parts
+    requires { length front.now ≡ min TXN_HEAD_LEN left }
+    ensures says { (rest : List ℕ) → IsFront TXN_HEAD_LEN left front.now rest → PartsSay rest result }
+    ensures fits { FramesFit place left result }
 {
-    let head = match read_txn_head(rest) {
+    let head = match read_txn_head(front) {
         Ok(head) => head,
         Err(RecordRefusal::Short) => return Parts::End,
     };
@@ -57,20 +87,18 @@ pub fn whole_at(rest: &[u8]) -> Parts
     if head.status == 0 {
         return Parts::End;
     }
-    if head.length > (rest.len() - TAIL_LEN) as u64 {
+    if head.length > left - TAIL_LEN as u64 {
         return Parts::End;
     }
-    let long = head.length as usize;
-    let from = texts_end(&head);
-    if long < from {
+    let from = texts_end(&head) as u64;
+    if head.length < from {
         return Parts::Bad;
     }
-    let tail = u64_at(rest, long);
-    Parts::Whole(Extent {
+    Parts::Whole(Frame {
+        place,
         head,
         from,
-        long,
-        tail,
+        long: head.length,
     })
 }
 

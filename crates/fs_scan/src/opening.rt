@@ -1,15 +1,17 @@
 ghost use Rattle.std.specs.Prelude.{◌≡◌, ◌+◌, ◌==◌, ◌<◌, ◌≤◌, ◌^◌, ℕ, length, IfOk, IfSome, IsErrOf, if◌then◌else◌};
+ghost use Rattle.std.specs.Option.{ForSome};
 ghost use Rattle.zdisk.specs.Disk.{content};
 ghost use Rattle.fs_record.specs.declared.damage.Damage.{Damage as Kind};
 ghost use Rattle.fs_record.specs.Opening.{Damaged};
 ghost use Rattle.fs_scan.specs.OnlyReads.{OnlyReads};
-ghost use Rattle.fs_scan.specs.Scanned.{CostsScan, Tells};
+ghost use Rattle.fs_scan.specs.Pacing.{Spends};
+ghost use Rattle.fs_scan.specs.Scanned.{CostsScan, Reaches, Tells};
+ghost use Rattle.fs_scan.specs.Walked.{IsFresh};
 ghost use Rattle.fs_scan.specs.declared.opening.ScanRefusal.TheVariants as refusals;
 
 use crate::extent::{Extent, last_behind};
 use crate::step::Step;
 use crate::walk::Walk;
-use crate::window::Window;
 use fs_index::Index;
 use fs_record::{Damage, MAGIC_LEN, STATUS_PACKED, STATUS_UNDONE, TAIL_LEN};
 use std::alloc::{AllocError, Global};
@@ -72,15 +74,15 @@ impl From<Failed> for ScanRefusal {
 
 /// What a scan has counted of the transactions that it passed.
 #[derive(Clone, Copy)]
-struct Tally {
+pub struct Tally {
     /// Where they end.
-    at: u64,
+    pub at: u64,
     /// The id of the last one.
-    last: Tid,
+    pub last: Tid,
     /// The id of the last packed one.
-    floor: Tid,
+    pub floor: Tid,
     /// How many count.
-    count: u64,
+    pub count: u64,
 }
 
 impl Tally {
@@ -122,7 +124,15 @@ impl Tally {
 
     /// What is told where the file ends here, and so many bytes stand behind it.
     fn told(self, torn: u64, greatest: Option<Oid>, newest: Index) -> Scanned
-        ensures { result ≡ record { end = self.at; torn = torn; greatest = greatest; last = self.last; floor = self.floor; count = self.count; newest = newest } }
+        ensures { result ≡ record {
+          end = self.at;
+          torn = torn;
+          greatest = greatest;
+          last = self.last;
+          floor = self.floor;
+          count = self.count;
+          newest = newest;
+        } }
     {
         Scanned {
             end: self.at,
@@ -136,8 +146,35 @@ impl Tally {
     }
 }
 
+/// Goes over the transactions of a disk's file of this length, from the first on, by a walk that hasn't begun; what is told of
+/// them where they end. Where the disk tells nothing, the walk may be anywhere behind it.
+pub(crate) fn go_over<D: Disk>(
+    walk: &mut Walk,
+    disk: &mut D,
+    len: u64,
+) -> Result<Tally, ScanRefusal>
+    requires fresh { IsFresh walk.old }
+    requires len { ForSome (D.told disk.old) (λ told. len ≡ length (content told)) }
+    ensures reached { IfOk result (λ tally. IfSome (D.told disk.old) (λ told. Reaches (content told) tally walk.new.kept)) }
+    ensures damaged { (kind : Kind) (place : ℕ) → IsErrOf result (ScanRefusal.Damaged kind place)
+        → IfSome (D.told disk.old) (λ told. Damaged (content told) place kind) }
+    ensures spends { IfSome (D.told disk.old)
+        (λ told. Spends (content told) 0 len 0 len ((D.counter disk.old).calls + 1) (D.counter disk.new).calls) }
+    ensures only_reads { OnlyReads D.Disk disk.old disk.new (IsErrOf result ScanRefusal.Disk) }
+{
+    let mut tally = Tally::new();
+    walk.enter(disk, len)?;
+    'each: loop {
+        match walk.step(disk, len, tally.at)? {
+            Step::End => return Ok(tally),
+            Step::Damaged(kind) => return Err(ScanRefusal::Damaged(kind, tally.at)),
+            Step::Right(extent) => tally = tally.behind(&extent),
+        }
+    }
+}
+
 /// What the file of a disk has: its end, its torn rest, each object's last data record; or what is wrong with it
-/// and where. It reads the file once, a transaction at a time, each by two device calls at most, and changes nothing.
+/// and where. It goes over the file once, by 64 KiB at a time, holds no text and no value of it, and changes nothing.
 ///
 /// FileStorage format notes: a file is read forward from its start, and a write that was broken off ends it.
 pub fn scan<D: Disk>(alloc: Global, disk: &mut D) -> Result<Scanned, ScanRefusal>
@@ -149,19 +186,8 @@ pub fn scan<D: Disk>(alloc: Global, disk: &mut D) -> Result<Scanned, ScanRefusal
 {
     let len = disk.len()?;
     let mut walk = Walk::new(alloc);
-    let mut tally = Tally::new();
-    walk.enter(disk, len)?;
-    let mut window = Window::new(alloc);
-    'each: loop {
-        window.show(disk, len, tally.at)?;
-        match walk.step(window.as_slice(), tally.at)? {
-            Step::End => {
-                let torn = len.saturating_sub(tally.at);
-                let greatest = walk.greatest();
-                return Ok(tally.told(torn, greatest, walk.into_index()));
-            }
-            Step::Damaged(kind) => return Err(ScanRefusal::Damaged(kind, tally.at)),
-            Step::Right(extent) => tally = tally.behind(&extent),
-        }
-    }
+    let tally = go_over(&mut walk, disk, len)?;
+    let torn = len.saturating_sub(tally.at);
+    let greatest = walk.greatest();
+    Ok(tally.told(torn, greatest, walk.into_index()))
 }

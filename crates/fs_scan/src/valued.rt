@@ -6,19 +6,16 @@ ghost use Rattle.fs_record.specs.declared.damage.Damage.{Damage as Kind};
 ghost use Rattle.fs_record.specs.File.{Earlier, has_body, rows, value_of};
 ghost use Rattle.fs_record.specs.Spelling.{Data};
 ghost use Rattle.fs_scan.specs.Backs.{CostsBodies, CostsBody};
-ghost use Rattle.fs_scan.specs.Extent.{IsWhole, area_in};
-ghost use Rattle.fs_scan.specs.Followed.{MeansValues, MeansWhole};
+ghost use Rattle.fs_scan.specs.Followed.{MeansValues};
 ghost use Rattle.fs_scan.specs.Found.{data_in};
 ghost use Rattle.fs_scan.specs.Marked.{AreRecords, NoRecords};
 ghost use Rattle.fs_scan.specs.OnlyReads.{OnlyReads};
 ghost use Rattle.fs_scan.specs.Present.{AllStand};
 
 use crate::data::{Found, data_at};
-use crate::extent::Extent;
 use crate::following::follow;
-use crate::texts::copy_texts;
-use crate::{OidValue, OidValues, ScanRefusal, Whole};
-use fs_record::DATA_HEAD_LEN;
+use crate::{OidValue, OidValues, ScanRefusal};
+use fs_record::{BACK_RECORD_LEN, DATA_HEAD_LEN};
 use std::alloc::Global;
 use zbase::{Bytes, Value};
 use zdisk::Disk;
@@ -44,7 +41,7 @@ fn value_at_front<D: Disk>(
     ensures only_reads { OnlyReads D.Disk disk.old disk.new (IsErrOf result ScanRefusal.Disk) }
 {
     if found.head.length != 0 {
-        return Ok(Some(Bytes::from_slice(alloc, &rest[DATA_HEAD_LEN..found.size])?));
+        return Ok(Some(Bytes::from_slice(alloc, &rest[DATA_HEAD_LEN..found.size as usize])?));
     }
     if found.back == 0 {
         return Ok(None);
@@ -72,7 +69,8 @@ pub fn read_values<D: Disk>(
     let mut at = 0;
     while at < area.len() {
         let rest = &area[at..];
-        let Some(found) = data_at(rest) else {
+        let front = &rest[..rest.len().min(BACK_RECORD_LEN)];
+        let Some(found) = data_at(front, rest.len() as u64) else {
             return Ok(None);
         };
         let value = value_at_front(alloc, disk, len, rest, &found)?;
@@ -80,37 +78,7 @@ pub fn read_values<D: Disk>(
             oid: found.head.oid,
             value,
         })?;
-        at += found.size;
+        at += found.size as usize;
     }
     Ok(Some(values))
-}
-
-/// The transaction in the window, which begins at this place in a disk's file of this length, with its values.
-pub fn read_whole_in<D: Disk>(
-    alloc: Global,
-    disk: &mut D,
-    len: u64,
-    window: &[u8],
-    place: u64,
-    extent: &Extent,
-) -> Result<Whole, ScanRefusal>
-    requires stands { IsWhole window.now extent.now }
-    requires records { (ds : List Data) × AreRecords (area_in extent.now window.now) ds }
-    requires whole { ForSome (D.told disk.old) (λ told. len ≡ length (content told)) }
-    ensures means { IfOk result (MeansWhole (D.told disk.old) window.now place extent.now) }
-    ensures undamaged { (kind : Kind) (place : ℕ) → IsErrOf result (ScanRefusal.Damaged kind place) → ⊥ }
-    ensures only_reads { OnlyReads D.Disk disk.old disk.new (IsErrOf result ScanRefusal.Disk) }
-{
-    let area = &window[extent.from..extent.long];
-    let Some(values) = read_values(alloc, disk, len, area)? else {
-        unreachable!();
-    };
-    let texts = copy_texts(alloc, window, &extent.head)?;
-    Ok(Whole {
-        place,
-        status: extent.head.status,
-        tid: extent.head.tid,
-        texts,
-        values,
-    })
 }

@@ -1,90 +1,108 @@
-ghost use Rattle.std.specs.Prelude.{◌≡◌, ◌+◌, ◌++◌, ◌<◌, ◌≤◌, ◌^◌, ℕ, List, IfErr, IfOk, IfSome, IsErrOf, MatchOption, None, OnErr, OnOk, Some, drop, length};
+ghost use Rattle.std.specs.Prelude.{◌≡◌, ◌++◌, ◌+◌, ◌<◌, ◌≤◌, ◌^◌, [], ℕ, List, IfErr, IfOk, IfSome, IsErrOf, MatchOption, None, OnErr, OnOk, Some, drop, get_or, if◌then◌else◌, length, nat_lt};
 ghost use Rattle.std.specs.Option.{ForSome};
 ghost use Rattle.zdisk.specs.Disk.{content};
 ghost use Rattle.fs_record.specs.declared.damage.Damage.{Damage as Kind};
 ghost use Rattle.fs_record.specs.Opening.{Damaged};
 ghost use Rattle.fs_record.specs.File.{magic};
-ghost use Rattle.fs_record.specs.Spelling.{Data};
-ghost use Rattle.fs_scan.specs.Extent.{IsWhole, area_in};
-ghost use Rattle.fs_scan.specs.Followed.{MeansWhole};
-ghost use Rattle.fs_scan.specs.Marked.{AreRecords};
-ghost use Rattle.fs_scan.specs.Newest.{IsNewest, greatest_of};
+ghost use Rattle.fs_scan.specs.Ahead.{IsAhead};
+ghost use Rattle.fs_scan.specs.Followed.{MeansWhole, StandsNone};
+ghost use Rattle.fs_scan.specs.Keeping.{KeepsOn};
 ghost use Rattle.fs_scan.specs.OnlyReads.{OnlyReads};
-ghost use Rattle.fs_scan.specs.Walked.{IsOn, Steps, Walks, begun, place_on, record_count, record_place, standing};
+ghost use Rattle.fs_scan.specs.Stepped.{StepsOn, begun, gone};
+ghost use Rattle.fs_scan.specs.Pacing.{IsPiece, Spends};
+ghost use Rattle.fs_scan.specs.Walked.{Goes, IsFresh, IsOn, Walks, place_on, reading, standing};
 
+use crate::ahead::Ahead;
 use crate::extent::{Extent, last_behind};
+use crate::kept::Kept;
 use crate::magic::has_magic;
-use crate::places::Places;
 use crate::step::{Step, take_one};
-use crate::valued::read_whole_in;
-use crate::window::{Window, read_range};
+use crate::wholes::read_whole;
 use crate::{ScanRefusal, Whole};
 use fs_index::Index;
 use fs_record::{Damage, MAGIC_LEN, STATUS_UNDONE};
 use std::alloc::Global;
 use std::marker::Model;
-use std::mem;
-use zbase::{Memory, Oid, Tid};
+use zbase::{Oid, Tid};
 use zdisk::Disk;
 
-/// A walk over the transactions of a file, from the oldest to the newest. It keeps the place of each data record, and
-/// of the file's bytes those of the transaction that was read last.
+/// A walk over the transactions of a file, from the oldest to the newest. It keeps the place of each data record in six
+/// bytes and an index of the objects, and of the file's bytes 64 KiB that were read ahead.
 #[derive(Drop)]
 pub struct Walk {
-    places: Places,
+    kept: Kept,
     last: Tid,
     /// Where the next transaction begins, none before the first step.
     at: Option<u64>,
-    /// What was read last; its buffer serves the next transaction.
-    window: Window,
+    ahead: Ahead,
 }
 
 impl Model for Walk {
-    ghost use Rattle.fs_scan.specs.Rising.{RiseWithin};
+    ghost use Rattle.fs_scan.specs.Keeping.{PlacesWithin};
     ghost use Rattle.fs_scan.specs.Walked.{Course, place_on};
 
     ghost Value = { Course };
 
-    ghost view = { λ walk. record { place = walk.at; last = walk.last; records = walk.places } };
+    ghost view = { λ walk. record { place = walk.at; last = walk.last; kept = walk.kept; ahead = walk.ahead } };
 
-    ghost invariant = { λ walk. RiseWithin 0 (place_on walk.at) walk.places };
+    ghost invariant = { λ walk. PlacesWithin 0 (place_on walk.at) walk.kept.places };
 }
 
 impl Walk {
     /// A walk that has not begun. Takes no memory.
     pub fn new(alloc: Global) -> Walk
-        ensures begun { result ≡ begun }
+        ensures begun { IsFresh result }
         ensures on { (bytes : List ℕ) → IsOn bytes result }
     {
         Walk {
-            places: Places::new(alloc),
+            kept: Kept::new(alloc),
             last: Tid(0),
             at: None,
-            window: Window::new(alloc),
+            ahead: Ahead::new(alloc),
         }
     }
 
     /// The allocator that the walk keeps.
     fn alloc(&self) -> Global {
-        self.places.alloc()
+        self.kept.alloc()
+    }
+
+    /// How many data records it passed.
+    pub fn record_count(&self) -> usize
+        ensures { result ≡ length self.now.kept.places }
+    {
+        self.kept.count()
+    }
+
+    /// The place of the data record that it passed with this number, from 0 on, and none behind the last one. In bytes from the
+    /// file's start.
+    pub fn record_place(&self, number: usize) -> Option<u64>
+        ensures { result ≡ (if nat_lt number (length self.now.kept.places) then Some (get_or self.now.kept.places number 0) else None) }
+    {
+        self.kept.place(number)
     }
 
     /// Goes over the magic where the walk has not begun, and says where the next transaction begins.
     pub(crate) fn enter<D: Disk>(&mut self, disk: &mut D, len: u64) -> Result<u64, ScanRefusal>
-        requires { ForSome (D.told disk.old) (λ told. len ≡ length (content told)) }
-        ensures entered { IfOk result (λ at. (at ≡ place_on self.old.place) × (self.new ≡ standing at self.old)) }
+        requires len { ForSome (D.told disk.old) (λ told. len ≡ length (content told)) }
+        requires ahead { IsAhead (D.told disk.old) self.old.ahead }
+        ensures entered { IfOk result (λ at. (at ≡ place_on self.old.place) × (self.new ≡ standing at self.new.ahead self.old)) }
         ensures magic { IfOk result (λ at. self.old.place ≡ None → IfSome (D.told disk.old) (λ told. content told ≡ magic ++ drop MAGIC_LEN (content told))) }
-        ensures stays { IfErr result (λ _. self.new ≡ self.old) }
+        ensures long { OnOk result (self.old.place ≡ None → MAGIC_LEN ≤ len) }
+        ensures piece { OnOk result (self.old.place ≡ None → self.old.ahead.bytes ≡ [] → IsPiece len 0 self.new.ahead) }
+        ensures reads { (D.counter disk.new).calls ≤ (D.counter disk.old).calls + 1 }
+        ensures stays { IfErr result (λ _. self.new ≡ reading self.new.ahead self.old) }
+        ensures ahead { IsAhead (D.told disk.old) self.new.ahead }
         ensures damaged { (kind : Kind) (place : ℕ) → IsErrOf result (ScanRefusal.Damaged kind place)
             → IfSome (D.told disk.old) (λ told. Damaged (content told) place kind) }
-        ensures reads { (D.counter disk.new).calls ≤ (D.counter disk.old).calls + 1 }
         ensures only_reads { OnlyReads D.Disk disk.old disk.new (IsErrOf result ScanRefusal.Disk) }
     {
         if let Some(at) = self.at {
             return Ok(at);
         }
-        let front = read_range(self.alloc(), disk, 0, len.min(MAGIC_LEN as u64))?;
-        if !has_magic(&front) {
+        let size = len.min(MAGIC_LEN as u64);
+        self.ahead.show(disk, len, 0, size)?;
+        if !has_magic(self.ahead.piece(0, size)) {
             return Err(ScanRefusal::Damaged(Damage::BadMagic, 0));
         }
         let at = MAGIC_LEN as u64;
@@ -92,18 +110,32 @@ impl Walk {
         Ok(at)
     }
 
-    /// Takes what the window shows at the walk's place, and goes behind it where it is a right transaction. For want of
-    /// memory the walk begins anew.
-    pub(crate) fn step(&mut self, window: &[u8], at: u64) -> Result<Step, Memory>
+    /// Takes what stands at the walk's place in a disk's file of this length, and goes behind it where it is a right
+    /// transaction. Where the disk failed, or for want of memory, the walk begins anew.
+    pub(crate) fn step<D: Disk>(
+        &mut self,
+        disk: &mut D,
+        len: u64,
+        at: u64,
+    ) -> Result<Step, ScanRefusal>
         requires here { self.old.place ≡ Some at }
-        requires place { at + length window.now < 2 ^ 64 }
-        ensures ok { IfOk result (λ s. Steps window.now at self.old self.new s) }
-        ensures err { OnErr result (self.new ≡ begun) }
+        requires len { ForSome (D.told disk.old) (λ told. len ≡ length (content told)) }
+        requires keeps { IfSome (D.told disk.old) (λ told. KeepsOn (content told) self.old.kept) }
+        requires ahead { IsAhead (D.told disk.old) self.old.ahead }
+        ensures goes { IfOk result (Goes len at self.old self.new) }
+        ensures says { IfOk result (λ s. IfSome (D.told disk.old) (λ told. StepsOn (content told) at self.old.last self.old.kept self.new.kept s)) }
+        ensures ahead { IsAhead (D.told disk.old) self.new.ahead }
+        ensures err { OnErr result (IsFresh self.new) }
+        ensures piece { OnOk result (IsPiece len at self.old.ahead → at ≤ len → IsPiece len (gone len at result) self.new.ahead) }
+        ensures spends { IsPiece len at self.old.ahead → at ≤ len → IfSome (D.told disk.old) (λ told. Spends (content told) at (gone len at result)
+            self.old.ahead.from (begun len result self.new.ahead) (D.counter disk.old).calls (D.counter disk.new).calls) }
+        ensures undamaged { (kind : Kind) (place : ℕ) → IsErrOf result (ScanRefusal.Damaged kind place) → ⊥ }
+        ensures only_reads { OnlyReads D.Disk disk.old disk.new (IsErrOf result ScanRefusal.Disk) }
     {
-        let step = match take_one(&mut self.places, window, at, self.last) {
+        let step = match take_one(&mut self.kept, &mut self.ahead, disk, len, at, self.last) {
             Ok(step) => step,
             Err(refusal) => {
-                *self = Walk::new(self.places.alloc());
+                *self = Walk::new(self.kept.alloc());
                 return Err(refusal);
             }
         };
@@ -115,28 +147,32 @@ impl Walk {
     }
 
     // The transaction that was gone over, with its values. Where they can't be read, the walk begins anew, since it would
-    // leave this one out.
+    // leave this one out; so it does where the file says otherwise than before, as none does that tells what it holds.
     fn whole_in<D: Disk>(
         &mut self,
         disk: &mut D,
         len: u64,
-        window: &[u8],
         place: u64,
         extent: &Extent,
     ) -> Result<Option<Whole>, ScanRefusal>
-        requires stands { IsWhole window.now extent.now }
-        requires records { (ds : List Data) × AreRecords (area_in extent.now window.now) ds }
-        requires whole { ForSome (D.told disk.old) (λ told. len ≡ length (content told)) }
-        ensures means { IfOk result (λ found. MatchOption found ⊥ (MeansWhole (D.told disk.old) window.now place extent.now)) }
-        ensures ok { OnOk result (self.new ≡ self.old) }
-        ensures err { OnErr result (self.new ≡ begun) }
-        ensures undamaged { (kind : Kind) (place : ℕ) → IsErrOf result (ScanRefusal.Damaged kind place) → ⊥ }
+        requires len { ForSome (D.told disk.old) (λ told. len ≡ length (content told)) }
+        requires ahead { IsAhead (D.told disk.old) self.old.ahead }
+        ensures means { IfOk result (λ found. MatchOption found ⊥ (MeansWhole (D.told disk.old) place extent.now)) }
+        ensures ok { OnOk result (self.new ≡ reading self.new.ahead self.old) }
+        ensures ahead { IsAhead (D.told disk.old) self.new.ahead }
+        ensures err { OnErr result (IsFresh self.new) }
+        ensures damaged { (kind : Kind) (at : ℕ) → IsErrOf result (ScanRefusal.Damaged kind at) → StandsNone (D.told disk.old) place extent.now }
         ensures only_reads { OnlyReads D.Disk disk.old disk.new (IsErrOf result ScanRefusal.Disk) }
     {
-        match read_whole_in(self.alloc(), disk, len, window, place, extent) {
-            Ok(whole) => Ok(Some(whole)),
+        let alloc = self.alloc();
+        match read_whole(alloc, &mut self.ahead, disk, len, place, extent) {
+            Ok(Some(whole)) => Ok(Some(whole)),
+            Ok(None) => {
+                *self = Walk::new(alloc);
+                Err(ScanRefusal::Damaged(Damage::BadLength, place))
+            }
             Err(refusal) => {
-                *self = Walk::new(self.alloc());
+                *self = Walk::new(alloc);
                 Err(refusal)
             }
         }
@@ -144,37 +180,22 @@ impl Walk {
 
     /// The greatest id of an object with a data record so far.
     pub(crate) fn greatest(&self) -> Option<Oid>
-        ensures { result ≡ greatest_of self.now.records }
+        ensures { result ≡ self.now.kept.greatest }
     {
-        self.places.greatest()
-    }
-
-    /// How many data records are behind the walk, those of undone transactions not counted.
-    pub fn record_count(&self) -> usize
-        ensures { result ≡ record_count self.now }
-    {
-        self.places.len()
-    }
-
-    /// Where the data record with this number stands, in bytes from the file's start; none where not so many are behind the
-    /// walk. The oldest has the number 0.
-    pub fn record_place(&self, number: usize) -> Option<u64>
-        ensures { result ≡ record_place self.now number }
-    {
-        self.places.place(number)
+        self.kept.greatest()
     }
 
     /// Where each object's last data record so far stands, without a copy.
     pub(crate) fn into_index(self) -> Index
-        ensures { IsNewest self.records result }
+        ensures { result ≡ self.kept.newest }
     {
         let Walk {
-            places,
+            kept,
             last: _,
             at: _,
-            window: _,
+            ahead: _,
         } = self;
-        places.into_index()
+        kept.into_index()
     }
 
     /// The next transaction that counts, with its values, back pointers followed; none at the file's end. It changes
@@ -189,39 +210,16 @@ impl Walk {
             → IfSome (D.told disk.old) (λ told. Damaged (content told) place kind) }
         ensures only_reads { OnlyReads D.Disk disk.old disk.new (IsErrOf result ScanRefusal.Disk) }
     {
-        let none = Window::new(self.alloc());
-        let mut window = mem::replace(&mut self.window, none);
-        let found = self.next_in(disk, &mut window);
-        self.window = window;
-        found
-    }
-
-    // The same, by a window that is handed in.
-    fn next_in<D: Disk>(
-        &mut self,
-        disk: &mut D,
-        window: &mut Window,
-    ) -> Result<Option<Whole>, ScanRefusal>
-        requires { ForSome (D.told disk.old) (λ told. IsOn (content told) self.old) }
-        ensures walked { IfOk result (λ found. IfSome (D.told disk.old) (λ told. Walks (content told) self.old self.new found)) }
-        ensures on { IfSome (D.told disk.old) (λ told. IsOn (content told) self.new) }
-        ensures rises { IfOk result (λ found. IfSome found (λ _. (place_on self.old.place < place_on self.new.place) × (place_on self.new.place < 2 ^ 64))) }
-        ensures later { IfOk result (λ found. IfSome found (λ whole. (self.old.last < whole.tid) × (self.new.last ≡ whole.tid))) }
-        ensures damaged { (kind : Kind) (place : ℕ) → IsErrOf result (ScanRefusal.Damaged kind place)
-            → IfSome (D.told disk.old) (λ told. Damaged (content told) place kind) }
-        ensures only_reads { OnlyReads D.Disk disk.old disk.new (IsErrOf result ScanRefusal.Disk) }
-    {
         let len = disk.len()?;
         let mut at = self.enter(disk, len)?;
         'undone: loop {
-            window.show(disk, len, at)?;
-            let extent = match self.step(window.as_slice(), at)? {
+            let extent = match self.step(disk, len, at)? {
                 Step::End => return Ok(None),
                 Step::Damaged(kind) => return Err(ScanRefusal::Damaged(kind, at)),
                 Step::Right(extent) => extent,
             };
             if extent.head.status != STATUS_UNDONE {
-                return self.whole_in(disk, len, window.as_slice(), at, &extent);
+                return self.whole_in(disk, len, at, &extent);
             }
             at += extent.size();
         }

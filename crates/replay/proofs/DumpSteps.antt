@@ -12,7 +12,7 @@ use Rattle.fs_scan.specs.declared.opening.ScanRefusal.{ScanRefusal}
 use Rattle.fs_scan.specs.declared.opening.Scanned.{Scanned}
 use Rattle.fs_scan.specs.declared.wholes.Whole.{Whole}
 use Rattle.fs_scan.specs.Scanned.{Tells}
-use Rattle.fs_scan.specs.Walked.{Course, FrontAt, IsOn, Passes, Ends, begun}
+use Rattle.fs_scan.specs.Walked.{Course, FrontAt, IsOn, Passes, Ends, IsFresh}
 use Rattle.fs_scan.specs.WalkedLaws.{one_front}
 use Rattle.fs_scan.specs.Wholes.{transaction_in}
 use Rattle.schedule.specs.declared.line.Line.{Line}
@@ -30,9 +30,9 @@ pub record Printed (bytes : List ℕ) (head : List Line) (course : Course) (old 
   pub stands : FrontAt bytes course.place front
   pub lines : Prints old now (so_far head front.history)
 
-pub printed_first : (disk : Option Told) (head : List Line) (course : Course) (old now : Option (List ℕ)) → course ≡ begun → Prints old now head → IfSome disk (λ told. Printed (content told) head course old now)
+pub printed_first : (disk : Option Told) (head : List Line) (course : Course) (old now : Option (List ℕ)) → IsFresh course → Prints old now head → IfSome disk (λ told. Printed (content told) head course old now)
 printed_first None head course old now e p = tt
-printed_first (Some told) head course old now e p = subst (λ (c : Course). Printed (content told) head c old now) (sym e) (record { front = front_of []; stands = refl; lines = subst (Prints old now) (sym (append-nil head)) p })
+printed_first (Some told) head course old now e p = record { front = front_of []; stands = subst (λ (place : Option ℕ). FrontAt (content told) place (front_of [])) (sym e.place) refl; lines = subst (Prints old now) (sym (append-nil head)) p }
 
 one_longer : (head : List Line) (h : History) (status : ℕ) (x : Transaction) → so_far head h ++ transaction_lines x ≡ so_far head (longer h status x)
 one_longer head h status x =
@@ -76,9 +76,9 @@ none_damaged None again s kind place X same t d = tt
 none_damaged (Some told) again s kind place X same t d = absurd (not_both (content told) t.front s.end place kind t.cut (subst (λ (o : Option Told). IfSome o (λ x. Damaged (content x) place kind)) same d))
 
 -- a new walk may begin over every disk
-pub fresh_on : (disk : Option Told) (course : Course) → course ≡ begun → IfSome disk (λ told. IsOn (content told) course)
+pub fresh_on : (disk : Option Told) (course : Course) → ((bytes : List ℕ) → IsOn bytes course) → IfSome disk (λ told. IsOn (content told) course)
 fresh_on None course e = tt
-fresh_on (Some told) course e = subst (IsOn (content told)) (sym e) (record { front = front_of []; stands = refl; records = refl; last = refl })
+fresh_on (Some told) course e = e (content told)
 
 -- the damage that the scan met is the dump's
 pub damaged_told : {T U : Type 0} (disk : Option Told) (r : ScanRefusal) (result : Result U DumpRefusal) (X : Type 0) → X → result ≡ Err (of_scan r) → ((kind : Kind) (place : ℕ) → IsErrOf {T = T} (Err r) (ScanRefusal.Damaged kind place) → IfSome disk (λ told. Damaged (content told) place kind))

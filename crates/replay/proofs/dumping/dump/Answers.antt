@@ -19,8 +19,8 @@ each-init g c =
     let told = g.D.Disk.told c.args.disk.now in
     record {
       printed = (c.in_ok-floor.field-0, c.in_ok-floor.ensures.told, printed_first told (history_head c.in_ok-floor.field-0.count c.in_ok-floor.field-0.floor) c.new-walk.result _ _ c.new-walk.ensures.begun c.in_ok-put_heading.ensures.ok);
-      on = fresh_on told c.new-walk.result c.new-walk.ensures.begun;
-      place = rw c.new-walk.ensures.begun (omega arith);
+      on = fresh_on told c.new-walk.result c.new-walk.ensures.on;
+      place = rw c.new-walk.ensures.begun.place (omega arith);
       same = c.in_ok-floor.ensures.only_reads.same;
       disk = counts_as c.in_ok-floor.ensures.only_reads.counts (λ e. cc) (λ none. absurd none);
       sink = counts_as c.in_ok-put_heading.ensures.counts (λ e. cc) (λ none. absurd none);
