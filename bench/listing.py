@@ -1,23 +1,28 @@
 #!/usr/bin/env python3
 """Replays pages that list the documents of a folder, of ten times as many and of a form that is sent along, beside Jinja2.
 
+    bench/listing.py [--rounds N]
+
 A folder of the root has so many documents, each with a title. Methods of the root list them: by name, by a name in quotes, behind
 an `if` on the same name, and with a method that is rendered inside each. A page that meets n objects is evaluated n + 1 times, so
-what it costs tells whether it goes on where it stopped. Each cost is a run's seconds of the processor, without those of a run that
-has no request; the replay's own lines for each fetch are part of it.
+what it costs tells whether it goes on where it stopped. Each cost is seconds of the processor, without those of a run that has no
+request: the middle one of N rounds (7) over all runs, in each of which Jinja2 makes its pages too; the replay's own lines for each
+fetch are part of it. Needs the built program (`./zope check` builds it) and Python's jinja2.
 """
 
 import argparse
 import os
 import pathlib
+import statistics
 import subprocess
 import tempfile
 import time
 
 import jinja2
 
+from check import BUILT
 from pages import folder, page
-from replay import PROGRAM, Writer, build
+from replay import Writer, build
 
 TITLE = b"<p><dtml-var title></p>\n"
 METHODS = {
@@ -71,33 +76,30 @@ def listing(method, size, form=b""):
 
 
 def form_of(length):
-    """A form of a thousand fields and about so many bytes."""
-    fields = 1_000
+    """A form of a thousand fields at most and about so many bytes."""
+    fields = min(1_000, length // 20)
     return b"&".join(b"name%04d=%s" % (number, b"v" * max(1, length // fields - 10)) for number in range(fields))
 
 
-class Bench:
-    def __init__(self, at, site, rounds):
-        self.at, self.site, self.rounds = at, site, rounds
-        self.opened = self.seconds([])
+class Replayed:
+    """A request that is replayed so many times."""
 
-    def seconds(self, requests):
-        """The least seconds of the processor that a replay of these requests takes, each of which has its page."""
-        lines, report = self.at / "schedule", self.at / "report"
-        lines.write_bytes(schedule(requests))
-        took = []
-        for _ in range(self.rounds):
-            with open(lines, "rb") as given, open(report, "wb") as out:
-                child = subprocess.Popen([PROGRAM, "replay", self.site], stdin=given, stdout=out)
-                _, status, usage = os.wait4(child.pid, 0)
-            assert status == 0, "the replay ended otherwise"
-            took.append(usage.ru_utime + usage.ru_stime)
-        shown = report.read_bytes()
-        assert shown.count(b"HTTP/1.1 200 OK") == len(requests), "a page wasn't answered"
-        return min(took)
+    def __init__(self, at, name, request, times):
+        self.at, self.times, self.lines, self.costs = at, times, at / name, []
+        self.lines.write_bytes(schedule([request] * times))
 
-    def cost(self, request, times=1):
-        return (self.seconds([request] * times) - self.opened) / times
+    def seconds(self):
+        """The seconds of the processor that a run takes."""
+        with open(self.lines, "rb") as given, open(self.at / "report", "wb") as out:
+            child = subprocess.Popen([BUILT, "replay", self.at / "site.fs"], stdin=given, stdout=out)
+            _, status, usage = os.wait4(child.pid, 0)
+        assert status == 0, "the replay ended otherwise"
+        assert (self.at / "report").read_bytes().count(b"HTTP/1.1 200 OK") == self.times, "a page wasn't answered"
+        return usage.ru_utime + usage.ru_stime
+
+    def middle(self):
+        """The middle one of the costs of a page."""
+        return statistics.median(self.costs) / self.times
 
 
 class Document:
@@ -105,39 +107,71 @@ class Document:
         self.title = f"Title of {number}"
 
 
-def jinja_page(size, rounds):
+def jinja_pages(size, times):
+    """The seconds of the processor of so many pages."""
     template = jinja2.Environment().from_string(JINJA)
     documents = [Document(number) for number in range(size)]
-    best = None
-    for _ in range(rounds):
-        began = time.process_time()
+    template.render(documents=documents[:1])
+    began = time.process_time()
+    for _ in range(times):
         template.render(documents=documents)
-        took = time.process_time() - began
-        best = took if best is None else min(best, took)
-    return best
+    return time.process_time() - began
+
+
+# ten thousand would be one tag more than a page may have
+SIZES = (10, 100, 1_000, 9_900)
+FORMS = (1_000, 10_000, 100_000, 1_000_000)
+OTHERS = (("in_quotes", 400, 4_000), ("behind_if", 400, 4_000), ("with_rows", 100, 1_000))
+
+
+def pages_of(at):
+    """All that is replayed, by names."""
+    made = {}
+    for size in SIZES:
+        made[f"by_name {size}"] = Replayed(at, f"by_name {size}", listing(b"by_name", size), 40_000 // size)
+    for method, few, many in OTHERS:
+        for size in (few, many):
+            name = f"{method} {size}"
+            made[name] = Replayed(at, name, listing(method.encode(), size), 20_000 // size)
+    for length in FORMS:
+        made[f"form {length}"] = Replayed(at, f"form {length}", listing(b"by_name", 1, form_of(length)), min(2_000, 10_000_000 // length))
+    made["form 100000 over 50"] = Replayed(at, "over 50", listing(b"by_name", 50, form_of(100_000)), 100)
+    return made
+
+
+def measure(at, rounds):
+    """The middle seconds of a page of each, and of Jinja2's page of 1,000 documents."""
+    made, opened, by_jinja = pages_of(at), Replayed(at, "none", None, 0), []
+    for _ in range(rounds):
+        start = opened.seconds()
+        for page_of in made.values():
+            page_of.costs.append(page_of.seconds() - start)
+        by_jinja.append(jinja_pages(1_000, 100) / 100)
+    return {name: page_of.middle() for name, page_of in made.items()} | {"Jinja2's 1000": statistics.median(by_jinja)}
+
+
+def print_ratio(middles, few, many, most):
+    first, second = middles[few], middles[many]
+    print(f"| {few}: {first * 1e3:.3f} ms | {many}: {second * 1e3:.3f} ms | {second / first:.1f} (wanted: at most {most}) |", flush=True)
 
 
 def main():
-    options = argparse.ArgumentParser(description=__doc__)
-    options.add_argument("--rounds", type=int, default=5)
+    options = argparse.ArgumentParser(description=__doc__.splitlines()[0])
+    options.add_argument("--rounds", type=int, default=7)
     given = options.parse_args()
     build()
-    with tempfile.TemporaryDirectory() as made:
-        at = pathlib.Path(made)
-        site = at / "site.fs"
-        write_site(site, (1, 50, 100, 400, 1_000, 4_000))
-        bench = Bench(at, site, given.rounds)
-        for method, few, many, most in ((b"by_name", 400, 4_000, 15), (b"in_quotes", 400, 4_000, 15), (b"behind_if", 400, 4_000, 15), (b"with_rows", 100, 1_000, 15)):
-            first, second = bench.cost(listing(method, few), 20), bench.cost(listing(method, many), 4)
-            print(f"{method.decode()}: {few} documents {first * 1000:.2f} ms, {many} {second * 1000:.2f} ms, {second / first:.1f} times (wanted: at most {most})")
-        form = form_of(100_000)
-        first, second = bench.cost(listing(b"by_name", 1, form), 20), bench.cost(listing(b"by_name", 50, form), 20)
-        print(f"a form of {len(form)} bytes: over 1 document {first * 1000:.2f} ms, over 50 {second * 1000:.2f} ms, {second / first:.1f} times (wanted: at most 3)")
-        long = form_of(1_000_000)
-        third = bench.cost(listing(b"by_name", 1, long), 4)
-        print(f"a form of {len(long)} bytes: {third * 1000:.2f} ms, {third / first:.1f} times (its length: {len(long) / len(form):.1f} times)")
-        listed, made_by_jinja = bench.cost(listing(b"by_name", 1_000), 10), jinja_page(1_000, 50)
-        print(f"1,000 documents: {listed * 1000:.2f} ms; Jinja2: {made_by_jinja * 1000:.2f} ms, {listed / made_by_jinja:.1f} times (wanted: at most 3)")
+    with tempfile.TemporaryDirectory() as name:
+        at = pathlib.Path(name)
+        write_site(at / "site.fs", (1, 50, 400, 4_000, *SIZES))
+        middles = measure(at, given.rounds)
+    for few, many in zip(SIZES, SIZES[1:]):
+        print_ratio(middles, f"by_name {few}", f"by_name {many}", 15)
+    for method, few, many in OTHERS:
+        print_ratio(middles, f"{method} {few}", f"{method} {many}", 15)
+    for few, many in zip(FORMS, FORMS[1:]):
+        print_ratio(middles, f"form {few}", f"form {many}", 15)
+    print_ratio(middles, "form 100000", "form 100000 over 50", 3)
+    print_ratio(middles, "Jinja2's 1000", "by_name 1000", 3)
 
 
 if __name__ == "__main__":

@@ -4,18 +4,23 @@
 A document shows a header and a footer that all pages share, and its own title, id and a property. The 1,000 documents that
 are asked for stand in ten folders of the root; the larger site has the 99,000 others in a folder beside these, in 990 folders
 of a hundred each. The schedule asks for each of the 1,000 in turn. A page's cost is what a run with more pages takes longer
-than one with fewer, so that opening the file, which grows with it, isn't part of it.
+than one with fewer, so that opening the file, which grows with it, isn't part of it. Costs are seconds of the processor; sites and
+Jinja2 take turns, and the middle one of all rounds is taken, of ratios that of each round's. Needs the built program (`./zope check`
+builds it) and Python's jinja2.
 """
 
 import argparse
+import os
 import pathlib
+import statistics
 import subprocess
 import tempfile
 import time
 
 import jinja2
 
-from replay import PROGRAM, Writer, be, build, least, run_of, text, timed
+from check import BUILT
+from replay import Writer, be, build, text
 
 HEADER = b"<html><head><title>&dtml-title;</title></head>\n<body>\n<h1>&dtml-title;</h1>\n"
 FOOTER = b'<p class="foot">A page of <dtml-var AUTHENTICATED_USER>.</p>\n</body></html>\n'
@@ -94,47 +99,57 @@ class Document:
         self.id, self.title, self.subject = f"document{number:02}", f"Title of {number}", f"matter {number}"
 
 
-def jinja_page(rounds):
-    """The least seconds of a page of a thousand, made by Jinja2."""
+def jinja_page():
+    """The seconds of the processor of a page of a thousand, made by Jinja2."""
     template = jinja2.Environment(loader=jinja2.DictLoader(PAGES)).get_template("page")
-    documents = [Document(number) for number in range(1_000)]
-    best = None
-    for _ in range(rounds):
-        began = time.perf_counter()
+    documents, passes = [Document(number) for number in range(1_000)], 10
+    template.render(document=documents[0], user="Anonymous User")
+    began = time.process_time()
+    for _ in range(passes):
         for document in documents:
             template.render(document=document, user="Anonymous User")
-        took = (time.perf_counter() - began) / len(documents)
-        best = took if best is None else min(best, took)
-    return best
+    return (time.process_time() - began) / passes / len(documents)
+
+
+def seconds(site, lines, report=os.devnull):
+    """The seconds of the processor that a replay takes."""
+    with open(lines, "rb") as given, open(report, "wb") as out:
+        child = subprocess.Popen([BUILT, "replay", site], stdin=given, stdout=out)
+        _, status, usage = os.wait4(child.pid, 0)
+    assert status == 0, "the replay ended otherwise"
+    return usage.ru_utime + usage.ru_stime
 
 
 def main():
-    options = argparse.ArgumentParser(description=__doc__)
+    options = argparse.ArgumentParser(description=__doc__.splitlines()[0])
     options.add_argument("--pages", type=int, default=20_000)
-    options.add_argument("--rounds", type=int, default=5)
+    options.add_argument("--rounds", type=int, default=9)
     given = options.parse_args()
     build()
     with tempfile.TemporaryDirectory() as made:
         at = pathlib.Path(made)
-        for name, others in (("small", 0), ("large", OTHERS)):
-            Site().write(at / f"{name}.fs", others)
+        sites = {"small": at / "small.fs", "large": at / "large.fs"}
+        Site().write(sites["small"], 0)
+        Site().write(sites["large"], OTHERS)
         (at / "few").write_bytes(schedule(1_000))
         (at / "many").write_bytes(schedule(1_000 + given.pages))
-        with open(at / "few", "rb") as lines, open(at / "report", "wb") as report:
-            timed([PROGRAM, "replay", at / "small.fs"], lines, report)
-        shown = (at / "report").read_bytes()
-        assert shown.count(b"HTTP/1.1 200 OK") == 1_000, "a page wasn't answered"
-        costs = {}
-        for name in ("small", "large"):
-            few, _ = least(run_of(at / f"{name}.fs", at / "few"), given.rounds)
-            many, _ = least(run_of(at / f"{name}.fs", at / "many"), given.rounds)
-            costs[name] = (many - few) / given.pages
-        jinja = jinja_page(20)
-        for name, cost in costs.items():
-            length = (at / f"{name}.fs").stat().st_size
-            print(f"{name} site of {length} bytes: {cost * 1e6:.1f} us a page, {1 / cost:.0f} pages a second")
-        print(f"Jinja2 alone: {jinja * 1e6:.1f} us a page, {1 / jinja:.0f} pages a second")
-        print(f"large to small: {costs['large'] / costs['small']:.2f} (wanted: 0.9 to 1.1)")
+        seconds(sites["small"], at / "few", at / "report")
+        assert (at / "report").read_bytes().count(b"HTTP/1.1 200 OK") == 1_000, "a page wasn't answered"
+        costs = {"small": [], "large": [], "jinja": []}
+        for _ in range(given.rounds):
+            for name, site in sites.items():
+                costs[name].append((seconds(site, at / "many") - seconds(site, at / "few")) / given.pages)
+            costs["jinja"].append(jinja_page())
+        for name, site in sites.items():
+            print(f"{name} site of {site.stat().st_size} bytes: {statistics.median(costs[name]) * 1e6:.1f} us a page")
+        print(f"Jinja2 alone: {statistics.median(costs['jinja']) * 1e6:.1f} us a page")
+        print(f"to Jinja2: {middle_ratio(costs['small'], costs['jinja']):.2f} (wanted: at most 1.2)")
+        print(f"large to small: {middle_ratio(costs['large'], costs['small']):.2f} (wanted: 0.9 to 1.1)")
+
+
+def middle_ratio(ours, theirs):
+    """The middle one of the ratios of each round."""
+    return statistics.median(one / other for one, other in zip(ours, theirs))
 
 
 if __name__ == "__main__":
