@@ -4,7 +4,7 @@
     bench/parse.py [KIND ..]
 
 It also counts the instructions of a parse, by valgrind. Jinja2's own lexer and parser (`Environment.parse`, which compiles nothing)
-read the same template in its spelling, with as many tags, blocks and words, in the same run: the least of five parses, seconds of the
+read the same template in its spelling, with as many tags, blocks and words, in the same run: the least of three parses, seconds of the
 processor. All kinds where none is named. Needs the toolchain, Python's jinja2 and Debian's package `valgrind`.
 """
 
@@ -68,7 +68,7 @@ def for_jinja(kind):
 def time_of_jinja(kind):
     """The least seconds of the processor that Jinja2's lexer and parser take for the whole."""
     surroundings, source, took = jinja2.Environment(), for_jinja(kind), []
-    for _ in range(5):
+    for _ in range(3):
         began = time.process_time()
         surroundings.parse(source)
         took.append(time.process_time() - began)
