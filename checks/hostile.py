@@ -133,6 +133,10 @@ class Stranger(threading.Thread):
                     client.shutdown(socket.SHUT_WR)
                     came = read_all(client)
             except OSError as error:
+                # behind a refused head the server reads 64 KiB away, and then hangs up on who sends more
+                if len(sent) > 65_536:
+                    self.silent += 1
+                    continue
                 self.wrong = self.wrong or (error, sent[:500])
                 return
             self.longest = max(self.longest, time.monotonic() - began)
