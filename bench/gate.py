@@ -62,7 +62,8 @@ def watch(session, ended, spent):
 
 def words_of(crates):
     """The gate from nothing. A kit whose gate keeps nothing between runs has no word for that, and takes no crates."""
-    keeps = "--anew" in subprocess.run(["rt", "help"], capture_output=True, text=True, check=False).stdout
+    told = subprocess.run(["rt", "help"], stdout=subprocess.PIPE, stderr=subprocess.STDOUT, text=True, check=False).stdout
+    keeps = "--anew" in told
     return ["rt", "ci", *(["--anew", *crates] if keeps else [])]
 
 
