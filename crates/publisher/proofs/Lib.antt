@@ -3,6 +3,7 @@ mod ForUsers
 mod Showing
 mod Denying
 mod Naming
+mod Turning
 mod Apart
 mod WrongAnswers
 mod Learning

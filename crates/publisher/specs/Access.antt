@@ -2,7 +2,7 @@
 --
 -- Zope Developer's Guide, "Security"; Zope Book, "Users and Security": proxy roles; "Advanced DTML": `skip_unauthorized` of
 -- `dtml-in`.
-use Rattle.std.specs.Prelude.{ℕ, ◌≡◌, ◌≢◌, ◌⊎◌, List, [], Option, Some, Ok}
+use Rattle.std.specs.Prelude.{ℕ, ◌≡◌, ◌≢◌, ◌⊎◌, false, List, [], Option, Some, Ok}
 use Rattle.zbase.specs.History.{History}
 use Rattle.zbase.specs.Query.{run}
 use Rattle.zobject.specs.declared.object.Object.{Object}
@@ -37,15 +37,18 @@ use Rattle.manage.specs.Calling.{permission_at}
 use Rattle.manage.specs.Calls.{call_named}
 use Rattle.manage.specs.Changing.{change as call_change}
 use Rattle.manage.specs.Undoing.{undone}
-use Rattle.namespace.specs.LookLaws.{IsShown, Same, Views}
+use Rattle.namespace.specs.LookLaws.{IsFor, IsShown, Same, Views}
 use Rattle.namespace.specs.Looks.{Looks, Use, looked_by, veiled, view, without_users}
+use Rattle.namespace.specs.Names.{Scope, whose}
 use Rattle.namespace.specs.Requests.{request_names}
 use Rattle.namespace.specs.Traces.{AreGrantedBy, IsIn, ViewsAs, trace, viewed_in}
+use Rattle.namespace.specs.declared.val.Single.{Single}
 use Rattle.traverse.specs.declared.target.Target.{Target}
 use Rattle.traverse.specs.declared.target.Target.TheVariants as targets
 use Rattle.traverse.specs.Publishing.{published}
 use Rattle.dtml_values.specs.Values.{Left}
 use Rattle.dtml_render.specs.Access.{HasNoRoles, HasRolesOfOne, LooksRightly, RefusesRightly, SkipsInOne}
+use Rattle.dtml_render.specs.Rendering.{has_turn}
 use Rattle.publisher.specs.Comes.{Tells}
 use Rattle.publisher.specs.Pages.{page_text}
 use Rattle.publisher.specs.Replies.{by_verb, log_reply, runaway_facts}
@@ -109,6 +112,11 @@ pub record DeniesPage (k : ℕ → Option (Seen Object)) (q : Request) (d : Deni
   pub user : Who
   pub publishes : Publishes k q o client fields user
   pub refused : RefusesRightly (IsOfPage k user) (SkipsInOne k user) k d.oid d.permission (trace k (page_of q fields user o client))
+
+-- A `dtml-in` without `skip_unauthorized` passes none of its items over, wherever it stands: whether an item has its turn
+-- needs a view for who acts there, as all else does.
+abbrev pub UnmarkedPassNothingOver : Type 0
+UnmarkedPassNothingOver = (k : ℕ → Option (Seen Object)) (scope : Scope) (item : Single) → IsFor (λ who. who ≡ whose scope) k (has_turn scope false item)
 
 -- ---- calls
 

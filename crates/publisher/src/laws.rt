@@ -13,7 +13,7 @@ ghost use Rattle.http_in.specs.declared.message.Message.{Message};
 ghost use Rattle.permissions.specs.declared.who.Who.TheVariants.{Anonymous};
 ghost use Rattle.dtml_render.specs.Access.{RefusesRightly, SkipsInOne};
 ghost use Rattle.publisher.specs.Access.{ChangesAreGranted, ContentsStayApart, DeniesRightly, PagesAreTheirUsersOwn, PagesShowRightly};
-ghost use Rattle.publisher.specs.Access.{IsOfPage, RefusalsAreDenied, RefusalsAreNamed, ShowsRightly, StaysApart};
+ghost use Rattle.publisher.specs.Access.{IsOfPage, RefusalsAreDenied, RefusalsAreNamed, ShowsRightly, StaysApart, UnmarkedPassNothingOver};
 ghost use Rattle.publisher.specs.Site.{site};
 ghost use Rattle.publisher.specs.Worked.{site as site_shown};
 ghost use Rattle.publisher.specs.WrongSites.{for_anyone, front_page, listing_site, not_granted, open_page, past_an_item, private_page};
@@ -46,11 +46,12 @@ pub fn messages_are_lawful()
 ///
 /// Something is passed over for those alone who act in the source of an object whose contents the page saw before, where a
 /// `dtml-in` with that mark stands in that source: for the page's user, or for someone with that object's proxy roles, where it
-/// has any.
+/// has any. And only by one with that mark: where it hasn't got it, whether an item has its turn needs a view as all else does.
 pub fn pages_show_rightly()
     ensures shown { PagesShowRightly }
     ensures named { RefusalsAreNamed }
     ensures denied { RefusalsAreDenied }
+    ensures marked { UnmarkedPassNothingOver }
 {
     pages_are_for_their_users();
 }
