@@ -46,6 +46,7 @@ class Refusing:
         self.shared.write_bytes(bytes(32))
         with open(self.shared, "r+b") as file:
             self.numbers = mmap.mmap(file.fileno(), 32)
+        self.number, self.points = 0, None
         self.surroundings = os.environ | {"LD_PRELOAD": str(self.library), "REFUSE": str(self.shared)}
 
     def asked(self):
@@ -61,7 +62,22 @@ class Refusing:
         struct.pack_into("=3Q", self.numbers, 8, 0, self.asked()[0] + number, many)
 
     def grant(self):
+        """Refuses none any more. Behind the run of the number 0 it is known how many there are."""
+        if self.number == 0:
+            self.points = self.asked()[0]
         struct.pack_into("=2Q", self.numbers, 16, 0, 0)
+
+    def each(self, step):
+        """Begins a run for each allocation that is refused, and gives its number: first for 0, in which none is, and then for every
+        `step`-th, alone, and once more each with all behind it. Each run grants again when it has its answers."""
+        for many in (1, 2**62):
+            self.number = 0
+            while self.points is None or self.number <= self.points + 2 * step:
+                self.start()
+                if self.number:
+                    self.refuse(self.number, many)
+                yield self.number
+                self.number += step if self.number else 1
 
 
 class Tally:
@@ -166,22 +182,14 @@ def look_at_replay(done, replays):
 
 def replay_part(folder, refusing, step):
     file, tally = site_with_documents(folder), Tally()
-    replays, points = Replays(file), None
-    kept = file.read_bytes()
-    for many in (1, 2**62):
-        number = 0
-        while points is None or number <= points + 2 * step:
-            refusing.start()
-            if number:
-                refusing.refuse(number, many)
-            done = subprocess.run([PROGRAM, "replay", file], input=schedule(), env=refusing.surroundings, capture_output=True, check=False)
-            what, starved = look_at_replay(done, replays)
-            tally.add(refusing, starved, what)
-            if number == 0:
-                points = refusing.asked()[0]
-            number += step if number else 1
+    replays, kept = Replays(file), file.read_bytes()
+    for _ in refusing.each(step):
+        done = subprocess.run([PROGRAM, "replay", file], input=schedule(), env=refusing.surroundings, capture_output=True, check=False)
+        refusing.grant()
+        what, starved = look_at_replay(done, replays)
+        tally.add(refusing, starved, what)
     assert file.read_bytes() == kept, "a replay changed its file"
-    tally.say("a replay of two edits at once and a page", points)
+    tally.say("a replay of two edits at once and a page", refusing.points)
 
 
 # --- a server
@@ -218,30 +226,23 @@ def is_starved(came):
 
 def page_part(folder, refusing, step):
     file, tally = site_with_documents(folder), Tally()
-    asks, points = message("GET", "/d1", user=ADMIN), None
+    asks = message("GET", "/d1", user=ADMIN)
     serving = Starving(file, refusing)
     right = ask(serving.port, asks)
     assert right.startswith(b"HTTP/1.1 200 OK") and b"<p>d1</p>" in right, right
-    for many in (1, 2**62):
-        number = 0
-        while points is None or number <= points + 2 * step:
-            refusing.start()
-            if number:
-                refusing.refuse(number, many)
-            came = asked(serving.port, asks)
-            points = refusing.asked()[0] if number == 0 else points
-            refusing.grant()
-            gone = serving.ended()
-            assert came == right or is_starved(came) or not came, came
-            tally.add(refusing, gone or came != right, ENDED if gone else "replies" if came == right else "replies 503" if came else "connections without a reply")
-            if gone:
-                serving.kill()
-                serving = Starving(file, refusing)
-            assert ask(serving.port, asks) == right, "the next page is another"
-            number += step if number else 1
+    for _ in refusing.each(step):
+        came = asked(serving.port, asks)
+        refusing.grant()
+        gone = serving.ended()
+        assert came == right or is_starved(came) or not came, came
+        tally.add(refusing, gone or came != right, ENDED if gone else "replies" if came == right else "replies 503" if came else "connections without a reply")
+        if gone:
+            serving.kill()
+            serving = Starving(file, refusing)
+        assert ask(serving.port, asks) == right, "the next page is another"
     serving.kill()
     assert file.read_bytes() == serving.before.read_bytes(), "pages changed the file"
-    tally.say("a served page", points)
+    tally.say("a served page", refusing.points)
 
 
 class Edit(threading.Thread):
@@ -265,43 +266,35 @@ def shown_now(file):
 
 
 def edits_part(folder, refusing, step):
-    file, tally, points, round_number = site_with_documents(folder), Tally(), None, 0
+    file, tally = site_with_documents(folder), Tally()
     serving = Starving(file, refusing)
     stand = [{b"0 before"}, {b"1 before"}]
     for number in range(2):
         assert asked(serving.port, edit(number, b"%d before" % number)).endswith(b"done\n")
-    for many in (1, 2**62):
-        number = 0
-        while points is None or number <= points + 2 * step:
-            round_number += 1
-            refusing.start()
-            if number:
-                refusing.refuse(number, many)
-            texts = [b"%d text %d" % (n, round_number) for n in range(2)]
-            edits = [Edit(serving.port, n, text.replace(b" ", b"+")) for n, text in enumerate(texts)]
-            for it in edits:
-                it.join()
-            points = refusing.asked()[0] if number == 0 else points
-            refusing.grant()
-            gone = serving.ended()
-            for n, it in enumerate(edits):
-                is_done = it.came.startswith(b"HTTP/1.1 200 OK") and it.came.endswith(b"done\n")
-                assert is_done or is_starved(it.came) or not it.came, it.came
-                stand[n] = {texts[n]} if is_done else stand[n] if it.came else stand[n] | {texts[n]}
-            starved = any(is_starved(it.came) or not it.came for it in edits)
-            without = sum(not it.came for it in edits)
-            what = ENDED if gone else f"with {without} edits without a reply" if without else f"with {sum(is_starved(it.came) for it in edits)} edits answered 503"
-            tally.add(refusing, starved or gone, what)
-            if gone or number % 50 == 0:
-                assert b"torn 0\n" in zope("check", file) or gone
-                shown = shown_now(file)
-                assert len(shown) == 2 and all(shown & texts for texts in stand), (shown, stand)
-            if gone:
-                serving.kill()
-                serving = Starving(file, refusing)
-            number += step if number else 1
+    for round_number, number in enumerate(refusing.each(step), 1):
+        texts = [b"%d text %d" % (n, round_number) for n in range(2)]
+        edits = [Edit(serving.port, n, text.replace(b" ", b"+")) for n, text in enumerate(texts)]
+        for it in edits:
+            it.join()
+        refusing.grant()
+        gone = serving.ended()
+        for n, it in enumerate(edits):
+            is_done = it.came.startswith(b"HTTP/1.1 200 OK") and it.came.endswith(b"done\n")
+            assert is_done or is_starved(it.came) or not it.came, it.came
+            stand[n] = {texts[n]} if is_done else stand[n] if it.came else stand[n] | {texts[n]}
+        starved = any(is_starved(it.came) or not it.came for it in edits)
+        without = sum(not it.came for it in edits)
+        what = ENDED if gone else f"with {without} edits without a reply" if without else f"with {sum(is_starved(it.came) for it in edits)} edits answered 503"
+        tally.add(refusing, starved or gone, what)
+        if gone or number % 50 == 0:
+            assert b"torn 0\n" in zope("check", file) or gone
+            shown = shown_now(file)
+            assert len(shown) == 2 and all(shown & texts for texts in stand), (shown, stand)
+        if gone:
+            serving.kill()
+            serving = Starving(file, refusing)
     serving.kill()
-    tally.say("two served edits at once", points)
+    tally.say("two served edits at once", refusing.points)
 
 
 def main():
