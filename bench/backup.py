@@ -13,8 +13,7 @@ import subprocess
 import sys
 import tempfile
 
-from check import BUILT
-from replay import Writer, build, document, folder
+from replay import BUILT, Writer, build, document, folder
 
 FIRST = 0x0331620000000000
 NAMES = [b"page%d" % number for number in range(100)]

@@ -13,10 +13,7 @@ import struct
 import subprocess
 import tempfile
 
-from replay import HOME, build, timed
-
-# the program itself, without the script that builds it where that is due
-BUILT = HOME / "crates" / "zope_main" / "out" / "zope_main"
+from replay import BUILT, build, timed
 
 FIRST = 0x0331620000000000
 

@@ -19,9 +19,9 @@ import subprocess
 import tempfile
 import time
 
-from check import BUILT, write_file
+from check import write_file
 from programs import lines_of, numbers_in, scratch
-from replay import timed
+from replay import BUILT, timed
 from store import file_system
 
 OBJECTS, COMMITS = 1000, 100

@@ -9,8 +9,8 @@ import pathlib
 import subprocess
 import tempfile
 
-from check import BUILT, write_file
-from replay import build, least, timed
+from check import write_file
+from replay import BUILT, build, least, timed
 
 
 def printed_to(path, command):

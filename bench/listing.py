@@ -11,18 +11,15 @@ fetch are part of it. Needs the built program (`./zope check` builds it) and Pyt
 """
 
 import argparse
-import os
 import pathlib
 import statistics
-import subprocess
 import tempfile
 import time
 
 import jinja2
 
-from check import BUILT
 from pages import folder, page
-from replay import Writer, build
+from replay import Writer, build, processor_seconds
 
 TITLE = b"<p><dtml-var title></p>\n"
 METHODS = {
@@ -90,12 +87,9 @@ class Replayed:
 
     def seconds(self):
         """The seconds of the processor that a run takes."""
-        with open(self.lines, "rb") as given, open(self.at / "report", "wb") as out:
-            child = subprocess.Popen([BUILT, "replay", self.at / "site.fs"], stdin=given, stdout=out)
-            _, status, usage = os.wait4(child.pid, 0)
-        assert status == 0, "the replay ended otherwise"
+        took = processor_seconds(self.at / "site.fs", self.lines, self.at / "report")
         assert (self.at / "report").read_bytes().count(b"HTTP/1.1 200 OK") == self.times, "a page wasn't answered"
-        return usage.ru_utime + usage.ru_stime
+        return took
 
     def middle(self):
         """The middle one of the costs of a page."""

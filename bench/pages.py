@@ -13,14 +13,12 @@ import argparse
 import os
 import pathlib
 import statistics
-import subprocess
 import tempfile
 import time
 
 import jinja2
 
-from check import BUILT
-from replay import Writer, be, build, text
+from replay import Writer, be, build, processor_seconds, text
 
 HEADER = b"<html><head><title>&dtml-title;</title></head>\n<body>\n<h1>&dtml-title;</h1>\n"
 FOOTER = b'<p class="foot">A page of <dtml-var AUTHENTICATED_USER>.</p>\n</body></html>\n'
@@ -111,15 +109,6 @@ def jinja_page():
     return (time.process_time() - began) / passes / len(documents)
 
 
-def seconds(site, lines, report=os.devnull):
-    """The seconds of the processor that a replay takes."""
-    with open(lines, "rb") as given, open(report, "wb") as out:
-        child = subprocess.Popen([BUILT, "replay", site], stdin=given, stdout=out)
-        _, status, usage = os.wait4(child.pid, 0)
-    assert status == 0, "the replay ended otherwise"
-    return usage.ru_utime + usage.ru_stime
-
-
 def main():
     options = argparse.ArgumentParser(description=__doc__.splitlines()[0])
     options.add_argument("--pages", type=int, default=20_000)
@@ -133,12 +122,13 @@ def main():
         Site().write(sites["large"], OTHERS)
         (at / "few").write_bytes(schedule(1_000))
         (at / "many").write_bytes(schedule(1_000 + given.pages))
-        seconds(sites["small"], at / "few", at / "report")
+        processor_seconds(sites["small"], at / "few", at / "report")
         assert (at / "report").read_bytes().count(b"HTTP/1.1 200 OK") == 1_000, "a page wasn't answered"
         costs = {"small": [], "large": [], "jinja": []}
         for _ in range(given.rounds):
             for name, site in sites.items():
-                costs[name].append((seconds(site, at / "many") - seconds(site, at / "few")) / given.pages)
+                many, few = (processor_seconds(site, at / lines, os.devnull) for lines in ("many", "few"))
+                costs[name].append((many - few) / given.pages)
             costs["jinja"].append(jinja_page())
         for name, site in sites.items():
             print(f"{name} site of {site.stat().st_size} bytes: {statistics.median(costs[name]) * 1e6:.1f} us a page")

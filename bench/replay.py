@@ -16,6 +16,8 @@ import time
 
 HOME = pathlib.Path(__file__).resolve().parent.parent
 PROGRAM = HOME / "zope"
+# What it builds and runs: for costs that leave the shell out.
+BUILT = HOME / "crates" / "zope_main" / "out" / "zope_main"
 
 
 def be(number, size):
@@ -94,6 +96,15 @@ def timed(words, given=None, out=None):
     if status != 0:
         sys.exit(f"{words[0]} ended with status {os.waitstatus_to_exitcode(status)}")
     return seconds, usage.ru_maxrss * 1024
+
+
+def processor_seconds(site, lines, report):
+    """The seconds of the processor that a replay of a schedule takes, whose report goes to this file."""
+    with open(lines, "rb") as given, open(report, "wb") as out:
+        child = subprocess.Popen([BUILT, "replay", site], stdin=given, stdout=out)
+        _, status, usage = os.wait4(child.pid, 0)
+    assert status == 0, "the replay ended otherwise"
+    return usage.ru_utime + usage.ru_stime
 
 
 def run_of(site, lines):

@@ -8,13 +8,11 @@ each object that goes back, is part of it.
 """
 
 import argparse
-import os
 import pathlib
-import subprocess
 import tempfile
 
 from children import head, listed
-from replay import PROGRAM, Writer, be, build, text
+from replay import Writer, be, build, processor_seconds, text
 
 FIRST_ID, FIRST_DOCUMENT = 0x0331620000000000, 1
 UNDO_CHANGES = 12
@@ -56,13 +54,7 @@ def schedule(transactions, parts):
 
 def seconds(site, lines, undone, rounds):
     """The least seconds of the processor that a replay takes, which undoes so many transactions."""
-    took = []
-    for _ in range(rounds):
-        with open(lines, "rb") as given, open(site.with_suffix(".report"), "wb") as out:
-            child = subprocess.Popen([PROGRAM, "replay", site], stdin=given, stdout=out)
-            _, status, usage = os.wait4(child.pid, 0)
-        assert status == 0, "the replay ended otherwise"
-        took.append(usage.ru_utime + usage.ru_stime)
+    took = [processor_seconds(site, lines, site.with_suffix(".report")) for _ in range(rounds)]
     shown = site.with_suffix(".report").read_bytes()
     assert shown.count(b"reply 0 commit ") == undone, "a transaction wasn't undone"
     return min(took)
