@@ -29,5 +29,5 @@ pub use object::{
     Settings, User, Users,
 };
 pub use refusal::CodecRefusal;
-pub use texts::keeps;
+pub use texts::{keeps, text_by};
 pub use version::{Kind, Rule, Version};

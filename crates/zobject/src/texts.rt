@@ -1,4 +1,4 @@
-ghost use Rattle.std.specs.Prelude.{◌≡◌, ◌&&◌, ◌||◌, ◌==◌, nat_le, not, take};
+ghost use Rattle.std.specs.Prelude.{◌≡◌, ◌&&◌, ◌||◌, ◌==◌, nat_le, not, take, Some, None, option_map, if◌then◌else◌};
 ghost use Rattle.std.specs.List.{list_all, list_any};
 ghost use Rattle.std.specs.Str.{is_utf8, bytes_eq};
 ghost use Rattle.zobject.specs.Texts as rules;
@@ -7,32 +7,21 @@ use crate::limits::{MOST_NAME, MOST_PASSWORD, MOST_ROLE, MOST_TITLE, MOST_VALUE}
 use crate::{Kind, Rule};
 use zbase::MOST_SOURCE;
 
-/// Names that mean something else in every object.
-const RESERVED: [&str; 10] = [
-    ".",
-    "..",
-    "acl_users",
-    "id",
-    "title",
-    "title_or_id",
-    "objectIds",
-    "objectValues",
-    "userFolderAddUser",
-    "undoable_transactions",
-];
+// Each byte that a name may have stands at its own place, and an exclamation mark at every other.
+static ID_BYTES: [u8; 256] = *b"\
+    !!!!!!!!!!!!!!!!!!!!!!!!!!!!!!!!\
+    !!!!!!!!!!!!,-.!0123456789!!!!!!\
+    !ABCDEFGHIJKLMNOPQRSTUVWXYZ!!!!_\
+    !abcdefghijklmnopqrstuvwxyz!!!~!\
+    !!!!!!!!!!!!!!!!!!!!!!!!!!!!!!!!\
+    !!!!!!!!!!!!!!!!!!!!!!!!!!!!!!!!\
+    !!!!!!!!!!!!!!!!!!!!!!!!!!!!!!!!\
+    !!!!!!!!!!!!!!!!!!!!!!!!!!!!!!!!";
 
-// Without branches, so that many bytes are tested at once.
 fn is_id_byte(byte: u8) -> bool
     ensures { result ≡ rules.is_id_byte byte }
 {
-    ((b'A' <= byte) & (byte <= b'Z'))
-        | ((b'a' <= byte) & (byte <= b'z'))
-        | ((b'0' <= byte) & (byte <= b'9'))
-        | (byte == b'_')
-        | (byte == b'-')
-        | (byte == b'.')
-        | (byte == b',')
-        | (byte == b'~')
+    ID_BYTES[byte as usize] != b'!'
 }
 
 fn is_name_byte(byte: u8) -> bool
@@ -53,7 +42,7 @@ fn is_role_byte(byte: u8) -> bool
     matches!(byte, b' '..=b'~') && byte != b','
 }
 
-// It goes on behind a byte that fails, so that many bytes are tested at once: a folder may have thousands of names.
+// It goes on behind a byte that fails, so that no byte costs a branch: a folder may have thousands of names.
 pub(crate) fn has_id_bytes(text: &[u8]) -> bool
     ensures { result ≡ list_all rules.is_id_byte text.now }
 {
@@ -82,17 +71,27 @@ pub(crate) fn has_role_bytes(text: &[u8]) -> bool
     text.iter().all(|byte| is_role_byte(*byte))
 }
 
-fn is_one_of(names: &[&str], text: &[u8]) -> bool
-    ensures { result ≡ list_any (λ name. bytes_eq name.now text.now) names.now }
+fn is_named(name: &str, text: &[u8]) -> bool
+    ensures { result ≡ bytes_eq name.now text.now }
 {
-    names.iter().any(|name| name.as_bytes() == text)
+    name.as_bytes() == text
 }
 
+// Names that mean something else in every object. A text is compared with those alone that begin as it does.
 pub(crate) fn is_reserved(text: &[u8]) -> bool
     ensures { result ≡ rules.is_reserved text.now }
 {
-    let names: [&str; 10] = RESERVED;
-    is_one_of(names.as_slice(), text)
+    match text {
+        [b'.', ..] => is_named(".", text) || is_named("..", text),
+        [b'a', ..] => is_named("acl_users", text),
+        [b'i', ..] => is_named("id", text),
+        [b't', ..] => is_named("title", text) || is_named("title_or_id", text),
+        [b'o', ..] => is_named("objectIds", text) || is_named("objectValues", text),
+        [b'u', ..] => {
+            is_named("userFolderAddUser", text) || is_named("undoable_transactions", text)
+        }
+        [] | [_, ..] => false,
+    }
 }
 
 fn is_of_length(most: usize, text: &[u8]) -> bool
@@ -190,6 +189,20 @@ pub(crate) fn is_utf8(bytes: &[u8]) -> bool
     match str::from_utf8(bytes) {
         Ok(_) => true,
         Err(_) => false,
+    }
+}
+
+/// The text that the bytes are, where they keep the rule of what it is. Takes no memory.
+#[tactic(auto, using(crate::proofs::Utf8::utf8_yes, crate::proofs::Utf8::utf8_no))]
+pub fn text_by(rule: Rule, bytes: &[u8]) -> Option<&str>
+    ensures { option_map (λ t. t.now) result ≡ (if rules.keeps rule bytes.now then Some bytes.now else None) }
+{
+    if !fits(rule, bytes) {
+        return None;
+    }
+    match str::from_utf8(bytes) {
+        Ok(text) => Some(text),
+        Err(_) => None,
     }
 }
 
