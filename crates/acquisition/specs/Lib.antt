@@ -2,3 +2,4 @@ pub mod Acquiring
 pub mod Expressions
 pub mod ExpressionLaws
 pub mod Marks
+pub mod HereLaws

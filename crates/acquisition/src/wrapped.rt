@@ -13,7 +13,7 @@ use std::alloc::Global;
 use std::marker::Model;
 use zbase::{Items, Memory, Oid, Oids};
 use zknown::{Got, Known};
-use zobject::{Object, child_in};
+use zobject::Object;
 
 /// An object, reached through others: the objects from left to right, each at its first place alone.
 ///
@@ -112,13 +112,13 @@ impl Wrapped {
         Ok(Wrapped { order })
     }
 
-    #[tactic(auto, unfolding(crate::specs::Acquiring::searched, zobject::specs::Shapes::shape_of))]
+    #[tactic(auto, using(crate::specs::HereLaws::here_added), unfolding(crate::specs::Acquiring::searched, zobject::specs::Shapes::shape_of))]
     fn search(&self, known: &Known, name: &str) -> Result<Option<Oid>, AqRefusal>
         ensures { Answers acquiring.told (λ child. child) result (run (shapes known.now) (acquiring.searched self.now name.now)) }
     {
         for oid in self.order.as_slice() {
             let object = here(known, *oid)?;
-            if let Some(child) = child_in(name, &object.part) {
+            if let Some(child) = known.child(*oid, object, name) {
                 return Ok(Some(child));
             }
         }

@@ -1,18 +1,22 @@
 ghost use Rattle.std.specs.Prelude.{◌≡◌, ◌==◌, ℕ, Some, None, if◌then◌else◌, OnOk, OnErr};
+ghost use Rattle.zobject.specs.Shapes.{child_in as child_in_form, form_of};
+ghost use Rattle.zknown.specs.declared.kept.Kept.TheVariants as kept;
 ghost use Rattle.zknown.specs.Seen as seen;
 
+use crate::entry::{Entry, FEW};
 use crate::kept::{Got, Kept};
 use std::alloc::Global;
 use std::collections::BTreeMap;
 use std::marker::Model;
 use zbase::{Memory, Oid};
-use zobject::{CodecRefusal, Object};
+use zobject::{CodecRefusal, Object, Part2, child_in};
 
 /// What is known of the objects of one request. It is kept from one evaluation to the next, so that each object is
-/// read once.
+/// read once. A child of a folder with many children is found without a search among all of them.
 #[derive(Drop)]
 pub struct Known {
-    kept: BTreeMap<u64, Kept>,
+    alloc: Global,
+    kept: BTreeMap<u64, Entry>,
 }
 
 impl Model for Known {
@@ -31,6 +35,7 @@ impl Known {
         ensures { (o : ℕ) → seen.last_added result o ≡ None }
     {
         Known {
+            alloc,
             kept: BTreeMap::new(alloc),
         }
     }
@@ -59,7 +64,7 @@ impl Known {
         ensures added { OnOk result ((o : ℕ) → seen.last_added self.new o ≡ (if oid == o then Some kept else seen.last_added self.old o)) }
         ensures stays { OnErr result ((o : ℕ) → seen.last_added self.new o ≡ seen.last_added self.old o) }
     {
-        match self.kept.insert(oid.0, kept) {
+        match self.kept.insert(oid.0, Entry::new(self.alloc, kept)) {
             Ok(_) => Ok(()),
             Err(_) => Err(Memory),
         }
@@ -70,11 +75,29 @@ impl Known {
     pub fn get(&self, oid: Oid) -> Got<'_>
         ensures { seen.Gives (seen.last_added self.now oid) result }
     {
-        match self.kept.get(&oid.0) {
-            Some(Kept::Here(object)) => Got::Here(object),
-            Some(Kept::Absent) => Got::Absent,
-            Some(Kept::Unreadable) => Got::Unreadable,
-            None => Got::Unknown,
+        let Some(entry) = self.kept.get(&oid.0) else {
+            return Got::Unknown;
+        };
+        match entry.kept() {
+            Kept::Here(object) => Got::Here(object),
+            Kept::Absent => Got::Absent,
+            Kept::Unreadable => Got::Unreadable,
+        }
+    }
+
+    /// The id of the child of that name, where the object, which was last added under its id, is a folder that lists one.
+    /// Takes no memory.
+    #[tactic(auto, unfolding(crate::specs::Seen::last_added))]
+    pub fn child(&self, oid: Oid, object: &Object, name: &str) -> Option<Oid>
+        requires { seen.last_added self.now oid ≡ Some (kept.Here object.now) }
+        ensures { result ≡ child_in_form name.now (form_of object.now.part) }
+    {
+        match &object.part {
+            Part2::Folder(children) if children.len() > FEW => match self.kept.get(&oid.0) {
+                Some(entry) => entry.child(name),
+                None => None,
+            },
+            part => child_in(name, part),
         }
     }
 }
