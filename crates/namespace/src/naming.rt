@@ -27,7 +27,7 @@ use permissions::Who;
 use std::alloc::Global;
 use zbase::{Items, Memory, Oid, Text};
 use zknown::Known;
-use zobject::{Child, Object, Part2, PropValue, Property, child_in};
+use zobject::{Child, Object, Part2, PropValue, Property};
 
 fn text_value(text: &Text) -> Result<Val, Memory>
     ensures { IfOk result (λ val. val ≡ spec.text text.now) }
@@ -211,7 +211,7 @@ fn child_at(known: &Known, whole: &Wrapped, child: Option<Oid>) -> Result<Option
 }
 
 // A property comes before a child of its name.
-#[tactic(auto, unfolding(crate::specs::Names::property_or_child, zobject::specs::Shapes::shape_of))]
+#[tactic(auto, using(acquisition::specs::HereLaws::here_added), unfolding(crate::specs::Names::property_or_child, zobject::specs::Shapes::shape_of))]
 fn property_or_child(
     viewer: &Viewer<'_, '_>,
     shown: &mut Showing,
@@ -227,7 +227,7 @@ fn property_or_child(
 {
     match property_of(name, object.properties.as_slice()) {
         Some(property) => { viewed_property(viewer, shown, name, oid, object, property) }
-        None => child_at(viewer.known, whole, child_in(name, &object.part)),
+        None => child_at(viewer.known, whole, viewer.known.child(oid, object, name)),
     }
 }
 

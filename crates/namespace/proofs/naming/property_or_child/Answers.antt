@@ -19,4 +19,4 @@ pub returns-in-None-clause-is : goal.returns-in-None-clause-is
 returns-in-None-clause-is c =
     let none : find (λ (p : Property). bytes_eq p.name c.args.name.now) c.args.object.now.properties ≡ None = sym (c.in-None.ensures ∙ ap (find (λ (p : Property). bytes_eq p.name c.args.name.now)) c.as_slice.ensures) in
     subst (λ q. Shows told (λ v. v) c.args.shown.now c.child_at.result (looked (objects c.args.viewer.now.known.now) c.args.shown.now q))
-    (ap (child_at c.args.whole.now) c.child_in.ensures ∙ sym (child_is c.args.viewer.now.who.now c.args.name.now c.args.whole.now c.args.oid c.args.object.now none)) (c.child_at.ensures c.args.shown.now)
+    (ap (child_at c.args.whole.now) c.child.ensures ∙ sym (child_is c.args.viewer.now.who.now c.args.name.now c.args.whole.now c.args.oid c.args.object.now none)) (c.child_at.ensures c.args.shown.now)
