@@ -1,10 +1,10 @@
 -- The objects that have a value, counted by each object's last record.
-use Rattle.std.proofs.Common.{◌≡◌, ℕ, ◌+◌, ◌<◌, ◌≤◌, ◌^◌, IfSome, Bool, true, false, cond, eqb, ◌&&◌, ◌||◌, List, [], ◌∷◌, ◌++◌, length, map, filter, Option, Some, None, refl, sym, ap, ap₂, subst, ◌∙◌, arith, inl, inr}
+use Rattle.std.proofs.Common.{◌≡◌, ℕ, ◌+◌, ◌-◌, ◌<◌, ◌≤◌, IfSome, Bool, true, false, cond, eqb, ◌&&◌, ◌||◌, List, [], ◌∷◌, ◌++◌, length, map, filter, Option, Some, None, refl, sym, ap, subst, ◌∙◌, arith, inl, inr}
 use Rattle.std.specs.Prelude.{◌⊎◌, ◌==◌, find, option_map, if◌then◌else◌}
 use Rattle.std.specs.Option.{is_some}
 use Rattle.std.specs.List.{list_any, AllByRecursion}
-use Rattle.std.proofs.lemmas.List.{length-map}
-use Rattle.std.proofs.lemmas.Bool.{cases_lt, eqb-true, eq-eqb, ne_eqb, false≢true}
+use Rattle.std.proofs.lemmas.List.{length-append, length-map}
+use Rattle.std.proofs.lemmas.Bool.{eqb-true, eq-eqb, ne_eqb, false≢true}
 use Rattle.zdisk.specs.Disk.{Told, content}
 use Rattle.zbase.specs.Values.{Revision, revisions, newest, value_of, value}
 use Rattle.zbase.specs.declared.ids.Row.{Row}
@@ -12,15 +12,17 @@ use Rattle.fs_record.specs.File.{Earlier, Front, rows, is_row}
 use Rattle.fs_record.specs.Opening.{Cut}
 use Rattle.fs_record.specs.Standing.{IsRevision, LastStands}
 use Rattle.fs_record.specs.StandingLaws.{each_stands, last_stands}
-use Rattle.fs_scan.specs.declared.opening.Scanned.{Scanned}
+use Rattle.fs_scan.specs.declared.opening.Tally.{Tally}
 use Rattle.fs_scan.specs.declared.checking.Checked.{Checked}
-use Rattle.fs_index.specs.Listed.{Lists, OidsRiseFrom, place_for}
-use Rattle.fs_index.specs.Places.{Slots}
+use Rattle.fs_index.specs.Listed.{OidsRiseFrom, place_for}
+use Rattle.fs_index.specs.Places.{place_of}
+use Rattle.fs_scan.specs.Keeping.{Keeping, PlacesRise, rows_on, starts}
 use Rattle.fs_scan.specs.Newest.{IsNewest, last_row, place_in}
-use Rattle.fs_scan.specs.Present.{AllStand, ArePlaces, means_value, IdsRiseFrom, HaveValues}
-use Rattle.fs_scan.specs.Scanned.{Tells}
+use Rattle.fs_scan.specs.Present.{AllStand, ArePlaces, is_present, means_value, IdsRiseFrom, HaveValues}
+use Rattle.fs_scan.specs.Scanned.{Reaches}
 use Rattle.fs_scan.specs.Checked.{Checks}
 use Rattle.fs_scan.proofs.KeptPlaces.{row_place}
+use Rattle.fs_scan.proofs.LastRows.{last_count, last_rise, last_rows, places_there, turned}
 
 all_stand : (bytes : List ℕ) (front : Front) (n : ℕ) → Cut bytes front n → AllStand bytes front.records
 all_stand bytes front n cut = λ oid place is. subst (λ (b : List ℕ). (r : Revision) × IsRevision b front.records oid place r) (sym cut.1.joined) (each_stands cut.1.file cut.0 front cut.1.is_file oid place is)
@@ -95,22 +97,6 @@ record AreNewest (all newest : List Row) : Type 0 where
   rise : OidsRiseFrom 0 newest
   each : (oid : ℕ) → place_for oid newest ≡ last_row oid None all
 
--- an object with a record has an id of eight bytes
-no_more : (bytes : List ℕ) (records : List Earlier) (oid : ℕ) (found : Option ℕ) → AllStand bytes records → last_row oid None (rows records) ≡ found → 2 ^ 64 ≤ oid → found ≡ None
-no_more bytes records oid None all e le = refl
-no_more bytes records oid (Some place) all e le =
-    let found = all oid place (is_there oid place (rows records) e) in
-    absurd (omega (arith, le, found.1.stands.fits.head.oid, found.1.object))
-
-are_newest : (bytes : List ℕ) (records : List Earlier) (index : Slots) (rs : List Row) → AllStand bytes records → IsNewest (rows records) index → Lists index rs → AreNewest (rows records) rs
-are_newest bytes records index rs all newest lists = record {
-  rise = lists.rise;
-  each = λ oid. elim (cases_lt oid (2 ^ 64)) [
-    | inl lt ↦ lists.each oid lt ∙ newest oid
-    | inr le ↦ lists.ids oid le ∙ sym (no_more bytes records oid (last_row oid None (rows records)) all refl le)
-  ];
-}
-
 -- each row of the last records is a record's
 are_places : (records : List Earlier) (newest : List Row) → AreNewest (rows records) newest → ArePlaces records newest
 are_places records newest are = places_in records newest newest are.each (have_places 0 newest are.rise)
@@ -132,13 +118,6 @@ any_if o row means fs found true true is has none same = rw is (sym has)
 any_if o row means fs found false true is has none same = rw is same
 any_if o row means fs found true false is has none same = same ∙ ap (told means) (none refl) ∙ sym has
 any_if o row means fs found false false is has none same = same
-
-turned : (a b : ℕ) → eqb a b ≡ eqb b a
-turned a b = go (eqb a b) refl
-  where
-    go : (same : Bool) → eqb a b ≡ same → same ≡ eqb b a
-    go true e = sym (eq-eqb b a (sym (eqb-true a b e)))
-    go false e = sym (ne_eqb b a (λ (f : b ≡ a). false≢true (sym e ∙ eq-eqb a b (sym f))))
 
 -- an object is among those whose last record means a value, exactly where its own does
 any_oid : (o n : ℕ) (means : ℕ → Bool) (rs : List Row) → OidsRiseFrom n rs → list_any (λ x. x == o) (oids_of means rs) ≡ told means (place_for o rs)
@@ -176,27 +155,36 @@ have_values bytes front n rs cut are = record {
   count = sym (length-map (filter (λ (row : Row). means_value front.records row.place) rs) (λ (row : Row). row.oid));
 }
 
--- what a scan tells, with the number of its objects that mean a value
-checks_told : (bytes : List ℕ) (s : Scanned) (c : Checked) (rs : List Row) → (t : Tells bytes s) → Lists s.newest rs → ((records : List Earlier) → AllStand bytes records → ArePlaces records rs → c.objects ≡ length (filter (λ (row : Row). means_value records row.place) rs))
-    → c.end ≡ s.end → c.torn ≡ s.torn → c.last ≡ s.last → c.transactions ≡ s.count → Checks bytes c
-checks_told bytes s c rs t lists counted end torn last count =
-    let all = all_stand bytes t.front s.end t.cut in
-    let are = are_newest bytes t.front.records s.newest rs all t.newest lists in
+starts_on : (bytes ps : List ℕ) → starts (rows_on bytes ps) ≡ ps
+starts_on bytes [] = refl
+starts_on bytes (p ∷ ps) = ap (λ (rest : List ℕ). p ∷ rest) (starts_on bytes ps)
+
+-- what a scan came to, with the number of records that are their objects' last ones and mean a value
+checks_told : (bytes : List ℕ) (t : Tally) (kept : Keeping) (c : Checked) → Reaches bytes t kept → PlacesRise 0 kept.places → ((records : List Earlier) → AllStand bytes records → rows records ≡ rows_on bytes kept.places → c.objects ≡ length (filter (is_present records kept.newest) (rows records)))
+    → c.end ≡ t.at → c.torn ≡ length bytes - t.at → c.last ≡ t.last → c.transactions ≡ t.count → Checks bytes c
+checks_told bytes t kept c r rise counted end torn last count =
+    let all = all_stand bytes r.front t.at r.cut in
+    let records = r.front.records in
+    let newest : IsNewest (rows records) kept.newest = subst (λ (rs : List Row). IsNewest rs kept.newest) (sym r.records) r.keeps.newest_of in
+    let are : AreNewest (rows records) (last_rows (rows records)) = record { rise = last_rise (rows records); each = λ o. places_there o (rows records) } in
+    let places : PlacesRise 0 (starts (rows records)) = subst (λ (rs : List Row). PlacesRise 0 (starts rs)) (sym r.records) (subst (PlacesRise 0) (sym (starts_on bytes kept.places)) rise) in
+    let same : length (filter (λ (row : Row). means_value records row.place) (last_rows (rows records))) ≡ length (filter (is_present records kept.newest) (rows records)) =
+    last_count (means_value records) (place_of kept.newest) (λ o. None) 0 (rows records) places newest in
     record {
-      front = t.front;
-      cut = subst (Cut bytes t.front) (sym end) t.cut;
-      torn = ap₂ (λ (x y : ℕ). x + y) end torn ∙ t.torn;
-      last = last ∙ t.last;
-      transactions = count ∙ t.count;
-      objects = subst (HaveValues t.front.history) (sym (counted t.front.records all (are_places t.front.records rs are))) (have_values bytes t.front s.end rs t.cut are);
+      front = r.front;
+      cut = subst (Cut bytes r.front) (sym end) r.cut;
+      torn = omega (arith, end, torn, r.cut.1.at, ap length r.cut.1.joined, length-append r.cut.1.file r.cut.0);
+      last = last ∙ r.last;
+      transactions = count ∙ r.count;
+      objects = subst (HaveValues r.front.history) (same ∙ sym (counted records all r.records)) (have_values bytes r.front t.at (last_rows (rows records)) r.cut are);
     }
 
 -- the same, where the disk tells
-pub checks : (disk given : Option Told) (s : Scanned) (c : Checked) (rs : List Row) → given ≡ disk → IfSome disk (λ told. Tells (content told) s) → Lists s.newest rs
-    → IfSome given (λ told. (records : List Earlier) → AllStand (content told) records → ArePlaces records rs → c.objects ≡ length (filter (λ (row : Row). means_value records row.place) rs))
-    → c.end ≡ s.end → c.torn ≡ s.torn → c.last ≡ s.last → c.transactions ≡ s.count → IfSome disk (λ told. Checks (content told) c)
-checks None given s c rs same tells lists counted end torn last count = tt
-checks (Some told) given s c rs same tells lists counted end torn last count =
-    checks_told (content told) s c rs tells lists
-    (subst (λ (g : Option Told). IfSome g (λ told. (records : List Earlier) → AllStand (content told) records → ArePlaces records rs → c.objects ≡ length (filter (λ (row : Row). means_value records row.place) rs))) same counted)
-    end torn last count
+pub checks : (disk given again : Option Told) (len : ℕ) (t : Tally) (kept : Keeping) (c : Checked) → given ≡ disk → again ≡ disk → IfSome disk (λ told. len ≡ length (content told)) → IfSome given (λ told. Reaches (content told) t kept) → PlacesRise 0 kept.places
+    → IfSome again (λ told. (records : List Earlier) → AllStand (content told) records → rows records ≡ rows_on (content told) kept.places → c.objects ≡ length (filter (is_present records kept.newest) (rows records)))
+    → c.end ≡ t.at → c.torn ≡ len - t.at → c.last ≡ t.last → c.transactions ≡ t.count → IfSome disk (λ told. Checks (content told) c)
+checks None given again len t kept c same still long reached rise counted end torn last count = tt
+checks (Some told) given again len t kept c same still long reached rise counted end torn last count =
+    checks_told (content told) t kept c (subst (λ (g : Option Told). IfSome g (λ x. Reaches (content x) t kept)) same reached) rise
+    (subst (λ (g : Option Told). IfSome g (λ x. (records : List Earlier) → AllStand (content x) records → rows records ≡ rows_on (content x) kept.places → c.objects ≡ length (filter (is_present records kept.newest) (rows records)))) still counted)
+    end (torn ∙ ap (λ (n : ℕ). n - t.at) long) last count

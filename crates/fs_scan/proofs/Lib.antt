@@ -15,6 +15,7 @@ pub mod Stepping
 pub mod StepsRead
 pub mod WholeAt
 pub mod Present
+pub mod LastRows
 pub mod Counting
 pub mod BodiesRead
 pub mod ValuesRead

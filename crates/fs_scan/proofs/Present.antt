@@ -1,13 +1,13 @@
 -- What is read of a record where it stands, and the records to which it points back.
 use Rattle.std.proofs.Common.{◌≡◌, ◌≢◌, ℕ, zero, suc, get_or, filter, ◌+◌, ◌-◌, ◌<◌, ◌≤◌, ◌^◌, Bool, true, false, cond, eqb, IfSome, ◌||◌, List, [], ◌∷◌, ◌++◌, length, take, drop, Option, Some, None, refl, sym, ap, subst, ◌∙◌, append_assoc, arith, inl, inr}
-use Rattle.std.specs.Prelude.{◌⊎◌}
+use Rattle.std.specs.Prelude.{◌⊎◌, ◌&&◌, if◌then◌else◌, nat_lt}
 use Rattle.std.specs.Option.{ForSome, is_some}
 use Rattle.zdisk.specs.Disk.{Told, bytes_at, content}
 use Rattle.std.specs.List.{list_any}
 use Rattle.std.proofs.lemmas.List.Filters.{length-filter_more}
 use Rattle.zbase.specs.declared.ids.Row.{Row}
-use Rattle.std.proofs.lemmas.List.{length-append, length-drop, drop_at, drop-append-le, take-append-drop}
-use Rattle.std.proofs.lemmas.Bool.{eq-eqb, ne_eqb, false≢true}
+use Rattle.std.proofs.lemmas.List.{length-append, length-drop, length-map, drop_at, drop-append-le, take-append-drop, take_all}
+use Rattle.std.proofs.lemmas.Bool.{eq-eqb, ne_eqb, false≢true, lt-ltb}
 use Rattle.zbase.specs.Numbers.{be64, be16}
 use Rattle.zbase.specs.NumberLaws.{length-be64, length-be16, same_be64}
 use Rattle.fs_record.specs.declared.heads.DataHead.{DataHead}
@@ -18,7 +18,12 @@ use Rattle.fs_record.specs.SpellingLaws.{same_data_head, long_data, length-data_
 use Rattle.fs_record.specs.Fits.{FitsDataHead, FitsBody, FitsData}
 use Rattle.fs_record.specs.File.{Earlier, rows, is_row, is_right_body, value_at, value_of}
 use Rattle.fs_record.specs.Standing.{IsBefore, IsPlace}
-use Rattle.fs_scan.specs.Present.{AllStand, ArePlaces, back_in, means_value}
+use Rattle.fs_index.specs.Places.{Slots, place_of}
+use Rattle.fs_record.specs.Reading.{u64_read}
+use Rattle.fs_scan.specs.Keeping.{row_on, rows_on}
+use Rattle.fs_scan.specs.Newest.{place_in}
+use Rattle.fs_scan.specs.Present.{AllStand, back_in, is_present, means_value}
+use Rattle.fs_scan.proofs.KeptPlaces.{id_there}
 
 -- ---- one record
 
@@ -176,43 +181,96 @@ came_on (Some told) given place at back same came points some = λ records oid a
     let way = (on_way told given at (Some back) records oid same points all here.0).2 some in
     (way.0, way.1 ∙ here.1)
 
+-- ---- whether a record is its object's last one and means a value
+
+abbrev pub Says : Option Told → Slots → ℕ → Bool → Type 0
+Says disk newest place answer = IfSome disk (λ told. (records : List Earlier) → AllStand (content told) records → IsPlace records (row_on (content told) place).oid place → answer ≡ is_present records newest (row_on (content told) place))
+
+-- the id that was read there
+abbrev pub HasId : Option Told → ℕ → ℕ → Type 0
+HasId disk place id = IfSome disk (λ told. id ≡ u64_read place (content told))
+
+pub id_told : (disk : Option Told) (place id : ℕ) → IfSome disk (λ told. drop place (content told) ≡ be64 id ++ drop (place + 8) (content told)) → id < 2 ^ 64 → HasId disk place id
+id_told None place id is lt = tt
+id_told (Some told) place id is lt = sym (id_there (content told) (drop (place + 8) (content told)) id place lt is)
+
+pub not_there : (disk : Option Told) (len place left : ℕ) (newest : Slots) → ForSome disk (λ told. len ≡ length (content told)) → left ≡ len - place → left < 8 → Says disk newest place false
+not_there None len place left newest whole is few = tt
+not_there (Some told) len place left newest whole is few = λ records all at.
+    let s = (all (row_on (content told) place).oid place at).1.stands in
+    absurd (too_short (drop place (content told)) s.written s.behind s.fits s.spelled (omega (arith, length-drop place (content told), whole told refl, is, few)))
+
+pub not_last : (disk : Option Told) (newest : Slots) (place id : ℕ) → HasId disk place id → (place_in (place_of newest id) ≡ place → ⊥) → Says disk newest place false
+not_last None newest place id has other = tt
+not_last (Some told) newest place id has other = λ records all at.
+    sym (ap (λ (b : Bool). b && means_value records place) (ap (λ (n : ℕ). eqb (place_in (place_of newest n)) place) (sym has) ∙ ne_eqb (place_in (place_of newest id)) place other))
+
+pub last_has : (disk given : Option Told) (newest : Slots) (place id : ℕ) (answer : Bool) → given ≡ disk → HasId disk place id → place_in (place_of newest id) ≡ place → HasValue given place answer → Says disk newest place answer
+last_has None given newest place id answer same has is value = tt
+last_has (Some told) given newest place id answer same has is value = λ records all at.
+    subst (λ (g : Option Told). HasValue g place answer) same value records (row_on (content told) place).oid all at
+    ∙ sym (ap (λ (b : Bool). b && means_value records place) (ap (λ (n : ℕ). eqb (place_in (place_of newest n)) place) (sym has) ∙ eq-eqb (place_in (place_of newest id)) place is))
+
+pub last_full : (disk given : Option Told) (newest : Slots) (place id : ℕ) → given ≡ disk → HasId disk place id → place_in (place_of newest id) ≡ place → PointsTo given place None → Says disk newest place true
+last_full disk given newest place id same has is points = last_has disk disk newest place id true refl has is (has_one disk given place place same (came_first disk place) points)
+
 -- ---- counting
 
-pub place_of : (records : List Earlier) (rows : List Row) (i : ℕ) (d : Row) → ArePlaces records rows → i < length rows → IsPlace records (get_or rows i d).oid (get_or rows i d).place
-place_of records [] i d all lt = absurd (omega arith)
-place_of records (row ∷ rows) zero d all lt = all.0
-place_of records (row ∷ rows) (suc i) d all lt = place_of records rows i d all.1 (omega arith)
+row_at : (bytes ps : List ℕ) (i : ℕ) (d : Row) → i < length ps → get_or (rows_on bytes ps) i d ≡ row_on bytes (get_or ps i 0)
+row_at bytes [] i d lt = absurd (omega (arith, lt))
+row_at bytes (p ∷ ps) zero d lt = refl
+row_at bytes (p ∷ ps) (suc i) d lt = row_at bytes ps i d (omega (arith, lt))
 
--- one row more is counted where it means a value
-pub counts_on : (records : List Earlier) (rows : List Row) (i count next : ℕ) (row : Row) (has : Bool) → row ≡ get_or rows i row → i < length rows → has ≡ means_value records row.place → next ≡ count + cond has 1 0
-    → count ≡ length (filter (λ (row : Row). means_value records row.place) (take i rows)) → next ≡ length (filter (λ (row : Row). means_value records row.place) (take (i + 1) rows))
-counts_on records rows i count next row has is lt means put counted =
+or_true : (a b : Bool) → b ≡ true → (a || b) ≡ true
+or_true true b e = refl
+or_true false b e = e
+
+any_at : (all : List Row) (i : ℕ) (d : Row) → i < length all → list_any (is_row (get_or all i d).oid (get_or all i d).place) all ≡ true
+any_at [] i d lt = absurd (omega (arith, lt))
+any_at (row ∷ all) zero d lt = rw (eq-eqb row.oid row.oid refl, eq-eqb row.place row.place refl) refl
+any_at (row ∷ all) (suc i) d lt = or_true (is_row (get_or all i d).oid (get_or all i d).place row) _ (any_at all i d (omega (arith, lt)))
+
+-- so many of the first records are present, where a disk tells
+abbrev pub Counted : Option Told → List ℕ → Slots → ℕ → ℕ → Type 0
+Counted disk places newest i count = IfSome disk (λ told. (records : List Earlier) → AllStand (content told) records → rows records ≡ rows_on (content told) places → count ≡ length (filter (is_present records newest) (take i (rows records))))
+
+pub count_none : (disk : Option Told) (places : List ℕ) (newest : Slots) → Counted disk places newest 0 0
+count_none None places newest = tt
+count_none (Some told) places newest = λ records all is. refl
+
+one_told : (bytes places : List ℕ) (newest : Slots) (i count next place : ℕ) (has : Bool) (records : List Earlier) → place ≡ get_or places i 0 → i < length places → AllStand bytes records → rows records ≡ rows_on bytes places
+    → (IsPlace records (row_on bytes place).oid place → has ≡ is_present records newest (row_on bytes place)) → next ≡ count + cond has 1 0 → count ≡ length (filter (is_present records newest) (take i (rows records))) → next ≡ length (filter (is_present records newest) (take (i + 1) (rows records)))
+one_told bytes places newest i count next place has records is lt all same says put counted =
+    let d = row_on bytes 0 in
+    let long : i < length (rows records) = omega (arith, lt, ap length same, length-map places (row_on bytes)) in
+    let row : get_or (rows records) i d ≡ row_on bytes place = ap (λ (rs : List Row). get_or rs i d) same ∙ row_at bytes places i d lt ∙ ap (row_on bytes) (sym is) in
+    let there : IsPlace records (row_on bytes place).oid place = subst (λ (r : Row). IsPlace records r.oid r.place) row (any_at (rows records) i d long) in
     put ∙ ap (λ (n : ℕ). n + cond has 1 0) counted
-    ∙ ap (λ (b : Bool). length (filter (λ (row : Row). means_value records row.place) (take i rows)) + cond b 1 0) (means ∙ ap (λ (r : Row). means_value records r.place) is)
-    ∙ sym (length-filter_more (λ (row : Row). means_value records row.place) rows i row lt)
+    ∙ ap (λ (b : Bool). length (filter (is_present records newest) (take i (rows records))) + cond b 1 0) (says there ∙ ap (is_present records newest) (sym row))
+    ∙ sym (length-filter_more (is_present records newest) (rows records) i d long)
 
--- so many of the first rows mean a value, where a disk tells
-abbrev pub Counted : Option Told → List Row → ℕ → ℕ → Type 0
-Counted disk rows i count = IfSome disk (λ told. (records : List Earlier) → AllStand (content told) records → ArePlaces records rows → count ≡ length (filter (λ (row : Row). means_value records row.place) (take i rows)))
+pub count_one : (disk given : Option Told) (places : List ℕ) (newest : Slots) (i count next place : ℕ) (has : Bool) → given ≡ disk → place ≡ get_or places i 0 → i < length places → Says given newest place has → next ≡ count + cond has 1 0 → Counted disk places newest i count → Counted disk places newest (i + 1) next
+count_one None given places newest i count next place has same is lt says put counted = tt
+count_one (Some told) given places newest i count next place has same is lt says put counted = λ records all rows_are.
+    one_told (content told) places newest i count next place has records is lt all rows_are (subst (λ (g : Option Told). Says g newest place has) same says records all) put (counted records all rows_are)
 
-pub count_none : (disk : Option Told) (rows : List Row) → Counted disk rows 0 0
-count_none None rows = tt
-count_none (Some told) rows = λ records all places. refl
+pub count_all : (disk : Option Told) (places : List ℕ) (newest : Slots) (i count : ℕ) → length places ≤ i → Counted disk places newest i count
+    → IfSome disk (λ told. (records : List Earlier) → AllStand (content told) records → rows records ≡ rows_on (content told) places → count ≡ length (filter (is_present records newest) (rows records)))
+count_all None places newest i count le counted = tt
+count_all (Some told) places newest i count le counted = λ records all is.
+    counted records all is ∙ ap (λ (rs : List Row). length (filter (is_present records newest) rs)) (take_all i (rows records) (omega (arith, le, ap length is, length-map places (row_on (content told)))))
 
-pub count_one : (disk given : Option Told) (rows : List Row) (i count next : ℕ) (row : Row) (has : Bool) → given ≡ disk → row ≡ get_or rows i row → i < length rows → HasValue given row.place has → next ≡ count + cond has 1 0 → Counted disk rows i count → Counted disk rows (i + 1) next
-count_one None given rows i count next row has same is lt value put counted = tt
-count_one (Some told) given rows i count next row has same is lt value put counted = λ records all places.
-    counts_on records rows i count next row has is lt
-    (subst (λ (g : Option Told). HasValue g row.place has) same value records row.oid all (subst (λ (r : Row). IsPlace records r.oid r.place) (sym is) (place_of records rows i row places lt)))
-    put (counted records all places)
+pub no_place : (ps : List ℕ) (i : ℕ) (r : Option ℕ) → r ≡ (if nat_lt i (length ps) then Some (get_or ps i 0) else None) → r ≡ None → i < length ps → ⊥
+no_place ps i r is none lt = never (get_or ps i 0) (ap (λ (t : Bool). cond t (Some (get_or ps i 0)) None) (sym (lt-ltb i (length ps) lt)) ∙ sym is ∙ none)
+  where
+    never : (a : ℕ) → Some a ≡ None → ⊥
+    never a e = cc
 
-pub count_all : (disk : Option Told) (rows : List Row) (i count : ℕ) → take i rows ≡ rows → Counted disk rows i count → IfSome disk (λ told. (records : List Earlier) → AllStand (content told) records → ArePlaces records rows → count ≡ length (filter (λ (row : Row). means_value records row.place) rows))
-count_all None rows i count all counted = tt
-count_all (Some told) rows i count all counted = λ records stand places. counted records stand places ∙ ap (λ (rs : List Row). length (filter (λ (row : Row). means_value records row.place) rs)) all
-
-pub next_count : (has : Bool) (count next : ℕ) → (has ≡ true → next ≡ count + 1) → (has ≡ false → next ≡ count) → next ≡ count + cond has 1 0
-next_count true count next more same = more refl
-next_count false count next more same = omega (arith, same refl)
+pub place_is : (ps : List ℕ) (i place : ℕ) (r : Option ℕ) → r ≡ (if nat_lt i (length ps) then Some (get_or ps i 0) else None) → r ≡ Some place → i < length ps → place ≡ get_or ps i 0
+place_is ps i place r is some lt = one place (get_or ps i 0) (sym some ∙ is ∙ ap (λ (t : Bool). cond t (Some (get_or ps i 0)) None) (lt-ltb i (length ps) lt))
+  where
+    one : (a b : ℕ) → Some a ≡ Some b → a ≡ b
+    one a b e = cc
 
 pub few_more : (has : Bool) (count next i : ℕ) → next ≡ count + cond has 1 0 → count ≤ i → next ≤ i + 1
 few_more true count next i e le = omega arith

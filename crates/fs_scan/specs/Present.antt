@@ -1,10 +1,12 @@
 -- The objects that have a value, and where their records stand.
-use Rattle.std.specs.Prelude.{◌≡◌, ℕ, ◌+◌, ◌≤◌, ◌==◌, Bool, List, [], ◌∷◌, length, Option, Some, None}
+use Rattle.std.specs.Prelude.{◌≡◌, ℕ, ◌+◌, ◌≤◌, ◌==◌, ◌&&◌, Bool, List, [], ◌∷◌, length, Option, Some, None}
 use Rattle.std.specs.Option.{is_some}
 use Rattle.std.specs.List.{list_any, AllByRecursion}
 use Rattle.zbase.specs.History.{History}
 use Rattle.zbase.specs.Values.{Revision, value}
 use Rattle.zbase.specs.declared.ids.Row.{Row}
+use Rattle.fs_index.specs.Places.{Slots, place_of}
+use Rattle.fs_scan.specs.Newest.{place_in}
 use Rattle.fs_record.specs.declared.body.Body.{Body}
 use Rattle.fs_record.specs.declared.body.Body.TheVariants.{Full, Back}
 use Rattle.fs_record.specs.File.{Earlier, value_at}
@@ -21,6 +23,10 @@ ArePlaces records = AllByRecursion (λ row. IsPlace records row.oid row.place)
 -- whether the record at the place means a value
 abbrev pub means_value : List Earlier → ℕ → Bool
 means_value records place = is_some (value_at place records)
+
+-- whether a row is its object's last one by the index, and its record means a value
+abbrev pub is_present : List Earlier → Slots → Row → Bool
+is_present records newest row = (place_in (place_of newest row.oid) == row.place) && means_value records row.place
 
 -- where a record points back to; none where it has data
 abbrev pub back_in : Body → Option ℕ

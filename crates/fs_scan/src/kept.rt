@@ -59,7 +59,8 @@ impl Kept {
 
     /// How many records there are.
     pub fn count(&self) -> usize
-        ensures { result ≡ length self.now.places }
+        ensures count { result ≡ length self.now.places }
+        ensures rise { PlacesRise 0 self.now.places }
     {
         self.starts.len()
     }

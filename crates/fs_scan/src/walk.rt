@@ -178,6 +178,13 @@ impl Walk {
         }
     }
 
+    /// What it keeps of the data records so far.
+    pub(crate) fn kept(&self) -> &Kept
+        ensures { result.now ≡ self.now.kept }
+    {
+        &self.kept
+    }
+
     /// The greatest id of an object with a data record so far.
     pub(crate) fn greatest(&self) -> Option<Oid>
         ensures { result ≡ self.now.kept.greatest }
