@@ -7,6 +7,7 @@ ghost use Rattle.schedule.specs.declared.reader.Unread.TheVariants.{Bad, Memory}
 ghost use Rattle.schedule.specs.declared.reader.ScheduleRefusal.TheVariants.{BadLine};
 
 use crate::{Item2, Schedule, WORKERS};
+use itoa::Buffer;
 use std::alloc::{AllocError, Global};
 use zbase::{Bytes, Memory as NoMemory, Tid, read_hex16};
 
@@ -62,37 +63,37 @@ fn after<'a>(bytes: &'a [u8], front: &[u8]) -> Option<&'a [u8]>
 
 // The number whose decimal form the text is. It is read, printed again and compared, so that leading zeros,
 // signs and spaces are refused.
-fn read_decimal(alloc: Global, text: &[u8]) -> Result<u64, Unread>
+fn read_decimal(text: &[u8]) -> Result<u64, Unread>
     ensures number { IfOk result (λ n. text.now ≡ decimal n) }
     ensures bad { result ≡ Err Bad → (n : ℕ) → n < 2 ^ 64 → text.now ≢ decimal n }
 {
     let digits = std::str::from_utf8(text).ok().ok_or(Unread::Bad)?;
     let n: u64 = digits.parse().ok().ok_or(Unread::Bad)?;
-    let again = n.to_string(alloc)?;
-    if again.as_bytes() != text {
+    let mut again = Buffer::new();
+    if again.format(n).as_bytes() != text {
         return Err(Unread::Bad);
     }
     Ok(n)
 }
 
 // The number at the front and the byte that ends it, and what is behind them.
-fn number_at(alloc: Global, bytes: &[u8], end: u8) -> Result<(u64, &[u8]), Unread>
+fn number_at(bytes: &[u8], end: u8) -> Result<(u64, &[u8]), Unread>
     requires no_digit { 10 ≤ digit_value end }
     ensures number { IfOk result (λ read. bytes.now ≡ decimal read.0 ++ end ∷ read.1.now) }
     ensures bad { result ≡ Err Bad → (n : ℕ) (rest : List ℕ) → n < 2 ^ 64 → bytes.now ≢ decimal n ++ end ∷ rest }
 {
     let (number, rest) = split_byte(bytes, end).ok_or(Unread::Bad)?;
-    Ok((read_decimal(alloc, number)?, rest))
+    Ok((read_decimal(number)?, rest))
 }
 
 // A worker's number and the byte that ends it, and what is behind them.
-fn worker_at(alloc: Global, bytes: &[u8], end: u8) -> Result<(u32, &[u8]), Unread>
+fn worker_at(bytes: &[u8], end: u8) -> Result<(u32, &[u8]), Unread>
     requires no_digit { 10 ≤ digit_value end }
     ensures number { IfOk result (λ read. bytes.now ≡ decimal read.0 ++ end ∷ read.1.now) }
     ensures worker { IfOk result (λ read. read.0 < workers) }
     ensures bad { result ≡ Err Bad → (w : ℕ) (rest : List ℕ) → w < workers → bytes.now ≢ decimal w ++ end ∷ rest }
 {
-    let (number, rest) = number_at(alloc, bytes, end)?;
+    let (number, rest) = number_at(bytes, end)?;
     if number >= WORKERS as u64 {
         return Err(Unread::Bad);
     }
@@ -105,8 +106,8 @@ fn request_at(alloc: Global, fields: &[u8]) -> Result<(Item2, &[u8]), Unread>
     ensures line { IfOk result (λ read. HasLine read.0) }
     ensures bad { result ≡ Err Bad → BeginsItem (codes "request " ++ fields.now) → ⊥ }
 {
-    let (worker, rest) = worker_at(alloc, fields, b' ')?;
-    let (len, rest) = number_at(alloc, rest, b'\n')?;
+    let (worker, rest) = worker_at(fields, b' ')?;
+    let (len, rest) = number_at(rest, b'\n')?;
     let len = len as usize;
     if rest.len() < len {
         return Err(Unread::Bad);
@@ -120,12 +121,12 @@ fn request_at(alloc: Global, fields: &[u8]) -> Result<(Item2, &[u8]), Unread>
 }
 
 // The step whose line goes on here behind its word, and what is behind it.
-fn step_at(alloc: Global, fields: &[u8]) -> Result<(Item2, &[u8]), Unread>
+fn step_at(fields: &[u8]) -> Result<(Item2, &[u8]), Unread>
     ensures text { IfOk result (λ read. codes "step " ++ fields.now ≡ item_text read.0 ++ read.1.now) }
     ensures line { IfOk result (λ read. HasLine read.0) }
     ensures bad { result ≡ Err Bad → BeginsItem (codes "step " ++ fields.now) → ⊥ }
 {
-    let (worker, rest) = worker_at(alloc, fields, b'\n')?;
+    let (worker, rest) = worker_at(fields, b'\n')?;
     Ok((Item2::Step(worker), rest))
 }
 
@@ -141,37 +142,37 @@ fn clock_at(fields: &[u8]) -> Result<(Item2, &[u8]), Unread>
 }
 
 // The count of device calls and the seed of an armed fault, and what is behind their line.
-fn calls_at(alloc: Global, fields: &[u8]) -> Result<(u64, u64, &[u8]), Unread>
+fn calls_at(fields: &[u8]) -> Result<(u64, u64, &[u8]), Unread>
     ensures numbers { IfOk result (λ read. fields.now ≡ decimal read.0 ++ 32 ∷ (decimal read.1 ++ 10 ∷ read.2.now)) }
     ensures some { IfOk result (λ read. 0 < read.0) }
     ensures bad { result ≡ Err Bad → (n seed : ℕ) (rest : List ℕ) → 0 < n → n < 2 ^ 64 → seed < 2 ^ 64
         → fields.now ≢ decimal n ++ 32 ∷ (decimal seed ++ 10 ∷ rest) }
 {
-    let (calls, rest) = number_at(alloc, fields, b' ')?;
+    let (calls, rest) = number_at(fields, b' ')?;
     if calls == 0 {
         return Err(Unread::Bad);
     }
-    let (seed, rest) = number_at(alloc, rest, b'\n')?;
+    let (seed, rest) = number_at(rest, b'\n')?;
     Ok((calls, seed, rest))
 }
 
 // The stop whose line goes on here behind its word, and what is behind it.
-fn stop_at(alloc: Global, fields: &[u8]) -> Result<(Item2, &[u8]), Unread>
+fn stop_at(fields: &[u8]) -> Result<(Item2, &[u8]), Unread>
     ensures text { IfOk result (λ read. codes "stop " ++ fields.now ≡ item_text read.0 ++ read.1.now) }
     ensures line { IfOk result (λ read. HasLine read.0) }
     ensures bad { result ≡ Err Bad → BeginsItem (codes "stop " ++ fields.now) → ⊥ }
 {
-    let (calls, seed, rest) = calls_at(alloc, fields)?;
+    let (calls, seed, rest) = calls_at(fields)?;
     Ok((Item2::Stop(calls, seed), rest))
 }
 
 // The failure whose line goes on here behind its word, and what is behind it.
-fn fail_at(alloc: Global, fields: &[u8]) -> Result<(Item2, &[u8]), Unread>
+fn fail_at(fields: &[u8]) -> Result<(Item2, &[u8]), Unread>
     ensures text { IfOk result (λ read. codes "fail " ++ fields.now ≡ item_text read.0 ++ read.1.now) }
     ensures line { IfOk result (λ read. HasLine read.0) }
     ensures bad { result ≡ Err Bad → BeginsItem (codes "fail " ++ fields.now) → ⊥ }
 {
-    let (calls, seed, rest) = calls_at(alloc, fields)?;
+    let (calls, seed, rest) = calls_at(fields)?;
     Ok((Item2::Fail(calls, seed), rest))
 }
 
@@ -185,16 +186,16 @@ fn item_at(alloc: Global, bytes: &[u8]) -> Result<(Item2, &[u8]), Unread>
         return request_at(alloc, fields);
     }
     if let Some(fields) = after(bytes, b"step ") {
-        return step_at(alloc, fields);
+        return step_at(fields);
     }
     if let Some(fields) = after(bytes, b"clock ") {
         return clock_at(fields);
     }
     if let Some(fields) = after(bytes, b"stop ") {
-        return stop_at(alloc, fields);
+        return stop_at(fields);
     }
     let fields = after(bytes, b"fail ").ok_or(Unread::Bad)?;
-    fail_at(alloc, fields)
+    fail_at(fields)
 }
 
 /// The schedule that the bytes spell, all of them.

@@ -3,6 +3,7 @@ ghost use Rattle.zbase.specs.Hex.{hex_bytes};
 ghost use Rattle.schedule.specs.Fields.{field_text};
 ghost use Rattle.schedule.specs.Rows.{block, row};
 
+use itoa::Buffer;
 use zbase::{Bytes, Memory, hex_digits, hex16};
 
 /// A field of a row.
@@ -51,10 +52,7 @@ fn put_field(out: &mut Bytes, field: Field<'_>) -> Result<(), Memory>
     ensures { OnOk result (out.new ≡ out.old ++ field_text field.entry) }
 {
     match field {
-        Field::Number(n) => {
-            let digits = n.to_string(out.alloc())?;
-            out.append(digits.as_bytes())
-        }
+        Field::Number(n) => out.append(Buffer::new().format(n).as_bytes()),
         Field::Id(id) => out.append(&hex16(id)),
         Field::Word(word) => out.append(word),
         Field::Digits(bytes) => put_digits(out, bytes),

@@ -218,7 +218,8 @@ fn put_line(line: &Line, out: &mut Bytes) -> Result<(), Memory>
 pub fn line_bytes(alloc: Global, line: &Line) -> Result<Bytes, Memory>
     ensures { IfOk result (λ text. text ≡ line_text line.now) }
 {
-    let mut text = Bytes::new(alloc);
+    // room for a line of a word, a worker and two ids, so that it needn't grow
+    let mut text = Bytes::from_vec(Vec::with_capacity(alloc, 64)?);
     put_line(line, &mut text)?;
     Ok(text)
 }
