@@ -1,15 +1,15 @@
 -- Over a disk that can't fail, a run that is explained by its count is explained as a replay is.
-use Rattle.std.proofs.Common.{◌≡◌, ℕ, zero, suc, ◌+◌, ◌<◌, ◌≤◌, Bool, true, false, List, [], ◌∷◌, ◌++◌, Option, Some, None, refl, sym, ap, ◌∙◌, subst, arith, IsSome}
+use Rattle.std.proofs.Common.{◌≡◌, ℕ, zero, suc, ◌<◌, ◌≤◌, Bool, true, false, List, [], ◌∷◌, ◌++◌, Option, Some, refl, sym, ap, ◌∙◌, subst, arith, IsSome}
 use Rattle.zbase.specs.History.{History}
 use Rattle.zbase.specs.Limits.{greatest_number}
 use Rattle.schedule.specs.declared.item.Item2.{Item2}
 use Rattle.schedule.specs.declared.line.Line.{Line}
-use Rattle.schedule.specs.Armed.{Queue, IsArmed, after_item, after_line, after_lines, after_place, after_places, nothing_armed}
+use Rattle.schedule.specs.Armed.{Queue, after_item, after_line, after_lines, after_places, nothing_armed}
 use Rattle.schedule.specs.Counted.{AreCounted, Counted, ExplainedByCount, printed}
 use Rattle.schedule.specs.Courses.{Place, items_of}
 use Rattle.schedule.specs.Entries.{entries, entry_of, faults, is_fault, one_if}
-use Rattle.schedule.specs.Explained.{Explained, Explains}
-use Rattle.schedule.specs.Moments.{Terms, Moment}
+use Rattle.schedule.specs.Explained.{Explained}
+use Rattle.schedule.specs.Moments.{Terms}
 
 all_later : (old : ℕ) (all : List (List Line)) (new : ℕ) → AreCounted old all new → old ≤ new
 all_later old [] new c = omega (arith, c)

@@ -1,5 +1,5 @@
 -- Explained: which report a schedule may have, run over a history.
-use Rattle.std.specs.Prelude.{ℕ, ◌≡◌, List, [], ◌∷◌, ◌++◌, length}
+use Rattle.std.specs.Prelude.{◌≡◌, List, [], ◌∷◌, ◌++◌, length}
 use Rattle.zbase.specs.History.{History, IsPrefixOf}
 use Rattle.zbase.specs.Values.{last}
 use Rattle.schedule.specs.declared.item.Item2.{Item2}
