@@ -171,6 +171,7 @@ def write_texts():
     case("the first bad index is told", *given(["", FIELD, "words\n", ""]), "bad index 1")
     case("the entries are judged first", *given(["words\n", "words\n"]), "bad entries")
     case("what is compared differs: a document", *given(["", FIELD]), part("document", FIELD), "differs")
+    case("what is compared differs: a search", *given([f"{A} 78\n", FIELD + f"78 {A}\n"]), "find 0 x", "found", "differs")
     case("what is compared differs: a bad document", *given(["words\n", FIELD]), "bad index 0", "differs")
 
 
@@ -196,11 +197,18 @@ class Catalog:
         self.entries.pop(oid, None)
         self.calls.append(f"remove {oid_text(oid)}")
 
+    def find(self, *named):
+        """A search by indexes, each with the values of which a hit has one."""
+        hits = [o for o in sorted(self.entries) if all(set(given).intersection(*self.entries[o][index:index + 1]) and self.entries[o][index:] for index, given in named)]
+        words = " and ".join(" ".join([str(index)] + [value.decode() or '""' for value in given]) for index, given in named)
+        return f"find {words}", " ".join(["found"] + [oid_text(o) for o in hits])
+
     def texts(self):
         return documents(self.kinds, self.entries)
 
-    def case(self, title, before=()):
-        case(title, *before, *self.calls, *wanted(self.texts()))
+    def case(self, title, before=(), searches=()):
+        found = [self.find(*named) for named in searches]
+        case(title, *before, *self.calls, *[asked for asked, _ in found], "verify", *wanted(self.texts()), *[answer for _, answer in found], "agrees")
 
     def begin_anew(self):
         """The documents so far are given, and the calls begin behind them."""
@@ -216,10 +224,11 @@ def write_small():
     c.enter(1, [b"x", b"y"])
     c.case("an object of two values")
     c.enter(2, [b"y"])
-    c.case("two objects that share one")
+    one = [(0, [b"y"])], [(0, [b"x"])], [(0, [b"z"])], [(0, [b"x", b"y"])], [(0, [b"y", b"x", b"y"])], [(0, [])], [(1, [b"y"])]
+    c.case("two objects that share one", searches=one)
     before = c.begin_anew()
     c.enter(1, [b"z"])
-    c.case("an object with another value", before)
+    c.case("an object with another value", before, one)
     c.enter(1, [])
     c.case("an object without values", before)
     c.remove(2)
@@ -262,6 +271,11 @@ def write_places():
 def write_unequal():
     """Documents that don't agree change as each of them says, since no call reads a column to change an index."""
     entries, index = entry_line(1, [[b"x"]]), FIELD + f"79 {A},{B}\n7a {B}\n"
+    case("documents that differ: a search looks at the index alone", *given([entries, index]), "find 0 y", "find 0 x", *wanted([entries, index]), f"found {A} {B}", "found")
+    case("documents that differ: the first index is told", *given([entries_text({1: [[b"x"], [b"y"]]}), FIELD + f"78 {A}\n", FIELD]), "verify", "differs 1")
+    case("documents that differ: an id too many", *given([entries_text({1: [[b"x"]], 2: [[]]}), FIELD + f"78 {A},{B}\n"]), "verify", "differs 0")
+    case("documents that differ: a key too many", *given([entries_text({1: [[b"x"]]}), FIELD + f"78 {A}\n79 {A}\n"]), "verify", "differs 0")
+    case("documents that differ: an object without an entry", *given([entries_text({1: [[b"x"]]}), FIELD + f"78 {A}\n79 {B}\n"]), "verify", "differs 0")
     case("documents that differ: an object is put in", *given([entries, index]), part("enter", entry_line(2, [[b"x"]])), *wanted([entries + entry_line(2, [[b"x"]]), FIELD + f"78 {B}\n79 {A}\n"]))
     case("documents that differ: an object is taken out", *given([entries, index]), f"remove {B}", *wanted([entries, FIELD + f"79 {A}\n"]))
 
@@ -279,7 +293,8 @@ def write_many():
                 c.remove(oid)
             else:
                 c.enter(oid, *[rng.sample(values, rng.choice([0, 1]) if kind == "field" else rng.randrange(5)) for kind in c.kinds])
-        c.case(f"thirty calls, seed {seed}", before)
+        pick = lambda: (rng.randrange(len(c.kinds)), rng.sample(values, rng.randrange(1, 4)))
+        c.case(f"thirty calls, seed {seed}", before, [[pick() for _ in range(rng.randrange(1, 4))] for _ in range(12)])
 
 
 def write_large():
@@ -290,7 +305,8 @@ def write_large():
         c.entries[oid] = [[b"%d" % (oid % 50), b"all"], [b"%d" % oid]]
     before = c.begin_anew()
     c.enter(1000, [b"all", b"other"], [b"new"])
-    c.case("one of two thousand objects", before)
+    many = [(0, [b"7"])], [(0, [b"all"]), (1, [b"1000", b"new", b"3"])], [(1, [b"%d" % n for n in range(2000, 0, -3)])]
+    c.case("one of two thousand objects", before, many)
 
 
 def write_calls():

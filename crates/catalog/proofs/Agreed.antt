@@ -17,7 +17,7 @@ use Rattle.catalog.proofs.Inverse.{keys_differ, same_bytes, reposted_is, unposte
 
 -- ---- forms
 
-no_key_left : (key : List ℕ) (p : Posting) (ps : List Posting) → bytes_eq key p.key ≡ true → AllByRecursion (λ q. key_before p q ≡ true) ps → oids_under key ps ≡ []
+pub no_key_left : (key : List ℕ) (p : Posting) (ps : List Posting) → bytes_eq key p.key ≡ true → AllByRecursion (λ q. key_before p q ≡ true) ps → oids_under key ps ≡ []
 no_key_left key p [] is all = refl
 no_key_left key p (q ∷ qs) is all = rw other (no_key_left key p qs is all.1)
   where

@@ -19,7 +19,7 @@ use Rattle.catalog.proofs.Rising.{filter_rise, entry_chain, lt_chain, rise_above
 
 -- ---- what stands in the lists
 
-sorted_is : (p : ℕ) (os : List ℕ) → is_among p (sorted_ids os) ≡ is_among p os
+pub sorted_is : (p : ℕ) (os : List ℕ) → is_among p (sorted_ids os) ≡ is_among p os
 sorted_is p [] = refl
 sorted_is p (o ∷ os) = with_oid_is p o (sorted_ids os) ∙ ap (λ b. nat_eq p o || b) (sorted_is p os)
 

@@ -14,3 +14,6 @@ pub mod Utf8
 pub mod Steps
 pub mod Merged
 pub mod Kept
+pub mod Searched
+pub mod Finding
+pub mod Differing

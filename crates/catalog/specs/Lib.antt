@@ -3,6 +3,7 @@ pub mod Postings
 pub mod Forms
 pub mod Agreeing
 pub mod Hits
+pub mod Differing
 pub mod Spelling
 pub mod Reading
 pub mod Merging

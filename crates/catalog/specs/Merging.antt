@@ -1,5 +1,5 @@
 -- Keys that rise are put among those of an index in one pass: where the index rises too, these are `posted_all`.
-use Rattle.std.specs.Prelude.{ℕ, List, [], ◌∷◌, ◌++◌, map, get_or, drop, if◌then◌else◌}
+use Rattle.std.specs.Prelude.{ℕ, nat_eq, Bool, false, List, [], ◌∷◌, ◌++◌, map, get_or, drop, if◌then◌else◌}
 use Rattle.std.specs.Str.{bytes_eq}
 use Rattle.zobject.specs.Rules.{comes_before}
 use Rattle.catalog.specs.declared.document.Index.{Index}
@@ -32,6 +32,18 @@ past_key key (k ∷ ks) = if bytes_eq k key then ks else k ∷ ks
 abbrev pub merged : ℕ → List (List ℕ) → List Posting → List Posting
 merged o keys [] = map (single o) keys
 merged o keys (p ∷ ps) = map (single o) (before_key p.key keys) ++ own o (from_key p.key keys) p ∷ merged o (past_key p.key (from_key p.key keys)) ps
+
+-- ---- ids in their order, each once
+
+-- the first of the ids is the same
+abbrev pub is_next : ℕ → List ℕ → Bool
+is_next o [] = false
+is_next o (p ∷ ps) = nat_eq p o
+
+-- of ids that don't fall: of each run of the same id the last one
+abbrev pub once : List ℕ → List ℕ
+once [] = []
+once (o ∷ os) = if is_next o os then once os else o ∷ once os
 
 -- ---- the indexes, by the columns of an entry
 

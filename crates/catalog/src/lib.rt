@@ -8,16 +8,20 @@
 //! `specs/Agreeing` when they agree and what calls make of them, and `specs/Hits` what a search finds.
 #![tactic(auto)]
 
+mod agreeing;
 mod changing;
 mod document;
 mod laws;
 mod reading;
+mod searching;
 mod spelling;
 
+pub use agreeing::first_differing;
 pub use changing::{add_index, catalog_entry, new_contents, uncatalog_entry};
 pub use document::{
     Contents, Entries, Entry, Index, IndexKind, Indexes, Posting, Postings, Sought,
 };
 pub use laws::{calls_keep_agreement, inverses_are_one, searches_find_hits, texts_are_read};
 pub use reading::{read_entries, read_index};
+pub use searching::find;
 pub use spelling::{write_entries, write_index};

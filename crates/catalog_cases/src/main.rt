@@ -1,8 +1,9 @@
-//! Reads the documents of catalogs, makes calls on them, and writes them again, for each case of the files that its words
+//! Reads the documents of catalogs, makes calls on them, searches them, and writes them again, for each case of the files that its words
 //! name, and tells which are wrong.
 #![tactic(auto)]
 
 mod documents;
+mod finding;
 mod running;
 
 use cases::run_files;
