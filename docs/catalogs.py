@@ -272,10 +272,10 @@ def write_unequal():
     """Documents that don't agree change as each of them says, since no call reads a column to change an index."""
     entries, index = entry_line(1, [[b"x"]]), FIELD + f"79 {A},{B}\n7a {B}\n"
     case("documents that differ: a search looks at the index alone", *given([entries, index]), "find 0 y", "find 0 x", *wanted([entries, index]), f"found {A} {B}", "found")
-    case("documents that differ: the first index is told", *given([entries_text({1: [[b"x"], [b"y"]]}), FIELD + f"78 {A}\n", FIELD]), "verify", "differs 1")
-    case("documents that differ: an id too many", *given([entries_text({1: [[b"x"]], 2: [[]]}), FIELD + f"78 {A},{B}\n"]), "verify", "differs 0")
-    case("documents that differ: a key too many", *given([entries_text({1: [[b"x"]]}), FIELD + f"78 {A}\n79 {A}\n"]), "verify", "differs 0")
-    case("documents that differ: an object without an entry", *given([entries_text({1: [[b"x"]]}), FIELD + f"78 {A}\n79 {B}\n"]), "verify", "differs 0")
+    case("documents that differ: the first index is told", *given([entries_text({1: [[b"x"], [b"y"]]}), FIELD + f"78 {A}\n", FIELD]), "verify", "differs_at 1")
+    case("documents that differ: an id too many", *given([entries_text({1: [[b"x"]], 2: [[]]}), FIELD + f"78 {A},{B}\n"]), "verify", "differs_at 0")
+    case("documents that differ: a key too many", *given([entries_text({1: [[b"x"]]}), FIELD + f"78 {A}\n79 {A}\n"]), "verify", "differs_at 0")
+    case("documents that differ: an object without an entry", *given([entries_text({1: [[b"x"]]}), FIELD + f"78 {A}\n79 {B}\n"]), "verify", "differs_at 0")
     case("documents that differ: an object is put in", *given([entries, index]), part("enter", entry_line(2, [[b"x"]])), *wanted([entries + entry_line(2, [[b"x"]]), FIELD + f"78 {B}\n79 {A}\n"]))
     case("documents that differ: an object is taken out", *given([entries, index]), f"remove {B}", *wanted([entries, FIELD + f"79 {A}\n"]))
 

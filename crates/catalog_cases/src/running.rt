@@ -23,7 +23,7 @@ use zbase::Oid;
 ///
 /// - `find INDEX VALUE ..` searches the catalog that came of it: the index of that number, from 0 on, for one of these
 ///   values; a further index stands behind `and`. `found OID ..` comes of each.
-/// - `verify` tells whether the documents that came of it agree: `agrees`, or `differs INDEX` with the number of the first
+/// - `verify` tells whether the documents that came of it agree: `agrees`, or `differs_at INDEX` with the number of the first
 ///   index that isn't the inverse of its column.
 #[derive(Drop)]
 pub struct CatalogRuns;
@@ -78,11 +78,7 @@ fn all_called(alloc: Global, case: &Case, contents: Contents) -> Result<Contents
 }
 
 // Adds whether the documents of a catalog agree, as one who reads them tells.
-fn add_verdict(
-    alloc: Global,
-    contents: Contents,
-    parts: &mut Vec<Part>,
-) -> Result<(), CasesRefusal>
+fn add_verdict(alloc: Global, contents: Contents, parts: &mut Vec<Part>) -> Result<(), CasesRefusal>
     requires { AreIndexes contents.indexes }
 {
     let Contents { entries, indexes } = contents;
@@ -91,7 +87,7 @@ fn add_verdict(
         return add_bad(alloc, &BadDocument::Entries, parts);
     };
     match first_differing(&Contents { entries, indexes }) {
-        Some(at) => add_number(alloc, parts, "differs", at as u64),
+        Some(at) => add_number(alloc, parts, "differs_at", at as u64),
         None => add_line(alloc, parts, "agrees"),
     }
 }
