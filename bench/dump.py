@@ -1,7 +1,7 @@
 #!/usr/bin/env python3
 """Dumps a file of 1,000,000 records to a file beside `xxd -p` of it to a file.
 
-The records stand a thousand to a transaction, and one to a transaction.
+The records stand a thousand to a transaction, and one to a transaction. Needs Debian's package `time`.
 """
 
 import argparse
@@ -10,13 +10,13 @@ import subprocess
 import tempfile
 
 from check import write_file
-from replay import BUILT, build, least, timed
+from replay import BUILT, build, peak, timed
 
 
 def printed_to(path, command):
-    """The seconds of a run to a file, and its greatest memory."""
+    """The seconds of a run to a file."""
     with open(path, "wb") as out:
-        return timed(command, out=out)
+        return timed(command, out=out)[0]
 
 
 def main():
@@ -31,9 +31,10 @@ def main():
         for together in (1000, 1):
             path, printed = made / "site.fs", made / "printed"
             end = write_file(path, range(given.records), given.size, together)
-            other, _ = least(lambda: printed_to(printed, ["xxd", "-p", path]), given.rounds)
-            seconds, memory = least(lambda: printed_to(printed, [BUILT, "dump", path]), given.rounds)
-            # counted by another program: a child's greatest memory counts what it had of this process
+            other = min(printed_to(printed, ["xxd", "-p", path]) for _ in range(given.rounds))
+            seconds = min(printed_to(printed, [BUILT, "dump", path]) for _ in range(given.rounds))
+            memory = peak([BUILT, "dump", path])
+            # counted by another program, so that this process stays small
             lines = int(subprocess.run(["wc", "-l", printed], stdout=subprocess.PIPE, check=True).stdout.split()[0])
             assert lines == 2 + given.records + -(-given.records // together), lines
             print(f"{end} bytes, {together} records to a transaction: dump {seconds:.2f} s, xxd -p {other:.2f} s, ratio {seconds / other:.2f}, memory {memory} bytes, {memory / end:.2f} times the file")

@@ -98,6 +98,14 @@ def timed(words, given=None, out=None):
     return seconds, usage.ru_maxrss * 1024
 
 
+def peak(words):
+    """The greatest memory of a program alone, in bytes. GNU time begins it: of a child of this process the system would count what
+    this process itself had when it began it."""
+    with tempfile.NamedTemporaryFile() as told:
+        subprocess.run(["/usr/bin/time", "-f", "%M", "-o", told.name, *words], stdout=subprocess.DEVNULL, check=True)
+        return 1024 * int(told.read())
+
+
 def processor_seconds(site, lines, report):
     """The seconds of the processor that a replay of a schedule takes, whose report goes to this file."""
     with open(lines, "rb") as given, open(report, "wb") as out:
