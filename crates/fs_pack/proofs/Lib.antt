@@ -1,0 +1,7 @@
+pub mod Drawn
+pub mod LastValues
+pub mod Leads
+pub mod Passing
+pub mod Picks
+pub mod Steps
+pub mod Outputs

@@ -1,0 +1,18 @@
+use Rattle.std.proofs.Common.{◌<◌, ◌-◌, ◌^◌, IfSome}
+use Rattle.zdisk.specs.Disk.{content}
+use Rattle.fs_scan.specs.OnlyReads.{OnlyReads}
+use Rattle.fs_scan.specs.Walked.{IsOn, place_on}
+use Rattle.fs_pack.proofs.Passing.{Passing}
+use Rattle.fs_pack.proofs.surveying.Survey.pass.Given as goal
+
+-- the survey is of the transactions that the walk has passed
+abbrev pub invariant-each : goal.invariant-each
+invariant-each g l = record {
+  passing : IfSome (g.D.Disk.told l.fn.disk) (λ told. Passing g.L.Links.linked (content told) l.before l.walk l.self);
+  on : IfSome (g.D.Disk.told l.fn.disk) (λ told. IsOn (content told) l.walk);
+  place : place_on l.walk.place < 2 ^ 64;
+  only : OnlyReads g.D.Disk l.fn.disk l.disk ⊥;
+}
+
+abbrev pub decreases-each : goal.decreases-each
+decreases-each g l = 2 ^ 64 - place_on l.walk.place
