@@ -1,0 +1,26 @@
+ghost use Rattle.pack_cases.specs.Linked.{linked_by};
+
+use packing::Links;
+use std::alloc::Global;
+use zbase::{Memory, Oid, Oids};
+
+/// Values of cases: each byte is the id of an object to which a value leads, and bytes with an `x` spell no object.
+#[derive(Drop)]
+pub struct ByteLinks {
+    pub alloc: Global,
+}
+
+impl Links for ByteLinks {
+    ghost linked = { linked_by };
+
+    fn links(&self, bytes: &[u8]) -> Result<Option<Oids>, Memory> {
+        let mut oids = Oids::new(self.alloc);
+        for byte in bytes {
+            if *byte == b'x' {
+                return Ok(None);
+            }
+            oids.push(Oid(u64::from(*byte)))?;
+        }
+        Ok(Some(oids))
+    }
+}
