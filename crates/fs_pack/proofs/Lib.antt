@@ -5,3 +5,4 @@ pub mod Passing
 pub mod Picks
 pub mod Steps
 pub mod Outputs
+pub mod Tells

@@ -1,4 +1,4 @@
-ghost use Rattle.std.specs.Prelude.{◌≡◌, ◌+◌, ◌<◌, ◌^◌, ℕ, None, Some, [], All, IfOk, IfSome, IsErrOf, OnOk, drop, length, true};
+ghost use Rattle.std.specs.Prelude.{◌≡◌, ◌+◌, ◌<◌, ◌^◌, ℕ, None, Some, [], All, IfOk, IfSome, IsErrOf, OnOk, drop, is_some, length, true};
 ghost use Rattle.std.specs.Option.{ForSome};
 ghost use Rattle.zbase.specs.Faults.{Counts};
 ghost use Rattle.zdisk.specs.Crashes.{IsSynced};
@@ -96,9 +96,11 @@ fn note(newest: &mut Index, first: u64, items: &[Item]) -> Result<(), Memory>
 }
 
 /// Writes bytes behind a file.
+#[tactic(auto, using(crate::proofs::Tells::follows_tells))]
 fn put<N: Disk>(to: &mut N, end: u64, bytes: &[u8]) -> Result<(), PutRefusal>
     requires { IfSome (N.told to.old) (λ told. end ≡ length (content told)) }
     ensures grows { OnOk result (GrowsBy (N.told to.old) (N.told to.new) bytes.now) }
+    ensures tells { is_some (N.told to.new) ≡ is_some (N.told to.old) }
     ensures counts { Counts (N.counter to.old) (N.counter to.new) (IsErrOf result PutRefusal.Failed) }
 {
     to.reserve(1, bytes.len() as u64)?;
@@ -156,6 +158,7 @@ impl Output {
         ensures appends { OnOk result (Appends (entry_of whole) self.old self.new) }
         ensures grows { OnOk result (GrowsBy (N.told to.old) (N.told to.new)
             (block_spelling (block_with self.old.end (place_of self.old.newest) (entry_of whole)))) }
+        ensures tells { is_some (N.told to.new) ≡ is_some (N.told to.old) }
         ensures counts { Counts (N.counter to.old) (N.counter to.new) (IsErrOf result PutRefusal.Failed) }
     {
         let end = match plus_whole(Some(self.end), &whole) {
@@ -201,8 +204,10 @@ fn next_of<D: Disk>(walk: &mut Walk, disk: &mut D) -> Result<Option<Whole>, Pack
 }
 
 /// Syncs a file.
+#[tactic(auto, using(crate::proofs::Tells::follows_tells))]
 fn settle<N: Disk>(to: &mut N) -> Result<(), PutRefusal>
     ensures synced { OnOk result (IsSettled (N.told to.old) (N.told to.new)) }
+    ensures tells { is_some (N.told to.new) ≡ is_some (N.told to.old) }
     ensures counts { Counts (N.counter to.old) (N.counter to.new) (IsErrOf result PutRefusal.Failed) }
 {
     to.reserve(1, 0)?;
@@ -222,6 +227,7 @@ fn write_chosen<N: Disk>(
     requires { IfSome (N.told to.old) (λ told. output.old.end ≡ length (content told)) }
     ensures written { OnOk result (WritesOn (chosen plan.now.before plan.now.until (drop number plan.now.marks) (entry_of whole))
         output.old output.new (N.told to.old) (N.told to.new)) }
+    ensures tells { is_some (N.told to.new) ≡ is_some (N.told to.old) }
     ensures counts { Counts (N.counter to.old) (N.counter to.new) (IsErrOf result PutRefusal.Failed) }
 {
     match plan.chosen(number, whole)? {
@@ -241,9 +247,12 @@ pub fn write<D: Disk, N: Disk>(
     requires empty { ForSome (N.told to.old) (λ told. IsSynced told × (content told ≡ [])) }
     ensures packed { IfOk result (λ done. IfSome (D.told disk.old) (λ from. (links : Linking) (s : StandsFor links (content from) plan.now)
         → IfSome (N.told to.new) (λ told. IsSynced told × IsPacked s.packs (content told) done))) }
+    ensures synced { IfOk result (λ _. IfSome (N.told to.new) IsSynced) }
     ensures undamaged { (kind : Kind) (place : ℕ) → IsErrOf result (PackRefusal.Damaged kind place) → ⊥ }
     ensures readable { (o : ℕ) → IsErrOf result (PackRefusal.Unreadable o) → ⊥ }
     ensures fits { (need limit : ℕ) → IsErrOf result (PackRefusal.Full need limit) → ⊥ }
+    // Whatever happens, the packed file's disk tells as before.
+    ensures tells { is_some (N.told to.new) ≡ is_some (N.told to.old) }
     ensures only_reads { OnlyReads D.Disk disk.old disk.new (IsErrOf result PackRefusal.From) }
     ensures counts { Counts (N.counter to.old) (N.counter to.new) (IsErrOf result PackRefusal.To) }
 {

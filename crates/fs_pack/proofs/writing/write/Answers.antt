@@ -1,4 +1,4 @@
-use Rattle.std.proofs.Common.{◌≡◌, Err, Option, IfSome, ap, drop, subst}
+use Rattle.std.proofs.Common.{◌≡◌, ◌∙◌, Err, Option, IfSome, ap, drop, subst}
 use Rattle.std.proofs.lemmas.Result.{err_from_is_err_and}
 use Rattle.zbase.specs.Faults.{counts_as, counts_then}
 use Rattle.zdisk.specs.Disk.{Told, content}
@@ -8,6 +8,7 @@ use Rattle.fs_pack.specs.Chosen.{chosen}
 use Rattle.fs_pack.specs.Entries.{entry_of}
 use Rattle.fs_pack.specs.declared.refusal.PackRefusal.TheVariants as refusals
 use Rattle.fs_pack.proofs.Outputs.{ends_next, writing_last, writing_next}
+use Rattle.fs_pack.proofs.Tells.{settled_synced}
 use Rattle.fs_pack.proofs.writing.write.Goals as goal
 
 pub returns-in_err-whole-clause-undamaged : goal.returns-in_err-whole-clause-undamaged
@@ -48,6 +49,7 @@ each-preserved g c =
       ends = ends_next (chosen p.before p.until (drop c.record_count-number.result p.marks) (entry_of c.in-Some.whole)) c.each.output c.write_chosen.new.output (g.N.Disk.told c.each.to) (g.N.Disk.told c.write_chosen.new.to) d.written i.ends;
       on = subst (λ (x : Option Told). IfSome x (λ told. IsOn (content told) c.next_of.new.walk)) i.only.same w.on;
       place = up.1;
+      tells = d.tells ∙ i.tells;
       only = reads_then i.only (λ none. none) (reads_as w.only_reads (λ e. cc) (λ none. absurd none));
       counts = counts_then i.counts (λ none. none) (counts_as d.counts (λ e. cc) (λ none. absurd none));
     }
@@ -57,3 +59,6 @@ returns-in-None-clause-packed g c =
     let i = c.each.invariant in
     writing_last (g.D.Disk.told c.args.disk.now) (g.D.Disk.told c.each.disk) (g.N.Disk.told c.each.to) (g.N.Disk.told c.settle.new.to) c.args.plan.now c.each.walk c.next_of.new.walk c.each.output c.packed.result
     i.only.same i.written (rw c.in-None.is at c.in_ok-whole.ensures.walked) c.in_ok-settle-in-None.ensures.synced c.packed.ensures
+
+pub returns-in-None-clause-synced : goal.returns-in-None-clause-synced
+returns-in-None-clause-synced g c = settled_synced (g.N.Disk.told c.each.to) (g.N.Disk.told c.settle.new.to) c.in_ok-settle-in-None.ensures.synced

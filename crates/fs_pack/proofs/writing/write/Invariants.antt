@@ -1,4 +1,5 @@
 use Rattle.std.proofs.Common.{◌≡◌, ◌<◌, ◌-◌, ◌^◌, length, IfSome}
+use Rattle.std.specs.Prelude.{is_some}
 use Rattle.zbase.specs.Faults.{Counts}
 use Rattle.zdisk.specs.Disk.{content}
 use Rattle.fs_scan.specs.OnlyReads.{OnlyReads}
@@ -13,6 +14,7 @@ invariant-each g l = record {
   ends : IfSome (g.N.Disk.told l.to) (λ told. l.output.end ≡ length (content told));
   on : IfSome (g.D.Disk.told l.fn.disk) (λ told. IsOn (content told) l.walk);
   place : place_on l.walk.place < 2 ^ 64;
+  tells : is_some (g.N.Disk.told l.to) ≡ is_some (g.N.Disk.told l.fn.to);
   only : OnlyReads g.D.Disk l.fn.disk l.disk ⊥;
   counts : Counts (g.N.Disk.counter l.fn.to) (g.N.Disk.counter l.to) ⊥;
 }
