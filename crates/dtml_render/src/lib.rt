@@ -16,6 +16,7 @@ mod rendering;
 mod showing;
 mod sources;
 mod spots;
+mod templates;
 mod turns;
 mod worths;
 
@@ -24,6 +25,7 @@ pub use laws::{
     pages_are_for_their_users, pages_are_their_users_own, pages_go_on, pages_show_what_is_granted,
 };
 pub use page::Page;
-pub use reading::{read_source, source_of};
+pub use reading::source_of;
 pub use rendering::render;
 pub use spots::Source;
+pub use templates::Templates;

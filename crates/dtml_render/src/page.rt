@@ -26,6 +26,7 @@ use crate::reaching::{ids_of, reach_more};
 use crate::showing::put_text;
 use crate::sources::{begun, go_into};
 use crate::spots::{Source, Spot, Tag, node_in, share};
+use crate::templates::Templates;
 use crate::turns::{may_turn, push_turn};
 use crate::worths::{Found, Worth, worth_of};
 use acquisition::Wrapped;
@@ -191,7 +192,7 @@ impl<'t> Page<'t> {
     // lends isn't copied.
     fn ask_step(
         &mut self,
-        alloc: Global,
+        templates: &mut Templates,
         ask: Ask<'t>,
         stack: &mut Stack<'_>,
     ) -> Result<(), RenderRefusal>
@@ -201,14 +202,15 @@ impl<'t> Page<'t> {
         ensures known { stack.new.known ≡ stack.old.known }
     {
         if let Some((at, tag, text)) = lent_under(&ask.tag, stack) {
+            let alloc = templates.alloc();
             return put_text(alloc, at, tag, text, &mut self.budget, &mut self.out);
         }
-        self.argument_step(alloc, ask, stack)
+        self.argument_step(templates, ask, stack)
     }
 
     fn argument_step(
         &mut self,
-        alloc: Global,
+        templates: &mut Templates,
         ask: Ask<'t>,
         stack: &mut Stack<'_>,
     ) -> Result<(), RenderRefusal>
@@ -217,6 +219,7 @@ impl<'t> Page<'t> {
         ensures steps { Steps stack.old (above (view.ask_view ask.entry) (place_of self.old stack.old)) (place_of self.new stack.new) result }
         ensures known { stack.new.known ≡ stack.old.known }
     {
+        let alloc = templates.alloc();
         let Some((at, arg)) = ask.tag.argument() else {
             return Ok(());
         };
@@ -231,7 +234,7 @@ impl<'t> Page<'t> {
             Worth::Children(whole, children) => {
                 Ok(self.children_step(alloc, ask, whole, children)?)
             }
-            Worth::Source(object, whole) => self.source_step(alloc, ask, &object, whole, stack),
+            Worth::Source(object, whole) => self.source_step(templates, ask, &object, whole, stack),
         }
     }
 
@@ -265,7 +268,7 @@ impl<'t> Page<'t> {
     // The source of an object stands above the frame that waits for its text.
     fn source_step(
         &mut self,
-        alloc: Global,
+        templates: &mut Templates,
         ask: Ask<'t>,
         object: &Wrapped,
         whole: &Object,
@@ -281,7 +284,8 @@ impl<'t> Page<'t> {
         ensures tags { self.new.budget.tags ≡ self.old.budget.tags }
         ensures output { self.new.budget.output ≡ self.old.budget.output }
     {
-        let tree = begun(alloc, object.oid(), whole, &mut self.budget)?;
+        let alloc = templates.alloc();
+        let tree = begun(templates, object.oid(), whole, &mut self.budget)?;
         let acting = go_into(alloc, object, whole, stack)?;
         let out = mem::replace(&mut self.out, Text::new(alloc));
         let value = Value {
@@ -291,7 +295,7 @@ impl<'t> Page<'t> {
             out,
         };
         push_frame(&mut self.frames, Frame::Value(value))?;
-        let spot = Spot::whole(alloc, Source::read(alloc, tree)?)?;
+        let spot = Spot::whole(alloc, Source::Read(tree))?;
         push_block(&mut self.frames, spot, stack)?;
         Ok(())
     }
@@ -383,7 +387,7 @@ impl<'t> Page<'t> {
     // One step of the innermost frame, under whose layers the stack stands.
     fn step_under(
         &mut self,
-        alloc: Global,
+        templates: &mut Templates,
         frame: Frame<'t>,
         stack: &mut Stack<'_>,
     ) -> Result<(), RenderRefusal>
@@ -392,9 +396,10 @@ impl<'t> Page<'t> {
         ensures steps { Steps stack.old (above (view.frame_view frame.entry) (place_of self.old stack.old)) (place_of self.new stack.new) result }
         ensures known { stack.new.known ≡ stack.old.known }
     {
+        let alloc = templates.alloc();
         match frame {
             Frame::Rest(rest) => self.rest_step(alloc, rest, stack),
-            Frame::Ask(ask) => self.ask_step(alloc, ask, stack),
+            Frame::Ask(ask) => self.ask_step(templates, ask, stack),
             Frame::Turns(turns) => self.turns_step(alloc, turns, stack),
             Frame::Reaching(reaching) => self.reaching_step(alloc, reaching, stack),
             Frame::Value(value) => self.value_step(alloc, value, stack),
@@ -404,7 +409,7 @@ impl<'t> Page<'t> {
     // One step of the innermost frame.
     fn step(
         &mut self,
-        alloc: Global,
+        templates: &mut Templates,
         frame: Frame<'t>,
         stack: &mut Stack<'_>,
     ) -> Result<(), RenderRefusal>
@@ -413,12 +418,18 @@ impl<'t> Page<'t> {
         ensures known { stack.new.known ≡ stack.old.known }
     {
         cut(frame.depth(), stack);
-        self.step_under(alloc, frame, stack)
+        self.step_under(templates, frame, stack)
     }
 
     /// Goes on until the page has its text, or stops at the first refusal. What was rendered stays: where an object is
     /// wanted that isn't known, the page goes on from there once it is.
-    pub fn go_on(&mut self, alloc: Global, stack: &mut Stack<'_>) -> Result<Text, RenderRefusal>
+    ///
+    /// Sources are read by these templates, which change nothing else.
+    pub fn go_on(
+        &mut self,
+        templates: &mut Templates,
+        stack: &mut Stack<'_>,
+    ) -> Result<Text, RenderRefusal>
         requires stands { IsStanding (place_of self.old stack.old) }
         ensures is { Shows told (λ t. (t, left_of self.new.budget)) stack.new.shown result
             (comes_to (objects stack.old.known) (place_of self.old stack.old)) }
@@ -434,10 +445,10 @@ impl<'t> Page<'t> {
         // There are no more steps: each has its tag, its node or its frame.
         'steps: for _ in 0..u64::MAX {
             let Some(frame) = self.frames.pop() else {
-                let text = mem::replace(&mut self.out, Text::new(alloc));
+                let text = mem::replace(&mut self.out, Text::new(templates.alloc()));
                 return Ok(text);
             };
-            self.step(alloc, frame, stack)?;
+            self.step(templates, frame, stack)?;
         }
         Err(RenderRefusal::Memory)
     }

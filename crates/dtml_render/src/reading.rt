@@ -30,7 +30,7 @@ pub fn source_of(part: &Part2) -> &str
 
 /// The template that an object's source is, or why a page with it has no text.
 #[tactic(auto, using(crate::proofs::Steps::refused_so))]
-pub fn read_source(alloc: Global, oid: Oid, source: &str) -> Result<Tree, RenderRefusal>
+pub(crate) fn read_source(alloc: Global, oid: Oid, source: &str) -> Result<Tree, RenderRefusal>
     ensures read { IfOk result (λ tree. template source.now ≡ Ok (view tree)) }
     ensures refused { IfErr result (λ e. (k : ℕ → Option (Seen Object)) (shown : List Shown) (renders : ℕ) (scope : Scope) (left : Left)
         → Told (told e) (looked k shown (rendering.source_text renders scope oid source.now left))) }

@@ -13,6 +13,7 @@ ghost use Rattle.dtml_render.specs.Rendering as rendering;
 use crate::asking::cut;
 use crate::page::Page;
 use crate::spots::Source;
+use crate::templates::Templates;
 use dtml_parse::Tree;
 use dtml_values::{Budget, RenderRefusal};
 use namespace::Stack;
@@ -57,7 +58,8 @@ pub fn render(
     let acting = stack.acting()?;
     let depth = stack.depth();
     let mut page = Page::new(alloc, Source::Lent(tree), stack, *budget)?;
-    let result = page.go_on(alloc, stack);
+    let mut templates = Templates::new(alloc);
+    let result = page.go_on(&mut templates, stack);
     let left = page.budget();
     budget.tags = left.tags;
     budget.output = left.output;

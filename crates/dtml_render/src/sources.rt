@@ -12,13 +12,15 @@ ghost use Rattle.dtml_values.specs.Told.{told};
 ghost use Rattle.dtml_render.specs.Frames.{IsInside};
 ghost use Rattle.dtml_render.specs.Rendering as rendering;
 
-use crate::reading::{read_source, source_of};
+use crate::reading::source_of;
+use crate::templates::Templates;
 use acquisition::Wrapped;
 use dtml_parse::Tree;
 use dtml_values::{Budget, Limit, RenderRefusal};
 use namespace::Stack;
 use permissions::{Who, acting};
 use std::alloc::Global;
+use std::rc::Rc;
 use zbase::{Memory, Oid};
 use zobject::{Object, Part2};
 
@@ -55,19 +57,19 @@ pub(crate) fn go_into(
 
 /// The template that the source of an object is, which counts as a rendering once it was read.
 pub(crate) fn begun(
-    alloc: Global,
+    templates: &mut Templates,
     oid: Oid,
     whole: &Object,
     budget: &mut Budget,
-) -> Result<Tree, RenderRefusal>
-    ensures read { IfOk result (λ tree. template (rendering.source_of whole.now.part) ≡ Ok (view tree)) }
+) -> Result<Rc<Tree>, RenderRefusal>
+    ensures read { IfOk result (λ tree. template (rendering.source_of whole.now.part) ≡ Ok (view tree.value)) }
     ensures more { OnOk result (budget.old.renders ≡ suc budget.new.renders) }
     ensures told { IfErr result (λ e. (k : ℕ → Option (Seen ObjectValue)) (shown : List Shown) (scope : Scope) (left : Left)
         → Told (told e) (looked k shown (rendering.source_text budget.old.renders scope oid (rendering.source_of whole.now.part) left))) }
     ensures tags { budget.new.tags ≡ budget.old.tags }
     ensures output { budget.new.output ≡ budget.old.output }
 {
-    let tree = read_source(alloc, oid, source_of(&whole.part))?;
+    let tree = templates.read(oid, source_of(&whole.part))?;
     if budget.renders == 0 {
         return Err(RenderRefusal::Runaway(Limit::Renders));
     }

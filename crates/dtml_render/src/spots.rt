@@ -9,7 +9,7 @@ use std::alloc::Global;
 use std::rc::Rc;
 use zbase::Memory;
 
-/// A template of which a page is made: one that is lent to it, or one that it has read itself.
+/// A template of which a page is made: one that is lent to it, or one that was read and may be kept for other pages too.
 #[derive(Drop)]
 pub enum Source<'t> {
     Lent(&'t Tree),

@@ -18,6 +18,7 @@ use crate::reading::{Read, read_request};
 use crate::refusal::SiteRefusal;
 use crate::stage::{Met, Stage};
 use acquisition::Wrapped;
+use dtml_render::Templates;
 use http_in::Request;
 use manage::{Call, call_named};
 use std::alloc::Global;
@@ -63,7 +64,7 @@ fn called(
 }
 
 fn answered(
-    alloc: Global,
+    templates: &mut Templates,
     request: &Request,
     read: &Read,
     target: Target,
@@ -74,11 +75,11 @@ fn answered(
 {
     match target {
         Target::Page { object, client } => {
-            let underway = begin(alloc, request, read, object.oid(), client, known)?;
+            let underway = begin(templates, request, read, object.oid(), client, known)?;
             Ok(Met::Begun(underway))
         }
         Target::Call { name, on } => {
-            let answer = called(alloc, request, read, name, &on, known)?;
+            let answer = called(templates.alloc(), request, read, name, &on, known)?;
             Ok(Met::Answered(answer))
         }
     }
@@ -86,17 +87,22 @@ fn answered(
 
 // What a message meets behind what was read of it.
 #[tactic(auto, using(crate::proofs::Stages::goes_meets, crate::proofs::Steps::passes), unfolding(crate::specs::Site::with_credentials))]
-fn behind(alloc: Global, request: &Request, read: &Read, known: &Known) -> Result<Met, SiteRefusal>
+fn behind(
+    templates: &mut Templates,
+    request: &Request,
+    read: &Read,
+    known: &Known,
+) -> Result<Met, SiteRefusal>
     requires lawful { KeepRules (objects known.now) }
     ensures { Meets known.now result (spec.with_credentials request.now read.now.fields read.now.credentials) }
 {
-    let target = target(alloc, known, request)?;
-    answered(alloc, request, read, target, known)
+    let target = target(templates.alloc(), known, request)?;
+    answered(templates, request, read, target, known)
 }
 
 // What a message comes to behind what was read of it, which is kept until its page begins.
 fn with_read(
-    alloc: Global,
+    templates: &mut Templates,
     request: &Request,
     read: Read,
     known: &Known,
@@ -108,9 +114,9 @@ fn with_read(
     ensures answers { Answers told (λ a. a) result (comes_to known.now (spec.request request.now)) }
     ensures stage { IsStage (objects known.now) stage.new request.now }
 {
-    match behind(alloc, request, &read, known) {
+    match behind(templates, request, &read, known) {
         Ok(Met::Answered(answer)) => Ok(answer),
-        Ok(Met::Begun(underway)) => go_on(alloc, underway, known, stage),
+        Ok(Met::Begun(underway)) => go_on(templates, underway, known, stage),
         Err(refusal) => {
             *stage = Stage::Read(read);
             Err(refusal)
@@ -120,7 +126,7 @@ fn with_read(
 
 /// What a whole message comes to, from the stage on to which its answer came.
 pub(crate) fn answer(
-    alloc: Global,
+    templates: &mut Templates,
     request: &Request,
     known: &Known,
     stage: &mut Stage,
@@ -132,10 +138,10 @@ pub(crate) fn answer(
 {
     match mem::replace(stage, Stage::Fresh) {
         Stage::Fresh => {
-            let read = read_request(alloc, request)?;
-            with_read(alloc, request, read, known, stage)
+            let read = read_request(templates.alloc(), request)?;
+            with_read(templates, request, read, known, stage)
         }
-        Stage::Read(read) => with_read(alloc, request, read, known, stage),
-        Stage::Page(underway) => go_on(alloc, underway, known, stage),
+        Stage::Read(read) => with_read(templates, request, read, known, stage),
+        Stage::Page(underway) => go_on(templates, underway, known, stage),
     }
 }

@@ -24,7 +24,7 @@ use crate::refusal::SiteRefusal;
 use crate::replies::page_reply;
 use crate::stage::{Stage, Underway};
 use acquisition::Wrapped;
-use dtml_render::{Budget, Page, RenderRefusal, Source, read_source, source_of};
+use dtml_render::{Budget, Page, RenderRefusal, Source, Templates, source_of};
 use evaluator::permission::VIEW;
 use form_fields::{Fields, cookies};
 use http_in::Request;
@@ -58,7 +58,7 @@ fn whole_budget() -> Budget
 
 // The page of the published object's source begins.
 fn source_page(
-    alloc: Global,
+    templates: &mut Templates,
     oid: Oid,
     object: &Object,
     stack: &mut Stack<'_>,
@@ -66,11 +66,11 @@ fn source_page(
     ensures begins { PageBegins stack.old stack.new result (pages.source_page stack.old.scope oid object.now) }
     ensures known { stack.new.known ≡ stack.old.known }
 {
+    let alloc = templates.alloc();
     let acting = acting(alloc, object)?;
     let _former = stack.act(acting);
-    let tree = read_source(alloc, oid, source_of(&object.part))?;
-    let source = Source::read(alloc, tree)?;
-    let page = Page::new(alloc, source, stack, whole_budget())?;
+    let tree = templates.read(oid, source_of(&object.part))?;
+    let page = Page::new(alloc, Source::Read(tree), stack, whole_budget())?;
     Ok(page)
 }
 
@@ -88,7 +88,7 @@ fn open<'k>(oid: Oid, stack: &mut Stack<'k>) -> Result<&'k Object, RenderRefusal
 
 // The page of an object begins.
 fn scope_page(
-    alloc: Global,
+    templates: &mut Templates,
     oid: Oid,
     stack: &mut Stack<'_>,
 ) -> Result<Page<'static>, RenderRefusal>
@@ -96,16 +96,16 @@ fn scope_page(
     ensures known { stack.new.known ≡ stack.old.known }
 {
     let object = open(oid, stack)?;
-    source_page(alloc, oid, object, stack)
+    source_page(templates, oid, object, stack)
 }
 
 // The page of an object begins in the scope of a stack on which nothing was shown.
-fn begin_in(alloc: Global, oid: Oid, stack: Stack<'_>) -> Result<Underway, SiteRefusal>
+fn begin_in(templates: &mut Templates, oid: Oid, stack: Stack<'_>) -> Result<Underway, SiteRefusal>
     requires none_shown { stack.shown ≡ [] }
     ensures { Begins stack.entry.known result (spec.scope_answer stack.entry.scope oid) }
 {
     let mut stack = stack;
-    let page = scope_page(alloc, oid, &mut stack)?;
+    let page = scope_page(templates, oid, &mut stack)?;
     Ok(Underway {
         page,
         resting: stack.rest(),
@@ -127,7 +127,7 @@ fn page_names(
 
 // The page of an object begins for a user.
 fn begin_for(
-    alloc: Global,
+    templates: &mut Templates,
     request: &Request,
     fields: &Fields,
     oid: Oid,
@@ -137,15 +137,16 @@ fn begin_for(
 ) -> Result<Underway, SiteRefusal>
     ensures { Begins known.now result (spec.page_for request.now fields.now oid client user) }
 {
+    let alloc = templates.alloc();
     let names = page_names(alloc, request, fields, &user)?;
     let stack = Stack::new(alloc, known, user, client, names);
-    begin_in(alloc, oid, stack)
+    begin_in(templates, oid, stack)
 }
 
 /// The page of a published object begins.
 #[tactic(auto, using(crate::proofs::Stages::goes_begins, crate::proofs::Steps::passes), unfolding(crate::specs::Site::page))]
 pub(crate) fn begin(
-    alloc: Global,
+    templates: &mut Templates,
     request: &Request,
     read: &Read,
     oid: Oid,
@@ -154,8 +155,8 @@ pub(crate) fn begin(
 ) -> Result<Underway, SiteRefusal>
     ensures { Begins known.now result (spec.page request.now read.now.fields read.now.credentials oid client) }
 {
-    let user = user(alloc, known, read, oid, VIEW)?;
-    begin_for(alloc, request, &read.fields, oid, client, known, user)
+    let user = user(templates.alloc(), known, read, oid, VIEW)?;
+    begin_for(templates, request, &read.fields, oid, client, known, user)
 }
 
 // Whether a page is refused for want of an object that isn't known.
@@ -170,7 +171,7 @@ fn is_need(refusal: &RenderRefusal) -> bool
 
 /// The page goes on over what is known. Where it wants an object that isn't known, it is kept.
 pub(crate) fn go_on(
-    alloc: Global,
+    templates: &mut Templates,
     underway: Underway,
     known: &Known,
     stage: &mut Stage,
@@ -182,7 +183,7 @@ pub(crate) fn go_on(
 {
     let mut page = underway.page;
     let mut stack = underway.resting.on(known);
-    match page.go_on(alloc, &mut stack) {
+    match page.go_on(templates, &mut stack) {
         Ok(text) => Ok(Answer::Page(page_reply(text, stack.into_shown()))),
         Err(refusal) => {
             if is_need(&refusal) {

@@ -28,6 +28,7 @@ use crate::learned::Learned;
 use crate::replies::{by_verb, halt_of, line, message_reply};
 use crate::stage::{Progress, Stage, Undoing};
 use crate::state::SiteState;
+use dtml_render::Templates;
 use evaluator::{Evaluator, Facts, Outcome};
 use fs_undo::Far;
 use http_in::{Message, Request, Verb, take_message};
@@ -48,6 +49,7 @@ const MOST_ASKS: usize = 12_000;
 #[derive(Drop)]
 pub struct Site {
     alloc: Global,
+    templates: Templates,
 }
 
 // What an undo that is under way comes to; it stays under way.
@@ -73,7 +75,7 @@ fn undo_on(
 // What a whole message comes to, from the stage on to which its answer came.
 #[tactic(auto, using(crate::proofs::Limiting::paged, crate::proofs::Limiting::changes_to, crate::proofs::Limiting::undoes_to, crate::proofs::Limiting::lists_to, crate::proofs::Limiting::halts_at, crate::proofs::Undoing::nothing_far))]
 fn answer_on(
-    alloc: Global,
+    templates: &mut Templates,
     request: &Request,
     facts: &Facts,
     known: &Known,
@@ -87,7 +89,8 @@ fn answer_on(
     ensures value { IfOk result (λ it. it ≡ outcome (made_of (look facts.now) request.now (comes_to known.now (spec.request request.now)))) }
     ensures progress { IsProgress (objects known.now) (look facts.now) progress.new request.now }
 {
-    match answer(alloc, request, known, &mut stage) {
+    let alloc = templates.alloc();
+    match answer(templates, request, known, &mut stage) {
         Ok(Answer::Page(reply)) => Ok(Outcome::Answer(by_verb(request.method, reply))),
         Ok(Answer::Change(reply, draft)) => {
             Ok(Outcome::Change(by_verb(request.method, reply), draft))
@@ -108,7 +111,7 @@ fn answer_on(
 // What a whole message comes to, without limits.
 #[tactic(auto, using(crate::proofs::Undoing::undoing_comes))]
 fn outcome_of(
-    alloc: Global,
+    templates: &mut Templates,
     request: &Request,
     facts: &Facts,
     known: &Known,
@@ -121,8 +124,8 @@ fn outcome_of(
     ensures progress { IsProgress (objects known.now) (look facts.now) progress.new request.now }
 {
     match mem::replace(progress, Progress::Answering(Stage::Fresh)) {
-        Progress::Answering(stage) => answer_on(alloc, request, facts, known, stage, progress),
-        Progress::Undoing(undoing) => undo_on(alloc, request, facts, undoing, progress),
+        Progress::Answering(stage) => answer_on(templates, request, facts, known, stage, progress),
+        Progress::Undoing(undoing) => undo_on(templates.alloc(), request, facts, undoing, progress),
     }
 }
 
@@ -158,7 +161,7 @@ fn has_too_many_bytes(learned: &Learned) -> bool
 // What a whole message comes to over the facts that were taken over.
 #[tactic(auto, using(crate::proofs::Limiting::over_bytes, crate::proofs::Limiting::over_asks, crate::proofs::Limiting::within_both))]
 fn limited(
-    alloc: Global,
+    templates: &mut Templates,
     learned: &Learned,
     progress: &mut Progress,
     facts: &Facts,
@@ -171,11 +174,12 @@ fn limited(
         (made_of (look facts.now) request.now (comes_to learned.now.known (spec.request request.now))))) }
     ensures progress { IsProgress (objects learned.now.known) (look facts.now) progress.new request.now }
 {
+    let alloc = templates.alloc();
     if has_too_many_bytes(learned) {
         let runaway = runaway(alloc, request.method)?;
         return Ok(runaway);
     }
-    let outcome = outcome_of(alloc, request, facts, learned.known(), progress)?;
+    let outcome = outcome_of(templates, request, facts, learned.known(), progress)?;
     if asks_more(facts.len(), &outcome) {
         let runaway = runaway(alloc, request.method)?;
         return Ok(runaway);
@@ -186,7 +190,7 @@ fn limited(
 // What a message comes to over a trail of facts that were taken over.
 #[tactic(auto, using(crate::proofs::Limiting::site_whole))]
 fn evaluated(
-    alloc: Global,
+    templates: &mut Templates,
     learned: &Learned,
     progress: &mut Progress,
     facts: &Facts,
@@ -200,11 +204,11 @@ fn evaluated(
 {
     match message {
         Message::Refused(cause) => {
-            let reply = message_reply(alloc, *cause)?;
+            let reply = message_reply(templates.alloc(), *cause)?;
             Ok(Outcome::Answer(reply))
         }
         Message::Whole(request) => {
-            let outcome = limited(alloc, learned, progress, facts, request)?;
+            let outcome = limited(templates, learned, progress, facts, request)?;
             Ok(outcome)
         }
     }
@@ -213,7 +217,10 @@ fn evaluated(
 impl Site {
     /// A site. Takes no memory.
     pub fn new(alloc: Global) -> Site {
-        Site { alloc }
+        Site {
+            alloc,
+            templates: Templates::new(alloc),
+        }
     }
 }
 
@@ -245,7 +252,7 @@ impl Evaluator for Site {
     ) -> Result<Outcome, Memory> {
         state.learned.learn(self.alloc, known)?;
         let outcome = evaluated(
-            self.alloc,
+            &mut self.templates,
             &state.learned,
             &mut state.progress,
             known,

@@ -7,7 +7,7 @@ use crate::running::{is_question, put_answer, put_state, rendered};
 use case_sites::{bytes_text, known_of_these};
 use case_stacks::{push_layers, stack_of};
 use cases::{Case, CasesRefusal, Part, add_line, put_number};
-use dtml_render::{Page, RenderRefusal, Source};
+use dtml_render::{Page, RenderRefusal, Source, Templates};
 use namespace::Resting;
 use std::alloc::Global;
 use zbase::Oid;
@@ -118,7 +118,8 @@ fn stopped_for(
     ensures { IfOk result (λ rested. Stands page.new rested) }
 {
     let mut stack = resting.on(known);
-    let Err(refusal) = page.go_on(alloc, &mut stack) else {
+    let mut templates = Templates::new(alloc);
+    let Err(refusal) = page.go_on(&mut templates, &mut stack) else {
         return Err(CasesRefusal::BadPart(0));
     };
     let stopped = wants(&refusal, oid);
@@ -147,7 +148,8 @@ pub(crate) fn put_stopping(
     }
     let known = known_of_these(alloc, case, so_far.as_slice())?;
     let mut stack = resting.on(&known);
-    let answer = page.go_on(alloc, &mut stack);
+    let mut templates = Templates::new(alloc);
+    let answer = page.go_on(&mut templates, &mut stack);
     put_answer(alloc, parts, answer)?;
     put_state(alloc, parts, &stack, &page.budget())
 }

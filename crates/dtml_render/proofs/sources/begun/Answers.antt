@@ -16,5 +16,5 @@ returns-in_err-tree-clause-told c =
 
 pub returns-then-budget-eq0-clause-told : goal.returns-then-budget-eq0-clause-told
 returns-then-budget-eq0-clause-told c = λ k shown scope left.
-    none_begins k shown c.args.budget.now.renders scope c.args.oid (source_of c.args.whole.now.part) left (view c.in_ok-tree.tree)
-    (subst (λ (source : List ℕ). template source ≡ Ok (view c.in_ok-tree.tree)) c.source_of.ensures c.in_ok-tree.ensures.read) c.if-budget-eq0.true
+    none_begins k shown c.args.budget.now.renders scope c.args.oid (source_of c.args.whole.now.part) left (view c.in_ok-tree.tree.value)
+    (subst (λ (source : List ℕ). template source ≡ Ok (view c.in_ok-tree.tree.value)) c.source_of.ensures c.in_ok-tree.ensures.read) c.if-budget-eq0.true

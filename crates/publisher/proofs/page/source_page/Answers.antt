@@ -13,6 +13,6 @@ pub returns-clause-begins : goal.returns-clause-begins
 returns-clause-begins c =
     let old = c.args.stack.now in
     let new = c.act-former.new.self in
-    source_begins old new c.args.oid c.args.object.now c.in_ok-page.page c.whole_budget.result (view c.in_ok-tree.tree) (ap template (sym c.source_of.ensures) ∙ c.in_ok-tree.ensures.read)
+    source_begins old new c.args.oid c.args.object.now c.in_ok-page.page c.whole_budget.result (view c.in_ok-tree.tree.value) (ap template (sym c.source_of.ensures) ∙ c.in_ok-tree.ensures.read)
     (c.act-former.ensures.set ∙ ap (λ (w : Option Who). record old { scope = act w old.scope }) c.in_ok-acting.ensures.is) c.whole_budget.ensures.renders c.whole_budget.ensures.left
-    (c.in_ok-page.ensures ∙ ap (λ (t : Items). place (Rest (length new.scope.layers) t ∷ []) c.whole_budget.result [] new) c.in_ok-source.ensures)
+    c.in_ok-page.ensures
