@@ -33,7 +33,7 @@ fn links_of(alloc: Global, object: &Object) -> Result<Oids, Memory>
 }
 
 /// The links of a site's objects: an object leads to the folder that holds it and, where it is one, to its children.
-#[derive(Debug)]
+#[derive(Debug, Drop)]
 pub struct SiteLinks {
     alloc: Global,
 }
