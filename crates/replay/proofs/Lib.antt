@@ -7,6 +7,7 @@ pub mod LineRefusals
 pub mod InOrder
 pub mod LostMarks
 pub mod Giving
+pub mod SecondWalking
 pub mod DumpSteps
 pub mod Closing
 pub mod Handing

@@ -5,6 +5,7 @@ pub mod Losing
 pub mod BrokenOff
 pub mod Refusals
 pub mod Dumped
+pub mod SecondWalk
 pub mod Held
 pub mod Handed
 pub mod Restarts

@@ -8,8 +8,9 @@ ghost use Rattle.replay.specs.Dumped.{Dumps, of_scan, of_sink};
 
 use crate::history_out::{put_heading, put_transaction};
 use crate::printing::put_line;
+use crate::second_walk::SecondWalk;
 use fs_record::Damage;
-use fs_scan::{ScanRefusal, Scanned, Walk, scan};
+use fs_scan::{ScanRefusal, Scanned, scan};
 use schedule::Line;
 use std::alloc::Global;
 use zdisk::Disk;
@@ -52,8 +53,8 @@ impl From<OutsideRefusal> for DumpRefusal {
 }
 
 /// Writes the history to which a disk's file opens, with all of its values, as a report does; what is pending at its end
-/// is still to be flushed. A file with damage is refused before anything is written or pending. It holds one transaction
-/// at a time, and changes nothing.
+/// is still to be flushed. A file with damage is refused before anything is written or pending. Behind the scan it goes over
+/// the file once, and judges nothing again. It holds one transaction at a time, and changes nothing.
 pub fn dump<D: Disk, K: Sink>(
     alloc: Global,
     disk: &mut D,
@@ -67,9 +68,14 @@ pub fn dump<D: Disk, K: Sink>(
     ensures disk { Counts (D.counter disk.old) (D.counter disk.new) (IsErrOf result DumpRefusal.Disk) }
     ensures sink { Counts (K.counter out.old) (K.counter out.new) (IsErrOf result DumpRefusal.Output) }
 {
-    let Scanned { count, floor, .. } = scan(alloc, disk)?;
+    let Scanned {
+        count,
+        floor,
+        end,
+        ..
+    } = scan(alloc, disk)?;
     put_heading(alloc, count, floor, held, out)?;
-    let mut walk = Walk::new(alloc);
+    let mut walk = SecondWalk::new(alloc, disk, end)?;
     'each: loop {
         match walk.next(disk)? {
             Some(whole) => put_transaction(alloc, &whole, held, out)?,

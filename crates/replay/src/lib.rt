@@ -19,6 +19,7 @@ mod printing;
 mod refusal;
 mod restarting;
 mod running;
+mod second_walk;
 
 pub use dumping::{DumpRefusal, dump};
 pub use laws::replayed_requests_keep_pace;
