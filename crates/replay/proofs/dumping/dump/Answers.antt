@@ -1,11 +1,8 @@
-use Rattle.std.proofs.Common.{◌≡◌, ◌∙◌, Err, List, None, Option, Some, IfSome, ap, refl, sym, subst, arith}
+use Rattle.std.proofs.Common.{◌≡◌, ◌∙◌, Err, ap, refl}
 use Rattle.std.proofs.lemmas.Result.{err_from_is_err_and}
 use Rattle.zbase.specs.Faults.{counts_as, counts_then}
-use Rattle.zdisk.specs.Disk.{content}
-use Rattle.fs_scan.specs.declared.wholes.Whole.{Whole}
 use Rattle.fs_scan.specs.declared.opening.Scanned.{Scanned}
-use Rattle.replay.specs.SecondWalk.{Second}
-use Rattle.replay.proofs.DumpSteps.{damaged_told, none_damaged, printed_first, printed_last, printed_next, still_left}
+use Rattle.replay.proofs.DumpSteps.{damaged_told, printed_first, printed_last, printed_next, still_left}
 use Rattle.replay.proofs.dumping.dump.Goals as goal
 
 pub returns-in_err-end-clause-damaged : goal.returns-in_err-end-clause-damaged

@@ -1,4 +1,4 @@
-use Rattle.std.proofs.Common.{◌≡◌, ◌∷◌, [], ◌++◌, ◌∙◌, ap, append_assoc}
+use Rattle.std.proofs.Common.{◌∷◌, [], ◌++◌, ◌∙◌, ap, append_assoc}
 use Rattle.replay.proofs.InOrder.{one_placed}
 use Rattle.replay.proofs.printing.lines_by_oid.Goals as goal
 

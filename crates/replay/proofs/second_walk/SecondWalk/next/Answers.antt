@@ -1,10 +1,10 @@
-use Rattle.std.proofs.Common.{◌≡◌, ◌+◌, ◌∙◌, List, Option, Some, IfSome, ap, refl, sym, subst, arith}
+use Rattle.std.proofs.Common.{◌+◌, ◌∙◌, List, Option, Some, IfSome, ap, refl, sym, subst, arith}
 use Rattle.zbase.specs.History.{Transaction}
 use Rattle.zdisk.specs.Disk.{Told, content}
 use Rattle.fs_scan.specs.Ahead.{IsAhead}
 use Rattle.fs_scan.specs.OnlyReads.{reads_as, reads_then}
 use Rattle.replay.specs.SecondWalk.{Left, Nexts, Second, moved}
-use Rattle.replay.proofs.SecondWalking.{Heads, IsLeft, Leaves, Means, comes, comes_none, goes_over, same_left}
+use Rattle.replay.proofs.SecondWalking.{Heads, Leaves, comes, comes_none, goes_over}
 use Rattle.replay.proofs.second_walk.SecondWalk.next.Goals as goal
 
 pub undone-preserved : goal.undone-preserved

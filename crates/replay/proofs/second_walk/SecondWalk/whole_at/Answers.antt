@@ -1,6 +1,6 @@
 use Rattle.std.proofs.Common.{refl}
 use Rattle.replay.specs.SecondWalk.{moved}
-use Rattle.replay.proofs.SecondWalking.{means_it, some_texts, some_values}
+use Rattle.replay.proofs.SecondWalking.{some_texts, some_values}
 use Rattle.replay.proofs.second_walk.SecondWalk.whole_at.Goals as goal
 
 pub returns-in_default-clause-undamaged : goal.returns-in_default-clause-undamaged
