@@ -1,0 +1,5 @@
+mod Shelving
+mod Replacing
+mod Planned
+mod Made
+mod Beside
