@@ -1,2 +1,4 @@
 mod Digits
 mod Suffixes
+mod Tids
+mod Parsed

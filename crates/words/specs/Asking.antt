@@ -1,10 +1,11 @@
 -- What the words of a command line ask for.
-use Rattle.std.specs.Prelude.{ℕ, Bool, false, not, ◌&&◌, ◌==◌, List, ◌++◌, Option, Some, None, codes, length, nat_le, nat_lt, option_and_then, option_map, if◌then◌else◌}
+use Rattle.std.specs.Prelude.{ℕ, ◌+◌, ◌-◌, ◌*◌, Bool, false, not, ◌&&◌, ◌==◌, List, [], ◌∷◌, ◌++◌, Option, Some, None, codes, length, nat_le, nat_lt, option_and_then, option_map, if◌then◌else◌}
 use Rattle.std.specs.List.{list_any}
 use Rattle.std.specs.Option.{option_map_or}
 use Rattle.std.specs.Str.{bytes_eq, all_ascii_digits}
 use Rattle.std.specs.Str.Parse.{digits_value}
 use Rattle.clap.specs.Words.{Row, Text, subcommand_of, fault_of, first_of}
+use Rattle.zbase.specs.Hex.{hex16_text}
 use Rattle.zbase.specs.Limits.{greatest_number}
 use Rattle.fs_store.specs.Stores.{most_length}
 use Rattle.words.specs.CommandLine.{zope}
@@ -15,6 +16,19 @@ use Rattle.words.specs.CommandLine.{zope}
 abbrev pub number_of : ℕ → Text → Option ℕ
 number_of most text = if (nat_lt 0 (length text) && nat_le (length text) 20) && (all_ascii_digits text && nat_le (digits_value 10 text) most)
     then Some (digits_value 10 text) else None
+
+-- the number of a hexadecimal digit in lower case
+abbrev pub digit_value : ℕ → ℕ
+digit_value byte = if nat_lt byte 58 then byte - 48 else byte - 87
+
+-- a number, and digits behind it
+abbrev pub value_behind : ℕ → Text → ℕ
+value_behind n [] = n
+value_behind n (byte ∷ bytes) = value_behind (n * 16 + digit_value byte) bytes
+
+-- the id of a transaction whose 16 digits the text is
+abbrev pub tid_of : Text → Option ℕ
+tid_of text = if bytes_eq (hex16_text (value_behind 0 text)) text then Some (value_behind 0 text) else None
 
 -- ---- repositories
 
@@ -36,6 +50,7 @@ pub data Asked : Type 0 where
   Dump : Text → Asked
   Backup : (file repo : Text) → (full : Bool) → Asked
   Restore : (repo out : Text) → Asked
+  Pack : (file : Text) → (before : ℕ) → Asked
 
 abbrev pub init_of : List Row → Option Asked
 init_of rows = option_and_then (λ file. option_and_then (λ name. option_map (λ password. Init file name password)
@@ -101,6 +116,12 @@ backup_of rows = option_and_then (λ file. option_and_then (backup_in rows file)
 abbrev pub restore_of : List Row → Option Asked
 restore_of rows = option_and_then (λ repo. option_map (Restore repo) (first_of (codes "OUT") rows)) (repo_of rows)
 
+abbrev pub pack_tid : List Row → Option ℕ
+pack_tid rows = option_and_then tid_of (first_of (codes "TID") rows)
+
+abbrev pub pack_of : List Row → Option Asked
+pack_of rows = option_and_then (λ file. option_map (Pack file) (pack_tid rows)) (first_of (codes "FILE") rows)
+
 abbrev pub by_name : Text → List Row → Option Asked
 by_name name rows =
     if bytes_eq name (codes "init") then init_of rows
@@ -109,11 +130,12 @@ by_name name rows =
     else (if bytes_eq name (codes "check") then check_of rows
     else (if bytes_eq name (codes "dump") then dump_of rows
     else (if bytes_eq name (codes "backup") then backup_of rows
-    else (if bytes_eq name (codes "restore") then restore_of rows else None))))))
+    else (if bytes_eq name (codes "restore") then restore_of rows
+    else (if bytes_eq name (codes "pack") then pack_of rows else None)))))))
 
-abbrev pub by_subcommand : Option (Text × List Row) → Option Asked
+unfoldable pub by_subcommand : Option (Text × List Row) → Option Asked
 by_subcommand found = option_and_then (λ p. by_name p.0 p.1) found
 
--- none where clap's definition refuses the words, or where a number or a repository's name breaks its rule
+-- none where clap's definition refuses the words, or where a number, an id or a repository's name breaks its rule
 abbrev pub asked_of : List Text → Option Asked
 asked_of words = if length (fault_of zope words) == 0 then by_subcommand (subcommand_of zope words) else None

@@ -38,6 +38,9 @@ backup = with_rule (with_rule (over_file (codes "backup")) (positional (codes "R
 abbrev pub restore : App
 restore = with_rule (with_rule (new_app (codes "restore")) (positional (codes "REPO"))) (positional (codes "OUT"))
 
+abbrev pub pack : App
+pack = with_rule (over_file (codes "pack")) (positional (codes "TID"))
+
 -- no help words, no version words, and no word for the program
 abbrev pub bare : App
 bare = record (new_app (codes "zope")) {
@@ -49,4 +52,4 @@ abbrev pub over_sites : App
 over_sites = with_subcommand (with_subcommand (with_subcommand (with_subcommand (with_subcommand bare init.top) replay.top) serve.top) (over_file (codes "check")).top) (over_file (codes "dump")).top
 
 abbrev pub zope : App
-zope = with_subcommand (with_subcommand over_sites backup.top) restore.top
+zope = with_subcommand (with_subcommand (with_subcommand over_sites backup.top) restore.top) pack.top

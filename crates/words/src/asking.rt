@@ -10,6 +10,7 @@ use clap::ArgMatches;
 use clap::error::ErrorKind;
 use fs_record::MAX_LENGTH;
 use std::alloc::Global;
+use zbase::{Tid, read_hex16};
 
 /// How many clients may share a round of a server.
 const MOST_CLIENTS: u16 = 16;
@@ -17,7 +18,7 @@ const MOST_CLIENTS: u16 = 16;
 /// Why words ask for nothing.
 #[derive(Debug, Drop)]
 pub enum WordsRefusal {
-    /// They are no command, or a number breaks its rule.
+    /// They are no command, or a number or an id breaks its rule.
     Usage,
     /// Want of memory.
     Memory,
@@ -64,6 +65,11 @@ pub enum Asked<'a> {
     Restore {
         repo: &'a str,
         out: &'a str,
+    },
+    /// The file without what nothing at this transaction or later needs.
+    Pack {
+        file: &'a str,
+        before: Tid,
     },
 }
 
@@ -203,7 +209,26 @@ fn restore_of<'a>(matches: &ArgMatches<'a>) -> Option<Asked<'a>>
     Some(Asked::Restore { repo, out })
 }
 
+// The id of a transaction, where a text that is given keeps its rule.
+#[tactic(auto, using(crate::proofs::Tids::tid_is, crate::proofs::Tids::no_tid))]
+fn tid_of(matches: &ArgMatches) -> Option<Tid>
+    ensures { result ≡ asking.pack_tid (rows_of (found_of matches.now)) }
+{
+    let text = word_of(matches, "TID")?;
+    let tid = read_hex16(text.as_bytes())?;
+    Some(Tid(tid))
+}
+
+fn pack_of<'a>(matches: &ArgMatches<'a>) -> Option<Asked<'a>>
+    ensures { option_map view result ≡ asking.pack_of (rows_of (found_of matches.now)) }
+{
+    let file = word_of(matches, "FILE")?;
+    let before = tid_of(matches)?;
+    Some(Asked::Pack { file, before })
+}
+
 // What the subcommand asks for that was found.
+#[tactic(auto, unfolding(crate::specs::Asking::by_subcommand))]
 fn asked_of<'a>(matches: &ArgMatches<'a>) -> Option<Asked<'a>>
     ensures { option_map view result ≡ asking.by_subcommand (subcommand_rows_of matches.now) }
 {
@@ -222,6 +247,8 @@ fn asked_of<'a>(matches: &ArgMatches<'a>) -> Option<Asked<'a>>
         backup_of(within)
     } else if name == "restore" {
         restore_of(within)
+    } else if name == "pack" {
+        pack_of(within)
     } else {
         None
     }

@@ -94,6 +94,13 @@ fn restore<'a>(alloc: Global) -> Result<Command<'a>, AllocError>
         .arg(positional(alloc, "OUT"))
 }
 
+fn pack<'a>(alloc: Global) -> Result<Command<'a>, AllocError>
+    ensures app { IfOk result (λ c. app_of c ≡ lines.pack) }
+    ensures globals { IfOk result (λ c. (fields_of c).has_globals ≡ false) }
+{
+    over_file(alloc, "pack")?.arg(positional(alloc, "TID"))
+}
+
 // The program's words, none of which is its name.
 fn bare<'a>(alloc: Global) -> Command<'a>
     ensures { app_of result ≡ lines.bare }
@@ -117,5 +124,6 @@ pub(crate) fn zope<'a>(alloc: Global) -> Result<Command<'a>, AllocError>
         .subcommand(over_file(alloc, "check")?)?
         .subcommand(over_file(alloc, "dump")?)?
         .subcommand(backup(alloc)?)?
-        .subcommand(restore(alloc)?)
+        .subcommand(restore(alloc)?)?
+        .subcommand(pack(alloc)?)
 }

@@ -11,4 +11,5 @@ returns c =
     let e4 = c.in_ok-subcommand-4.ensures.shape c.in_ok-over_file.ensures.globals ∙ ap₂ with_subcommand e3 (ap (λ (a : App). a.top) c.in_ok-over_file.ensures.app) in
     let e5 = c.in_ok-subcommand-5.ensures.shape c.in_ok-over_file-2.ensures.globals ∙ ap₂ with_subcommand e4 (ap (λ (a : App). a.top) c.in_ok-over_file-2.ensures.app) in
     let e6 = c.in_ok-subcommand-6.ensures.shape c.in_ok-backup.ensures.globals ∙ ap₂ with_subcommand e5 (ap (λ (a : App). a.top) c.in_ok-backup.ensures.app) in
-    IfOk-weaker c.subcommand-7.result _ _ (λ r a. a.shape c.in_ok-restore.ensures.globals ∙ ap₂ with_subcommand e6 (ap (λ (a : App). a.top) c.in_ok-restore.ensures.app)) c.subcommand-7.ensures
+    let e7 = c.in_ok-subcommand-7.ensures.shape c.in_ok-restore.ensures.globals ∙ ap₂ with_subcommand e6 (ap (λ (a : App). a.top) c.in_ok-restore.ensures.app) in
+    IfOk-weaker c.subcommand-8.result _ _ (λ r a. a.shape c.in_ok-pack.ensures.globals ∙ ap₂ with_subcommand e7 (ap (λ (a : App). a.top) c.in_ok-pack.ensures.app)) c.subcommand-8.ensures

@@ -1,4 +1,4 @@
-use Rattle.std.proofs.Common.{◌≡◌, ◌<◌, ◌≤◌, ◌≢◌, ℕ, length, get_or, arith, rules, Ok, Err}
+use Rattle.std.proofs.Common.{◌≢◌, get_or, rules, Ok, Err}
 use Rattle.std.proofs.lemmas.Str.Parse.{parse_plain}
 use Rattle.std.specs.declared.num.ParseIntError.{ParseIntError}
 use Rattle.words.proofs.Digits.{own, found, none}
