@@ -19,7 +19,7 @@ from served import HOME
 # The words of each script: those that build nothing of their own, those that do, and those that aren't run, since they are the
 # gate itself or parts of others.
 OVER_THE_PROGRAM = [
-    ("backup", "--transactions 20 --size 100 --day 5 --rounds 1"), ("check", "--records 1000 --few 100 --rounds 1 --sparse-records 3000 --sparse-bytes 1000000"),
+    ("backup", "--transactions 20 --size 100 --day 5 --rounds 1"), ("pack", "--records 10201 --rounds 1"), ("check", "--records 1000 --few 100 --rounds 1 --sparse-records 3000 --sparse-bytes 1000000"),
     ("children", "--children 50 --folders 4 --rounds 1"), ("commits", "--part opening --records 1000 --rounds 1"),
     ("dump", "--records 1000 --rounds 1"), ("linear", ""), ("listing", "--rounds 1"), ("pages", "--pages 100 --rounds 1"),
     ("replay", "--transactions 20 --size 100 --requests 3 --rounds 1"), ("serving", "0.1"),
