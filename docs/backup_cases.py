@@ -562,4 +562,5 @@ def main():
         put()
 
 
-main()
+if __name__ == "__main__":
+    main()

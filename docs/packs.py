@@ -235,4 +235,5 @@ def main():
         put_case(f"a limit of {limit}", worked_file, 8, limit)
 
 
-main()
+if __name__ == "__main__":
+    main()

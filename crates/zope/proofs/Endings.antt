@@ -9,11 +9,14 @@ use Rattle.backups.specs.declared.refusal.BackupRefusal.TheVariants as backup
 use Rattle.backups.specs.declared.refusal.RestoreRefusal.{RestoreRefusal}
 use Rattle.backups.specs.declared.refusal.RestoreRefusal.TheVariants as restore
 use Rattle.file_server.specs.declared.refusal.FileRefusal.{FileRefusal}
-use Rattle.words.specs.Asking.{Asked, Backup, Check, Dump, Init, Replay, Restore, Serve}
+use Rattle.words.specs.Asking.{Asked, Backup, Check, Dump, Init, Pack, Replay, Restore, Serve}
 use Rattle.zope.specs.BackupCauses.{of_backup}
 use Rattle.zope.specs.Causes.{Cause, CauseOf, Names, NoCause, last_line}
 use Rattle.zope.specs.Ends.{Ends, status_of}
 use Rattle.zope.specs.Outside.{OutsideView, SinkFailed, told}
+use Rattle.file_packer.specs.declared.refusal.FilePackRefusal.{FilePackRefusal}
+use Rattle.file_packer.specs.declared.refusal.FilePackRefusal.TheVariants as pack
+use Rattle.zope.specs.PackCauses.{of_pack}
 use Rattle.zope.specs.RestoreCauses.{of_restore}
 use Rattle.zope.specs.ServeCauses.{of_served}
 use Rattle.zope.specs.Words.{IsCommand, IsNamed}
@@ -30,7 +33,7 @@ not_sinks FileRefusal.Disk is = cc
 not_sinks FileRefusal.Hub is = cc
 not_sinks FileRefusal.Memory is = cc
 
--- and none of a backup or of a restore
+-- and none of a backup, of a restore or of a pack
 not_backups : (refusal : BackupRefusal) → Refusal.Output ≡ of_backup refusal → ⊥
 not_backups backup.Missing is = cc
 not_backups (backup.TooLong n) is = cc
@@ -46,6 +49,16 @@ not_restores (restore.BadPiece name) is = cc
 not_restores restore.Exists is = cc
 not_restores restore.Disk is = cc
 not_restores restore.Memory is = cc
+
+not_packs : (refusal : FilePackRefusal) → Refusal.Output ≡ of_pack refusal → ⊥
+not_packs pack.Missing is = cc
+not_packs (pack.TooLong n) is = cc
+not_packs (pack.Damaged kind place) is = cc
+not_packs (pack.Unreadable oid) is = cc
+not_packs (pack.Full need limit) is = cc
+not_packs pack.Exists is = cc
+not_packs pack.Disk is = cc
+not_packs pack.Memory is = cc
 
 sink_of : (asked : Asked) (old mid : OutsideView) → CauseOf asked old mid Refusal.Output → SinkFailed old mid
 sink_of (Init file name password) old mid (inl legible) = absurd legible.0
@@ -63,6 +76,8 @@ sink_of (Backup file repo full) old mid (inl refused) = absurd (not_backups refu
 sink_of (Backup file repo full) old mid (inr print) = print.printed.0
 sink_of (Restore repo name) old mid (inl refused) = absurd (not_restores refused.0.refusal refused.0.is)
 sink_of (Restore repo name) old mid (inr print) = print.printed.0
+sink_of (Pack file before) old mid (inl refused) = absurd (not_packs refused.0.refusal refused.0.is)
+sink_of (Pack file before) old mid (inr print) = print.printed.0
 
 -- a refusal for the sink has it that the sink failed
 sink_cause : (words : List (List ℕ)) (old mid : OutsideView) → Cause words old mid Refusal.Output → SinkFailed old mid
@@ -118,6 +133,9 @@ refused_ends words old mid line sink Refusal.Missing status c le later six named
 refused_ends words old mid line sink Refusal.InputTooLarge status c le later six named = let other : Refusal.InputTooLarge ≡ Refusal.Output → ⊥ = λ is. let bad = is in cc in other_ends words old mid line sink Refusal.InputTooLarge status c le later (named other)
 refused_ends words old mid line sink (Refusal.FileTooLarge n) status c le later six named = let other : (Refusal.FileTooLarge n) ≡ Refusal.Output → ⊥ = λ is. let bad = is in cc in other_ends words old mid line sink (Refusal.FileTooLarge n) status c le later (named other)
 refused_ends words old mid line sink (Refusal.TooLong n) status c le later six named = let other : (Refusal.TooLong n) ≡ Refusal.Output → ⊥ = λ is. let bad = is in cc in other_ends words old mid line sink (Refusal.TooLong n) status c le later (named other)
+refused_ends words old mid line sink (Refusal.Unreadable oid) status c le later six named = let other : (Refusal.Unreadable oid) ≡ Refusal.Output → ⊥ = λ is. let bad = is in cc in other_ends words old mid line sink (Refusal.Unreadable oid) status c le later (named other)
+refused_ends words old mid line sink Refusal.PackExists status c le later six named = let other : Refusal.PackExists ≡ Refusal.Output → ⊥ = λ is. let bad = is in cc in other_ends words old mid line sink Refusal.PackExists status c le later (named other)
+refused_ends words old mid line sink (Refusal.Full need limit) status c le later six named = let other : (Refusal.Full need limit) ≡ Refusal.Output → ⊥ = λ is. let bad = is in cc in other_ends words old mid line sink (Refusal.Full need limit) status c le later (named other)
 refused_ends words old mid line sink Refusal.MissingIndex status c le later six named = let other : Refusal.MissingIndex ≡ Refusal.Output → ⊥ = λ is. let bad = is in cc in other_ends words old mid line sink Refusal.MissingIndex status c le later (named other)
 refused_ends words old mid line sink (Refusal.BadIndex n) status c le later six named = let other : (Refusal.BadIndex n) ≡ Refusal.Output → ⊥ = λ is. let bad = is in cc in other_ends words old mid line sink (Refusal.BadIndex n) status c le later (named other)
 refused_ends words old mid line sink (Refusal.BadPiece piece) status c le later six named = let other : (Refusal.BadPiece piece) ≡ Refusal.Output → ⊥ = λ is. let bad = is in cc in other_ends words old mid line sink (Refusal.BadPiece piece) status c le later (named other)

@@ -75,6 +75,9 @@ unscanned files name failed (Refusal.FileTooLarge n) missing damaged long disk t
 unscanned files name failed Refusal.MissingIndex missing damaged long disk there others = absurd others
 unscanned files name failed (Refusal.BadIndex n) missing damaged long disk there others = absurd others
 unscanned files name failed (Refusal.BadPiece piece) missing damaged long disk there others = absurd others
+unscanned files name failed (Refusal.Unreadable oid) missing damaged long disk there others = absurd others
+unscanned files name failed Refusal.PackExists missing damaged long disk there others = absurd others
+unscanned files name failed (Refusal.Full need most) missing damaged long disk there others = absurd others
 unscanned files name failed Refusal.NamesSpent missing damaged long disk there others = absurd others
 
 -- the damage that a scan of the disk's bytes met is the command's
@@ -126,4 +129,7 @@ module _ {T : Type 0} (files : Option (List Entry)) (name : List ℕ) (told : Op
   undumped (Err Refusal.MissingIndex) damaged long missing failed rose others = absurd others
   undumped (Err (Refusal.BadIndex n)) damaged long missing failed rose others = absurd others
   undumped (Err (Refusal.BadPiece piece)) damaged long missing failed rose others = absurd others
+  undumped (Err (Refusal.Unreadable oid)) damaged long missing failed rose others = absurd others
+  undumped (Err Refusal.PackExists) damaged long missing failed rose others = absurd others
+  undumped (Err (Refusal.Full need most)) damaged long missing failed rose others = absurd others
   undumped (Err Refusal.NamesSpent) damaged long missing failed rose others = absurd others

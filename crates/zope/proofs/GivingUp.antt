@@ -2,7 +2,7 @@
 use Rattle.std.proofs.Common.{◌≡◌, ℕ, [], ◌∷◌, Option, Some, refl, subst, inl, inr, ◌∙◌, ap, arith}
 use Rattle.std.specs.Prelude.{codes}
 use Rattle.clap.proofs.OnLiterals.{clap_on_literals}
-use Rattle.words.specs.Asking.{Asked, Check, asked_of}
+use Rattle.words.specs.Asking.{Asked, Check, asked_of, by_subcommand}
 use Rattle.fs_record.specs.File.{front_of, magic}
 use Rattle.fs_record.specs.Opening.{Cut, is_end}
 use Rattle.zope.specs.Causes.{DidAs, NoCause}
@@ -17,7 +17,7 @@ unfolding is_end
 opens = ([], record { file = magic; is_file = record { blocks = []; right = tt; spelled = refl; said = refl }; joined = refl; at = refl }, refl)
 
 asks : asked_of checking ≡ Some (Check (codes "a"))
-unfolding clap_on_literals
+unfolding clap_on_literals by_subcommand
 asks = refl
 
 sound : NoCause checking untouched untouched

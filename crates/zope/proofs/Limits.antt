@@ -7,7 +7,7 @@ use Rattle.std.proofs.lemmas.Bool.Decides.{nat_tests}
 use Rattle.clap.specs.Words.{Row, Text, first_of, subcommand_of}
 use Rattle.fs_store.specs.Stores.{most_length}
 use Rattle.words.specs.CommandLine.{zope}
-use Rattle.words.specs.Asking.{Asked, Backup, Check, Dump, Init, Replay, Restore, Serve, above_zero, asked_of, backup_in, backup_of, by_name, by_subcommand, check_of, clients_in, clients_of, connections_of, dump_of, init_of, is_given, is_index_of, limit_in, limit_of, number_of, port_of, replay_of, repo_of, restore_of, serve_of}
+use Rattle.words.specs.Asking.{Asked, Backup, Check, Dump, Init, Pack, Replay, Restore, Serve, above_zero, asked_of, backup_in, backup_of, by_name, by_subcommand, check_of, clients_in, clients_of, connections_of, dump_of, init_of, is_given, is_index_of, limit_in, limit_of, number_of, pack_of, pack_tid, port_of, replay_of, repo_of, restore_of, serve_of}
 
 abbrev IsWithin : Asked → Type 0
 IsWithin (Init file name password) = Unit {0}
@@ -17,6 +17,7 @@ IsWithin (Check file) = Unit {0}
 IsWithin (Dump file) = Unit {0}
 IsWithin (Backup file repo full) = Unit {0}
 IsWithin (Restore repo name) = Unit {0}
+IsWithin (Pack file before) = Unit {0}
 
 Within : Option Asked → Type 0
 Within o = IfSome o IsWithin
@@ -103,6 +104,12 @@ restores None o = tt
 restores (Some repo) None = tt
 restores (Some repo) (Some name) = tt
 
+packs : (f : Option Text) (t : Option ℕ) → Within (option_and_then (λ file. option_map (Pack file) t) f)
+unfolding Within
+packs None t = tt
+packs (Some file) None = tt
+packs (Some file) (Some before) = tt
+
 named : (name : Text) (rows : List Row) → Within (by_name name rows)
 named name rows =
     either _ (init_of rows) _ (inits (first_of (codes "FILE") rows) (first_of (codes "NAME") rows) (first_of (codes "PASSWORD") rows))
@@ -111,9 +118,11 @@ named name rows =
     (either _ (check_of rows) _ (checks (first_of (codes "FILE") rows))
     (either _ (dump_of rows) _ (dumps (first_of (codes "FILE") rows))
     (either _ (backup_of rows) _ (backups rows (first_of (codes "FILE") rows) (repo_of rows))
-    (either _ (restore_of rows) None (restores (repo_of rows) (first_of (codes "OUT") rows)) none))))))
+    (either _ (restore_of rows) _ (restores (repo_of rows) (first_of (codes "OUT") rows))
+    (either _ (pack_of rows) None (packs (first_of (codes "FILE") rows) (pack_tid rows)) none)))))))
 
 found : (o : Option (Text × List Row)) → Within (by_subcommand o)
+unfolding by_subcommand
 found None = none
 found (Some p) = named p.0 p.1
 

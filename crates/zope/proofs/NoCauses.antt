@@ -23,15 +23,21 @@ use Rattle.backups.specs.declared.refusal.BackupRefusal.{BackupRefusal}
 use Rattle.backups.specs.declared.refusal.BackupRefusal.TheVariants as backup
 use Rattle.backups.specs.declared.refusal.RestoreRefusal.{RestoreRefusal}
 use Rattle.backups.specs.declared.refusal.RestoreRefusal.TheVariants as restore
+use Rattle.file_packer.specs.Packing as Packing
+use Rattle.file_packer.specs.declared.refusal.FilePackRefusal.{FilePackRefusal}
+use Rattle.file_packer.specs.declared.refusal.FilePackRefusal.TheVariants as pack
+use Rattle.fs_pack.specs.Plans.{LacksObject, PassesLimit}
+use Rattle.site_links.specs.Linked.{linked}
 use Rattle.file_server.specs.Kept as Serving
 use Rattle.file_server.specs.Shelved.{IsThere}
 use Rattle.file_server.specs.declared.refusal.FileRefusal.{FileRefusal}
 use Rattle.zope.specs.Causes.{Cause, CauseOf, NoCause, NoCauseOf, WordsCause}
 use Rattle.zope.specs.MakeCauses.{LegibleCause, MakeCause, NewCause, NoMakeCause}
-use Rattle.words.specs.Asking.{Asked, Backup, Check, Dump, Init, Replay, Restore, Serve, asked_of}
+use Rattle.words.specs.Asking.{Asked, Backup, Check, Dump, Init, Pack, Replay, Restore, Serve, asked_of}
 use Rattle.zope.specs.Outside.{DiskFailed, HubFailed, OutsideView, ShelfFailed, SinkFailed, SourceFailed, told}
 use Rattle.zope.specs.ServeCauses.{NoServeCause, of_served}
 use Rattle.zope.specs.BackupCauses.{BackupCause, NoBackupCause, of_backup}
+use Rattle.zope.specs.PackCauses.{NoPackCause, PackCause, of_pack}
 use Rattle.zope.specs.RestoreCauses.{NoRestoreCause, RestoreCause, of_restore}
 use Rattle.zope.specs.CheckCauses.{CheckCause, PrintCause, ScanCause}
 use Rattle.zope.specs.DumpCauses.{DumpCause}
@@ -90,6 +96,9 @@ of_input input text failed items given within spells law calm (Refusal.TooLong n
 of_input input text failed items given within spells law calm Refusal.MissingIndex cause = absurd cause
 of_input input text failed items given within spells law calm (Refusal.BadIndex n) cause = absurd cause
 of_input input text failed items given within spells law calm (Refusal.BadPiece piece) cause = absurd cause
+of_input input text failed items given within spells law calm (Refusal.Unreadable oid) cause = absurd cause
+of_input input text failed items given within spells law calm Refusal.PackExists cause = absurd cause
+of_input input text failed items given within spells law calm (Refusal.Full need most) cause = absurd cause
 of_input input text failed items given within spells law calm Refusal.NamesSpent cause = absurd cause
 
 has_same : (files : Option (List Entry)) (entries : List Entry) (name a b : List ℕ) → files ≡ Some entries → file_at entries name ≡ Some a → HasFile files name b → a ≡ b
@@ -115,6 +124,9 @@ of_file files entries name bytes failed shelf there fits calm (Refusal.TooLong n
 of_file files entries name bytes failed shelf there fits calm Refusal.MissingIndex cause = absurd cause
 of_file files entries name bytes failed shelf there fits calm (Refusal.BadIndex n) cause = absurd cause
 of_file files entries name bytes failed shelf there fits calm (Refusal.BadPiece piece) cause = absurd cause
+of_file files entries name bytes failed shelf there fits calm (Refusal.Unreadable oid) cause = absurd cause
+of_file files entries name bytes failed shelf there fits calm Refusal.PackExists cause = absurd cause
+of_file files entries name bytes failed shelf there fits calm (Refusal.Full need most) cause = absurd cause
 of_file files entries name bytes failed shelf there fits calm Refusal.NamesSpent cause = absurd cause
 
 of_run : (limit : ℕ) (bytes : List ℕ) (items : List Item2) (failed : Type 0) (old new : Option (List ℕ)) (front : Front) (end : ℕ) → Cut bytes front end → NotDamaged → ((n : ℕ) → Broke limit bytes items old new n → ⊥) → (failed → ⊥) → (e : Refusal) → RunCause limit bytes items failed old new e → e ≡ Refusal.Memory
@@ -134,6 +146,9 @@ of_run limit bytes items failed old new front end opens law runs calm (Refusal.T
 of_run limit bytes items failed old new front end opens law runs calm Refusal.MissingIndex cause = absurd cause
 of_run limit bytes items failed old new front end opens law runs calm (Refusal.BadIndex n) cause = absurd cause
 of_run limit bytes items failed old new front end opens law runs calm (Refusal.BadPiece piece) cause = absurd cause
+of_run limit bytes items failed old new front end opens law runs calm (Refusal.Unreadable oid) cause = absurd cause
+of_run limit bytes items failed old new front end opens law runs calm Refusal.PackExists cause = absurd cause
+of_run limit bytes items failed old new front end opens law runs calm (Refusal.Full need most) cause = absurd cause
 of_run limit bytes items failed old new front end opens law runs calm Refusal.NamesSpent cause = absurd cause
 
 kept_same : (files : Option (List Entry)) (entries : List Entry) (name bytes : List ℕ) (P : List ℕ → Type 0) → files ≡ Some entries → file_at entries name ≡ Some bytes → IfKept files name P → P bytes
@@ -161,6 +176,9 @@ of_scan files entries name bytes front end failed shelf there fits opens law cal
 of_scan files entries name bytes front end failed shelf there fits opens law calm Refusal.MissingIndex cause = absurd cause
 of_scan files entries name bytes front end failed shelf there fits opens law calm (Refusal.BadIndex n) cause = absurd cause
 of_scan files entries name bytes front end failed shelf there fits opens law calm (Refusal.BadPiece piece) cause = absurd cause
+of_scan files entries name bytes front end failed shelf there fits opens law calm (Refusal.Unreadable oid) cause = absurd cause
+of_scan files entries name bytes front end failed shelf there fits opens law calm Refusal.PackExists cause = absurd cause
+of_scan files entries name bytes front end failed shelf there fits opens law calm (Refusal.Full need most) cause = absurd cause
 of_scan files entries name bytes front end failed shelf there fits opens law calm Refusal.NamesSpent cause = absurd cause
 
 of_print : (failed : Type 0) (text : List ℕ) (old new : Option (List ℕ)) → (failed → ⊥) → (e : Refusal) → PrintCause failed text old new e → e ≡ Refusal.Memory
@@ -180,6 +198,9 @@ of_print failed text old new calm (Refusal.TooLong n) cause = absurd cause
 of_print failed text old new calm Refusal.MissingIndex cause = absurd cause
 of_print failed text old new calm (Refusal.BadIndex n) cause = absurd cause
 of_print failed text old new calm (Refusal.BadPiece piece) cause = absurd cause
+of_print failed text old new calm (Refusal.Unreadable oid) cause = absurd cause
+of_print failed text old new calm Refusal.PackExists cause = absurd cause
+of_print failed text old new calm (Refusal.Full need most) cause = absurd cause
 of_print failed text old new calm Refusal.NamesSpent cause = absurd cause
 
 -- the sink of the whole run has failed where that of the command has
@@ -219,6 +240,9 @@ dump_memory name files sink more disk old new (Refusal.FileTooLarge n) law wider
 dump_memory name files sink more disk old new Refusal.MissingIndex law wider c meets = absurd c
 dump_memory name files sink more disk old new (Refusal.BadIndex n) law wider c meets = absurd c
 dump_memory name files sink more disk old new (Refusal.BadPiece piece) law wider c meets = absurd c
+dump_memory name files sink more disk old new (Refusal.Unreadable oid) law wider c meets = absurd c
+dump_memory name files sink more disk old new Refusal.PackExists law wider c meets = absurd c
+dump_memory name files sink more disk old new (Refusal.Full need most) law wider c meets = absurd c
 dump_memory name files sink more disk old new Refusal.NamesSpent law wider c meets = absurd c
 
 of_legible : (file name password : List ℕ) (files : Option (List Entry)) (sink disk : Type 0) → (e : Refusal) → LegibleCause name password e → NoMakeCause file name password files sink disk → e ≡ Refusal.Memory
@@ -238,6 +262,9 @@ of_legible file name password files sink disk (Refusal.TooLong n) cause meets = 
 of_legible file name password files sink disk Refusal.MissingIndex cause meets = absurd cause
 of_legible file name password files sink disk (Refusal.BadIndex n) cause meets = absurd cause
 of_legible file name password files sink disk (Refusal.BadPiece piece) cause meets = absurd cause
+of_legible file name password files sink disk (Refusal.Unreadable oid) cause meets = absurd cause
+of_legible file name password files sink disk Refusal.PackExists cause meets = absurd cause
+of_legible file name password files sink disk (Refusal.Full need most) cause meets = absurd cause
 of_legible file name password files sink disk Refusal.NamesSpent cause meets = absurd cause
 
 of_new : (files : Option (List Entry)) (entries : List Entry) (file : List ℕ) (failed : Type 0) → files ≡ Some entries → file_at entries file ≡ None → (failed → ⊥) → (e : Refusal) → NewCause files file failed e → e ≡ Refusal.Memory
@@ -257,6 +284,9 @@ of_new files entries file failed shelf absent calm (Refusal.TooLong n) cause = a
 of_new files entries file failed shelf absent calm Refusal.MissingIndex cause = absurd cause
 of_new files entries file failed shelf absent calm (Refusal.BadIndex n) cause = absurd cause
 of_new files entries file failed shelf absent calm (Refusal.BadPiece piece) cause = absurd cause
+of_new files entries file failed shelf absent calm (Refusal.Unreadable oid) cause = absurd cause
+of_new files entries file failed shelf absent calm Refusal.PackExists cause = absurd cause
+of_new files entries file failed shelf absent calm (Refusal.Full need most) cause = absurd cause
 of_new files entries file failed shelf absent calm Refusal.NamesSpent cause = absurd cause
 
 make_memory : (file name password : List ℕ) (files : Option (List Entry)) (sink more disk : Type 0) (old new : Option (List ℕ)) (e : Refusal) → (sink → more) → MakeCause file name password files sink disk old new e → NoMakeCause file name password files more disk → e ≡ Refusal.Memory
@@ -281,6 +311,9 @@ of_words words (Refusal.TooLong n) is cause = absurd cause
 of_words words Refusal.MissingIndex is cause = absurd cause
 of_words words (Refusal.BadIndex n) is cause = absurd cause
 of_words words (Refusal.BadPiece piece) is cause = absurd cause
+of_words words (Refusal.Unreadable oid) is cause = absurd cause
+of_words words Refusal.PackExists is cause = absurd cause
+of_words words (Refusal.Full need most) is cause = absurd cause
 of_words words Refusal.NamesSpent is cause = absurd cause
 
 -- ---- a server
@@ -343,6 +376,36 @@ restore_memory : (repo name : List ℕ) (files now : Option (List Entry)) (sink 
 restore_memory repo name files now sink more disk old new e one not_both wider (inl c) meets = c.0.is ∙ of_unrestored repo name files more disk one not_both meets c.0.refusal c.0.cause
 restore_memory repo name files now sink more disk old new e one not_both wider (inr c) meets = of_print sink _ old new (λ rose. meets.sink_calm (wider rose)) e c.printed
 
+-- ---- a pack
+
+of_unpacked : (file : List ℕ) (t : ℕ) (files : Option (List Entry)) (sink disk : Type 0) → NotDamaged → NoPackCause file t files sink disk → (refusal : FilePackRefusal) → Packing.FilePackCause linked file t files disk refusal → of_pack refusal ≡ Refusal.Memory
+of_unpacked file t files sink disk law meets pack.Memory cause = refl
+of_unpacked file t files sink disk law meets pack.Missing cause =
+    absurd (not_none (file_at meets.entries file) meets.bytes meets.there (subst (λ f. IfSome f (λ all. file_at all file ≡ None)) meets.shelf cause))
+of_unpacked file t files sink disk law meets (pack.TooLong n) cause =
+    let held = subst (λ f. IfSome f (λ all. (bytes : List ℕ) × (file_at all file ≡ Some bytes) × (n ≡ length bytes))) meets.shelf cause.1 in
+    let long : n ≡ length meets.bytes = held.2 ∙ ap length (same_bytes (file_at meets.entries file) held.0 meets.bytes held.1 meets.there) in
+    absurd (omega (arith, cause.0, long, meets.fits))
+of_unpacked file t files sink disk law meets (pack.Damaged kind place) cause =
+    let held = subst (λ f. IfSome f (λ all. Packing.HasFile all file (λ bytes. Damaged bytes place kind))) meets.shelf cause in
+    let same : held.0 ≡ meets.bytes = same_bytes (file_at meets.entries file) held.0 meets.bytes held.1 meets.there in
+    absurd (law meets.bytes meets.front meets.end place kind meets.opens (subst (λ (b : List ℕ). Damaged b place kind) same held.3))
+of_unpacked file t files sink disk law meets (pack.Unreadable oid) cause =
+    let held = subst (λ f. IfSome f (λ all. Packing.HasFile all file (λ bytes. LacksObject linked bytes t oid))) meets.shelf cause in
+    let same : held.0 ≡ meets.bytes = same_bytes (file_at meets.entries file) held.0 meets.bytes held.1 meets.there in
+    absurd (meets.readable oid (subst (λ (b : List ℕ). LacksObject linked b t oid) same held.3))
+of_unpacked file t files sink disk law meets (pack.Full need limit) cause =
+    let held = subst (λ f. IfSome f (λ all. Packing.HasFile all file (λ bytes. PassesLimit linked bytes t need limit))) meets.shelf cause.1 in
+    let same : held.0 ≡ meets.bytes = same_bytes (file_at meets.entries file) held.0 meets.bytes held.1 meets.there in
+    absurd (meets.within need (subst (λ (n : ℕ). PassesLimit linked meets.bytes t need n) cause.0 (subst (λ (b : List ℕ). PassesLimit linked b t need limit) same held.3)))
+of_unpacked file t files sink disk law meets pack.Exists cause =
+    absurd ((subst (λ f. IfSome f (λ all. Packing.HasFile all file (Packing.HasPlan linked t) × (file_at all (Packing.pack_name file) ≡ None → ⊥))) meets.shelf cause).1 meets.absent)
+of_unpacked file t files sink disk law meets pack.Disk cause = absurd (meets.disk_calm cause)
+
+pack_memory : (file : List ℕ) (t : ℕ) (files now : Option (List Entry)) (sink more disk : Type 0) (old new : Option (List ℕ)) (e : Refusal) → NotDamaged → (sink → more) → PackCause file t files now sink disk old new e → NoPackCause file t files more disk → e ≡ Refusal.Memory
+pack_memory file t files now sink more disk old new e law wider (inl c) meets = c.0.is ∙ of_unpacked file t files more disk law meets c.0.refusal c.0.cause
+pack_memory file t files now sink more disk old new e law wider (inr c) meets = of_print sink _ old new (λ rose. meets.sink_calm (wider rose)) e c.printed
+
 -- ---- words ask for one thing
 
 asks_one : (o : Option Asked) (a b : Asked) → o ≡ Some a → o ≡ Some b → a ≡ b
@@ -369,6 +432,8 @@ of_command (Backup file repo full) old mid line sink e laws later cause meets =
     backup_memory file repo full old.files mid.files (SinkFailed old mid) (Rose old.sink sink) (DiskFailed old mid) old.written mid.written e laws.opening (rose_after old.sink mid.sink sink later) cause meets
 of_command (Restore repo name) old mid line sink e laws later cause meets =
     restore_memory repo name old.files mid.files (SinkFailed old mid) (Rose old.sink sink) (DiskFailed old mid) old.written mid.written e laws.index laws.row (rose_after old.sink mid.sink sink later) cause meets
+of_command (Pack file before) old mid line sink e laws later cause meets =
+    pack_memory file before old.files mid.files (SinkFailed old mid) (Rose old.sink sink) (DiskFailed old mid) old.written mid.written e laws.opening (rose_after old.sink mid.sink sink later) cause meets
 
 pub only_memory : (words : List (List ℕ)) (old mid : OutsideView) (line : Option (List ℕ)) (sink : Counter) (e : Refusal) → Laws → mid.sink.count ≤ sink.count → Cause words old mid e → NoCause words old (told mid line sink) → e ≡ Refusal.Memory
 only_memory words old mid line sink e laws later (inl c) meets = of_words words e (meets.0, meets.1) c.0
@@ -383,6 +448,7 @@ calm_sink (Check file) old new meets = meets.sink_calm
 calm_sink (Dump file) old new meets = meets.sink_calm
 calm_sink (Backup file repo full) old new meets = meets.sink_calm
 calm_sink (Restore repo name) old new meets = meets.sink_calm
+calm_sink (Pack file before) old new meets = meets.sink_calm
 
 pub sink_is_calm : (words : List (List ℕ)) (old new : OutsideView) → NoCause words old new → SinkFailed old new → ⊥
 sink_is_calm words old new meets = calm_sink meets.0 old new meets.2

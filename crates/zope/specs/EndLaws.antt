@@ -23,6 +23,9 @@ of_words words Refusal.Exists cause = absurd cause
 of_words words Refusal.InputTooLarge cause = absurd cause
 of_words words (Refusal.FileTooLarge n) cause = absurd cause
 of_words words (Refusal.TooLong n) cause = absurd cause
+of_words words (Refusal.Unreadable oid) cause = absurd cause
+of_words words Refusal.PackExists cause = absurd cause
+of_words words (Refusal.Full need limit) cause = absurd cause
 of_words words Refusal.MissingIndex cause = absurd cause
 of_words words (Refusal.BadIndex n) cause = absurd cause
 of_words words (Refusal.BadPiece piece) cause = absurd cause
@@ -44,11 +47,8 @@ used words old new status (inr (inl (e, is, comes))) other =
 used words old new status (inr (inr (inl six))) other = inr (inl six.0)
 used words old new status (inr (inr (inr seven))) other = inr (inr seven)
 
-between : (status n : ℕ) → status ≡ n → 2 ≤ n → n ≤ 12 → IsStatus status
-between status n is least most = inr (inl (omega (arith, is, least), omega (arith, is, most)))
-
-of_repository : (status n : ℕ) → status ≡ n → 15 ≤ n → n ≤ 17 → IsStatus status
-of_repository status n is least most = inr (inr (omega (arith, is, least), omega (arith, is, most)))
+between : (status n : ℕ) → status ≡ n → 2 ≤ n → n ≤ 17 → IsStatus status
+between status n is least most = inr (omega (arith, is, least), omega (arith, is, most))
 
 of_refusal : (status : ℕ) (e : Refusal) → status ≡ status_of e → IsStatus status
 of_refusal status Refusal.Usage is = between status 2 is (omega arith) (omega arith)
@@ -64,10 +64,13 @@ of_refusal status Refusal.Exists is = between status 11 is (omega arith) (omega 
 of_refusal status Refusal.InputTooLarge is = between status 9 is (omega arith) (omega arith)
 of_refusal status (Refusal.FileTooLarge n) is = between status 9 is (omega arith) (omega arith)
 of_refusal status (Refusal.TooLong n) is = between status 12 is (omega arith) (omega arith)
+of_refusal status (Refusal.Unreadable oid) is = between status 13 is (omega arith) (omega arith)
+of_refusal status Refusal.PackExists is = between status 11 is (omega arith) (omega arith)
+of_refusal status (Refusal.Full need limit) is = between status 14 is (omega arith) (omega arith)
 of_refusal status Refusal.MissingIndex is = between status 8 is (omega arith) (omega arith)
-of_refusal status (Refusal.BadIndex n) is = of_repository status 15 is (omega arith) (omega arith)
-of_refusal status (Refusal.BadPiece piece) is = of_repository status 16 is (omega arith) (omega arith)
-of_refusal status Refusal.NamesSpent is = of_repository status 17 is (omega arith) (omega arith)
+of_refusal status (Refusal.BadIndex n) is = between status 15 is (omega arith) (omega arith)
+of_refusal status (Refusal.BadPiece piece) is = between status 16 is (omega arith) (omega arith)
+of_refusal status Refusal.NamesSpent is = between status 17 is (omega arith) (omega arith)
 
 -- there is no other status
 pub known : (words : List (List ℕ)) (old new : OutsideView) (status : ℕ) → Ends words old new status → IsStatus status

@@ -19,6 +19,9 @@ status_of Refusal.Exists = 11
 status_of Refusal.InputTooLarge = 9
 status_of (Refusal.FileTooLarge n) = 9
 status_of (Refusal.TooLong n) = 12
+status_of (Refusal.Unreadable oid) = 13
+status_of Refusal.PackExists = 11
+status_of (Refusal.Full need limit) = 14
 status_of Refusal.MissingIndex = 8
 status_of (Refusal.BadIndex n) = 15
 status_of (Refusal.BadPiece name) = 16
@@ -35,4 +38,4 @@ Ends words old new status =
 
 -- the statuses that there are
 abbrev pub IsStatus : ℕ → Type 0
-IsStatus status = (status ≡ 0) ⊎ (((2 ≤ status) × (status ≤ 12)) ⊎ ((15 ≤ status) × (status ≤ 17)))
+IsStatus status = (status ≡ 0) ⊎ ((2 ≤ status) × (status ≤ 17))

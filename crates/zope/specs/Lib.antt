@@ -11,6 +11,7 @@ pub mod Outside
 pub mod ServeCauses
 pub mod BackupCauses
 pub mod RestoreCauses
+pub mod PackCauses
 pub mod Causes
 pub mod Ends
 pub mod Worked

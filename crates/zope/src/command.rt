@@ -10,6 +10,7 @@ use crate::backing_up::back_up_file;
 use crate::checking::check_file;
 use crate::dumping::dump_file;
 use crate::making::make_new;
+use crate::packs::pack_site;
 use crate::refusal::Refusal;
 use crate::replaying::replay_file;
 use crate::restoring::restore_file;
@@ -54,12 +55,13 @@ pub fn names_of<'a>(asked: &Asked<'a>) -> Names<'a>
         Asked::Dump { file } => (*file, *file),
         Asked::Backup { file, .. } => (*file, *file),
         Asked::Restore { repo, out } => (*repo, *out),
+        Asked::Pack { file, .. } => (*file, *file),
     };
     Names { file, new }
 }
 
-/// Runs a command: `init`, `replay`, `serve`, `check`, `dump`, `backup` or `restore`. What is said of words holds of all that ask for
-/// it.
+/// Runs a command: `init`, `replay`, `serve`, `check`, `dump`, `backup`, `restore` or `pack`. What is said of words holds of all that
+/// ask for it.
 pub fn run_command<F: Shelf, S: Source, K: Sink, H: Hub, C: Clock>(
     alloc: Global,
     asked: Asked<'_>,
@@ -119,5 +121,6 @@ where
         Asked::Dump { file } => dump_file(alloc, file, files, out),
         Asked::Backup { file, repo, full } => back_up_file(alloc, file, repo, full, files, out),
         Asked::Restore { repo, out: name } => restore_file(alloc, repo, name, files, out),
+        Asked::Pack { file, before } => pack_site(alloc, file, before, files, out),
     }
 }

@@ -1,13 +1,23 @@
-ghost use Rattle.std.specs.Prelude.{◌≡◌, IsErrOf, MatchResult, OnOk, string_bytes};
+ghost use Rattle.std.specs.Prelude.{◌≡◌, IfOk, IsErrOf, MatchResult, OnOk, string_bytes};
 ghost use Rattle.std.specs.Io.KnownBytes.{append_known};
 ghost use Rattle.zbase.specs.Faults.{Counts};
 ghost use Rattle.zio.specs.Sinks.{AppendsFront};
-ghost use Rattle.zope.specs.Causes.{last_line};
+ghost use Rattle.zope.specs.Causes.{last_line, unreadable_line};
 
 use crate::inputs::MAX_INPUT;
 use crate::refusal::Refusal;
 use std::alloc::Global;
+use zbase::{Memory, Oid, Text};
 use zio::{OutsideRefusal, Sink};
+
+// The line that names an object whose bytes are no object's.
+fn unreadable_line(alloc: Global, oid: Oid) -> Result<String, Memory>
+    ensures { IfOk result (λ line. string_bytes line ≡ unreadable_line oid) }
+{
+    let mut digits = Text::new(alloc);
+    digits.push_hex16(oid.0)?;
+    Ok(format!(in alloc; "unreadable {}\n", digits.as_str())?)
+}
 
 /// Writes the last line of a command over the file or repository of that name, which says why it did not end well. The sink's own fault has
 /// none.
@@ -37,6 +47,11 @@ pub fn put_last_line<K: Sink>(
         Refusal::InputTooLarge => put_text(format!(in alloc; "too large {MAX_INPUT}\n"), out),
         Refusal::FileTooLarge(size) => put_text(format!(in alloc; "too large {size}\n"), out),
         Refusal::TooLong(size) => put_text(format!(in alloc; "too long {size}\n"), out),
+        Refusal::Unreadable(oid) => put_text(unreadable_line(alloc, oid), out),
+        Refusal::PackExists => put_text(format!(in alloc; "exists {name}.pack\n"), out),
+        Refusal::Full { need, limit } => {
+            put_text(format!(in alloc; "full {need} {limit}\n"), out)
+        }
         Refusal::MissingIndex => put_text(format!(in alloc; "missing {name}.dat\n"), out),
         Refusal::BadIndex(line) => put_text(format!(in alloc; "bad index {line}\n"), out),
         Refusal::BadPiece(piece) => {

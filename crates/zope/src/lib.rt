@@ -9,6 +9,7 @@ mod inputs;
 mod last_lines;
 mod laws;
 mod making;
+mod packs;
 mod refusal;
 mod replaying;
 mod restoring;

@@ -3,6 +3,7 @@ ghost use Rattle.zope.specs.BackupCauses.{of_backup};
 ghost use Rattle.zope.specs.CheckCauses.{of_scan};
 ghost use Rattle.zope.specs.DumpCauses.{of_dump};
 ghost use Rattle.zope.specs.MakeCauses.{of_make};
+ghost use Rattle.zope.specs.PackCauses.{of_pack};
 ghost use Rattle.zope.specs.ReplayCauses.{of_file, of_input, of_run, of_schedule};
 ghost use Rattle.zope.specs.RestoreCauses.{of_restore};
 ghost use Rattle.zope.specs.ServeCauses.{of_served};
@@ -11,6 +12,7 @@ ghost use Rattle.zope.specs.declared.refusal.InputRefusal.TheVariants.{Memory as
 ghost use Rattle.zope.specs.declared.refusal.Refusal.TheVariants.{Memory as RefusedMemory};
 
 use backups::{BackupRefusal, RestoreRefusal};
+use file_packer::FilePackRefusal;
 use file_server::FileRefusal as ServedRefusal;
 use fs_record::Damage;
 use fs_scan::ScanRefusal;
@@ -18,7 +20,7 @@ use new_site::MakeRefusal;
 use replay::{DumpRefusal, RunRefusal};
 use schedule::ScheduleRefusal;
 use std::alloc::{AllocError, AllocFailed};
-use zbase::{Memory, Text};
+use zbase::{Memory, Oid, Text};
 
 /// Why a command did not end well.
 #[derive(Debug, Drop)]
@@ -49,6 +51,12 @@ pub enum Refusal {
     FileTooLarge(u64),
     /// The file has so many bytes, which no file may have.
     TooLong(u64),
+    /// The least object that a pack keeps and whose bytes are no object's.
+    Unreadable(Oid),
+    /// The shelf has a file already under the name of the packed one.
+    PackExists,
+    /// The packed file would have so many bytes, more than the limit.
+    Full { need: u64, limit: u64 },
     /// The shelf has no index of that repository.
     MissingIndex,
     /// The line of the index with this number fits no rule.
@@ -250,6 +258,23 @@ impl From<RestoreRefusal> for Refusal {
             RestoreRefusal::Exists => Refusal::Exists,
             RestoreRefusal::Disk => Refusal::Disk,
             RestoreRefusal::Memory => Refusal::Memory,
+        }
+    }
+}
+
+impl From<FilePackRefusal> for Refusal {
+    ghost from_gives = { λ refusal e. e ≡ of_pack refusal };
+
+    fn from(refusal: FilePackRefusal) -> Refusal {
+        match refusal {
+            FilePackRefusal::Missing => Refusal::Missing,
+            FilePackRefusal::TooLong(size) => Refusal::TooLong(size),
+            FilePackRefusal::Damaged(kind, place) => Refusal::Damaged(kind, place),
+            FilePackRefusal::Unreadable(oid) => Refusal::Unreadable(oid),
+            FilePackRefusal::Full { need, limit } => Refusal::Full { need, limit },
+            FilePackRefusal::Exists => Refusal::PackExists,
+            FilePackRefusal::Disk => Refusal::Disk,
+            FilePackRefusal::Memory => Refusal::Memory,
         }
     }
 }

@@ -38,6 +38,9 @@ fn status_of(refusal: &Refusal) -> Status
         Refusal::InputTooLarge => Status(9),
         Refusal::FileTooLarge(_) => Status(9),
         Refusal::TooLong(_) => Status(12),
+        Refusal::Unreadable(_) => Status(13),
+        Refusal::PackExists => Status(11),
+        Refusal::Full { .. } => Status(14),
         Refusal::MissingIndex => Status(8),
         Refusal::BadIndex(_) => Status(15),
         Refusal::BadPiece(_) => Status(16),
@@ -84,7 +87,7 @@ where
     F::D: Drop,
     // With 0 the words' command did what it says: a replay wrote a report that explains the schedule, a server gave each connection
     // the reply of the report that its tape's items have, a check wrote the file's numbers, a dump its history, a new site its file,
-    // a backup put what is due of the file into its repository, and a restore made the file again.
+    // a backup put what is due of the file into its repository, a restore made the file again, and a pack left of the file what is needed.
     // Each other status is that of a refusal with its cause, which the last line names.
     ensures ends { let old = outside (F.files files.old) (F.sound_disks files.old) (F.lasts files.old) (F.counter files.old)
         (S.left input.old) (S.counter input.old) (K.written out.old) (K.counter out.old)
@@ -105,7 +108,8 @@ where
         NoCause (map string_bytes words.now) old new → (result.0 ≡ 0) ⊎ (result.0 ≡ 7) }
     // Whatever the status, each file that was there stays as it was, but for the site that is served and for an index that a whole new
     // one replaces, and the only new ones are that of a new site, or what there is of it where its making broke off, a server's record, a
-    // backup's piece and index, and the file that is restored.
+    // backup's piece and index, the file that is restored, and a part of a packed file whose pack broke off; a pack that ends well puts the
+    // packed file in the place of the old one.
     ensures files { LeavesFiles (map string_bytes words.now) (F.files files.old) (F.files files.new) }
     // Only a server asks the hub, only a replay reads its input, and only a new site and a server ask the clock.
     ensures alone { ((IsServe (map string_bytes words.now) → ⊥) → hub.new ≡ hub.old)

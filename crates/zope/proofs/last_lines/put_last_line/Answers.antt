@@ -28,3 +28,12 @@ returns-in-MissingIndex-clause-ok g c = rw c.in-MissingIndex.is (put_is c.put_te
 
 pub returns-in-NamesSpent-clause-ok : goal.returns-in-NamesSpent-clause-ok
 returns-in-NamesSpent-clause-ok g c = rw c.in-NamesSpent.is c.write_all-in-NamesSpent.ensures.ok
+
+pub returns-in-Unreadable-clause-ok : goal.returns-in-Unreadable-clause-ok
+returns-in-Unreadable-clause-ok g c = rw c.in-Unreadable.is (put_is c.put_text-in-Unreadable.result c.unreadable_line.result string_bytes _ _ _ c.put_text-in-Unreadable.ensures.ok c.unreadable_line.ensures)
+
+pub returns-in-PackExists-clause-ok : goal.returns-in-PackExists-clause-ok
+returns-in-PackExists-clause-ok g c = rw c.in-PackExists.is (put_is c.put_text-in-PackExists.result c.format-in-PackExists.result string_bytes _ _ _ c.put_text-in-PackExists.ensures.ok c.format-in-PackExists.ensures.ok)
+
+pub returns-in-Full-clause-ok : goal.returns-in-Full-clause-ok
+returns-in-Full-clause-ok g c = rw c.in-Full.is (put_is c.put_text-in-Full.result c.format-in-Full.result string_bytes _ _ _ c.put_text-in-Full.ensures.ok c.format-in-Full.ensures.ok)
