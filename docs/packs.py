@@ -183,6 +183,36 @@ def worked():
     ]
 
 
+def calls_of_pass(transactions):
+    """How often a pass over a file of less than 64 KiB calls its disk: for the file's length at each transaction and at the end, once
+    for its bytes, once for the records of each transaction, and for each record that points back three times: whose record that is, and
+    then its head and its value."""
+    back = sum(isinstance(value, Back) for transaction in transactions for _, value in transaction.records)
+    return len(transactions) + 1 + 1 + sum(bool(transaction.records) for transaction in transactions) + 3 * back
+
+
+def put_faults(transactions, file):
+    """Each call of a pack's disks fails, and then one that isn't made any more. A plan goes over the file twice, and asks in between for
+    its length, and of each object that is kept for the head and the value of its last record up to the pack, once. What is planned is
+    written by one more pass, and by a call for the packed file's first bytes, one for each transaction that stays and a sync."""
+    name, history = file
+    time = 8
+    found = kept(history, time)
+    left = packed(history, time, found)
+    size = len(file_of(left)[0])
+    read = {oid for transaction in history if transaction.tid <= time for oid, _ in transaction.records if oid in found}
+    one_pass = calls_of_pass(transactions)
+    planned = 2 * one_pass + 1 + 2 * len(read)
+    all_of = f"plan size {size}\npacked end {size} floor {floor_of(left):016x} transactions {len(left)}"
+    calls = [("from", call, "plan from" if call <= planned else f"plan size {size}\npacked from") for call in range(1, planned + one_pass + 1)]
+    calls += [("from", len(calls) + 1, all_of)]
+    calls += [("to", call, f"plan size {size}\npacked to") for call in range(1, len(left) + 3)] + [("to", len(left) + 3, all_of)]
+    for kind, call, came in calls:
+        print(f"case call {call} of the disk fails, {kind}")
+        print(f"file\n  use {name}")
+        print(f"before {time:016x}\nfailing {kind} {call}\n{came}\n")
+
+
 def each_time(title, file, times):
     for time in times:
         put_case(f"{title}, packed at {time}", file, time)
@@ -221,18 +251,18 @@ def main():
         print()
     for title, file, times in cases:
         each_time(title, file, times)
-    # the packed file is written by a call for its first bytes, one for each of its five transactions, and then it is synced
-    faults = [("from", call, "plan from") for call in (1, 2)] + [("to", call, "packed to") for call in (1, 2, 7)]
-    for kind, call, came in faults:
-        print(f"case call {call} of the disk fails, {kind}")
-        print("file\n  use worked")
-        print(f"before {8:016x}\nfailing {kind} {call}\n{came}\n")
+    put_faults(worked(), cases[0][1])
     print("case a file without its magic")
     print("file\n  | FS20\\")
     print(f"before {8:016x}\nplan damaged {BAD_MAGIC} 0\n")
     worked_file = cases[0][1]
     for limit in (0, 398, 399, 400):
         put_case(f"a limit of {limit}", worked_file, 8, limit)
+    # the same pack with one part told wrongly, each by itself
+    for wrong in ("plan size 398", f"packed end 399 floor {8:016x} transactions 4", "written\n  use worked"):
+        print(f"case what is compared differs: {wrong.split()[0]}")
+        print("file\n  use worked")
+        print(f"before {8:016x}\n{wrong}\ndiffers\n")
 
 
 if __name__ == "__main__":
