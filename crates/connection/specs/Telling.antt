@@ -38,6 +38,16 @@ tells_back None (Some b) on some = absurd on
 tells_back (Some a) None on some = absurd on
 tells_back (Some a) (Some b) on some = refl
 
+-- where an image at any moment since is one of what was told, or has what is said of it
+pub leaves_tell : (a b : Option Told) (P : List ℕ → List ℕ → Type 0) → LeavesFrom a b P → TellsOn a b
+leaves_tell None None P leaves = tt
+leaves_tell (Some a) (Some b) P leaves = leaves.0
+leaves_tell (Some a) None P leaves = leaves
+leaves_tell None (Some b) P leaves = leaves
+
+pub opening_tells : (old new : StoreView) → KeepsOpening old new → TellsOn old.disk.told new.disk.told
+opening_tells old new keeps = leaves_tell old.disk.told new.disk.told _ keeps
+
 leaves_still : (told : Option Told) (P : List ℕ → Type 0) → IfSome told (λ t. (image : List ℕ) → IsImage t.now image → P image) → LeavesFrom told told (λ file image. P image)
 leaves_still None P now = tt
 leaves_still (Some t) P now = (piles_none t, leaves_now t P now)

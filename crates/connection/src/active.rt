@@ -242,7 +242,7 @@ impl<E: Evaluator> Active<E> {
     /// fetched has a later serial, or where ids or the file's room are spent, in this order. A stale store is opened
     /// again first, and this is judged over what it then holds. The change is moved to its record: where memory is wanting or
     /// the disk fails in that, the attempt comes back without it.
-    #[tactic(auto, using(crate::proofs::Telling::opening_tells))]
+    #[tactic(auto, using(crate::specs::Telling::opening_tells))]
     pub fn vote<D: Disk + Drop>(
         mut self,
         store: &mut Store<D>,

@@ -69,7 +69,7 @@ impl<E: Evaluator> Fresh<E> {
 
     /// Begins an attempt: its snapshot is the last transaction, and it knows nothing yet. A stale store is opened
     /// again first, and can't be told from a fresh one behind this. With `Err` the request comes back.
-    #[tactic(auto, using(crate::proofs::Telling::opening_tells))]
+    #[tactic(auto, using(crate::specs::Telling::opening_tells))]
     pub fn begin<D: Disk + Drop>(
         self,
         store: &mut Store<D>,

@@ -29,7 +29,7 @@ fn found_of(oid: Oid, loaded: Loaded) -> (Fact, Option<Seen>)
 }
 
 // What the store's history up to the snapshot says to an ask, and the object that was read for it.
-#[tactic(auto, using(crate::proofs::Telling::opening_tells))]
+#[tactic(auto, using(crate::specs::Telling::opening_tells))]
 fn fact_of<D: Disk + Drop>(
     store: &mut Store<D>,
     ask: &Ask,

@@ -87,7 +87,7 @@ impl<E: Evaluator> Pending<E> {
     }
 
     /// The transaction never stands. Takes no memory. Where the disk failed the store is stale.
-    #[tactic(auto, using(crate::proofs::Telling::opening_tells))]
+    #[tactic(auto, using(crate::specs::Telling::opening_tells))]
     pub fn abort<D: Disk + Drop>(self, store: &mut Store<D>) -> Result<(), AbortRefusal>
         requires vote { IsVoteOf store.old self.tid }
         ensures gone { OnOk result (store.new ≡ voting store.old None store.new.disk) }

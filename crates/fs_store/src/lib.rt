@@ -16,6 +16,7 @@
 #![tactic(auto)]
 
 mod arming;
+mod copying;
 mod file;
 mod finding;
 mod finishing;

@@ -1,4 +1,4 @@
-ghost use Rattle.std.specs.Prelude.{◌≡◌, ◌⊎◌, ◌<◌, ◌≤◌, All, List, ℕ, false, true, IfErr, IfOk, IfSome, IsErr, IsErrOf, IsOk, None, OnErr, OnOk, Some, length, map};
+ghost use Rattle.std.specs.Prelude.{◌≡◌, ◌⊎◌, ◌+◌, ◌<◌, ◌≤◌, All, List, ℕ, false, true, IfErr, IfOk, IfSome, IsErr, IsErrOf, IsOk, None, OnErr, OnOk, Some, length, map};
 ghost use Rattle.std.specs.Option.{option_map};
 ghost use Rattle.zbase.specs.Faults.{Counts, Twice};
 ghost use Rattle.zbase.specs.History.{IsHistory};
@@ -33,7 +33,7 @@ use crate::{
 use evaluator::{Draft, LogRows, Parts};
 use std::alloc::Global;
 use std::marker::Model;
-use zbase::{Oid, Tid};
+use zbase::{Bytes, Oid, Tid};
 use zdisk::Disk;
 
 /// The history of a disk's file, which grows by voted transactions. It is read where it stands.
@@ -262,6 +262,29 @@ impl<D: Disk + Drop> Store<D> {
     {
         self.refresh()?;
         self.file.log(self.alloc, &mut self.disk, at)
+    }
+
+    /// The bytes of the disk's file, by one device call, where no vote is out: a file of the history, which is all that the disk
+    /// reads. A stale store is opened again first, which costs what an opening costs.
+    pub fn bytes(&mut self) -> Result<Bytes, LoadRefusal>
+        requires idle { self.old.out ≡ None }
+        ensures content { IfOk result (λ bytes. IfSome self.new.disk.told (λ told. bytes ≡ content told)) }
+        ensures whole { IfOk result (λ bytes. IsTold self.new → IsWhole self.new bytes) }
+        ensures long { IfOk result (λ bytes. length bytes ≡ self.new.end) }
+        ensures fresh { OnOk result (self.new.stale ≡ false) }
+        ensures settled { OnOk result (IsTold self.old → Settles self.old self.new) }
+        ensures stands { IsTold self.old → Stands self.old self.new }
+        ensures same { self.old.stale ≡ false → Stays self.old self.new }
+        ensures out { self.new.out ≡ self.old.out }
+        ensures limit { self.new.limit ≡ self.old.limit }
+        ensures tells { IsTold self.old → IsTold self.new }
+        ensures seen { (seen : Seen) → IsSeen self.old seen → IsSeen self.new seen }
+        ensures any_moment { KeepsOpening self.old self.new }
+        ensures reads { self.old.stale ≡ false → self.new.disk.counter.calls ≤ self.old.disk.counter.calls + 1 }
+        ensures counts { Counts self.old.disk.counter self.new.disk.counter (IsErrOf result LoadRefusal.Disk) }
+    {
+        self.refresh()?;
+        self.file.bytes(self.alloc, &mut self.disk)
     }
 
     /// Votes for a draft that rests on these reads, for a worker, where no vote is out; a stale store is opened again

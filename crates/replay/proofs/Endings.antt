@@ -2,7 +2,6 @@
 use Rattle.std.proofs.Common.{◌≡◌, ℕ, List, [], ◌∷◌, ◌++◌, false, Bool, Option, Some, None, refl, sym, ap, subst, ◌∙◌, inl, inr, map}
 use Rattle.zbase.specs.Faults.{Counts, IsFaultless}
 use Rattle.zbase.specs.History.{History, added}
-use Rattle.zdisk.specs.Crashes.{LeavesFrom}
 use Rattle.zdisk.specs.Disk.{Told}
 use Rattle.evaluator.specs.Exec.{Eval}
 use Rattle.schedule.specs.declared.line.Line.{Line}
@@ -27,12 +26,6 @@ settled_ends s closed last same undecided (inr (o, is, e)) = (settled s (Some o)
 pub closed_ends : (s closed last : StoreView) (disk : DiskView) → Closes (on_disk s disk) false closed → Settles closed last → EndsAs s last.history
 closed_ends s closed last disk (inl e) settles = settled_ends s closed last (ap (λ (k : StoreView). k.history) e) (ap (λ (k : StoreView). k.undecided) e) settles
 closed_ends s closed last disk (inr e) settles = settled_ends s closed last (ap (λ (k : StoreView). k.history) e) (ap (λ (k : StoreView). k.undecided) e) settles
-
-pub leaves_tell : (a b : Option Told) (P : List ℕ → List ℕ → Type 0) → LeavesFrom a b P → TellsOn a b
-leaves_tell None None P leaves = tt
-leaves_tell (Some a) (Some b) P leaves = leaves.0
-leaves_tell (Some a) None P leaves = leaves
-leaves_tell None (Some b) P leaves = leaves
 
 -- what was written by the marks of the slots closes the report at the moment of that store
 pub closes_with : {E R S : Type 0} (eval : Eval R) (core : CoreView E R S) (may : StoreView) (h : History) (marks : List Bool) (old new : Option (List ℕ)) → marks ≡ map is_taken core.slots → h ≡ may.history → Prints old new (lost_marks marks ++ history_lines h ++ Line.End ∷ []) → Prints old new (closing (moment_of eval may core.slots))

@@ -7,3 +7,4 @@ pub mod Cores
 pub mod Endings
 pub mod Armed
 pub mod Crashing
+pub mod Resting

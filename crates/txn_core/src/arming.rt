@@ -1,10 +1,15 @@
-ghost use Rattle.std.specs.Prelude.{◌≡◌, ◌≤◌, [], false, true, OnErr, OnOk};
+ghost use Rattle.std.specs.Prelude.{◌≡◌, ◌≤◌, [], None, false, true, OnErr, OnOk};
+ghost use Rattle.std.specs.List.{list_any};
 ghost use Rattle.zbase.specs.Faults.{IsFaultless, IsWaiting};
+ghost use Rattle.zdisk.specs.Arming.{taking};
 ghost use Rattle.fs_store.specs.Arming.{arming, disarming};
 ghost use Rattle.fs_store.specs.Stores.{on_disk};
+ghost use Rattle.txn_core.specs.Cores.{is_taken};
 
 use crate::Core;
 use evaluator::Evaluator;
+use fs_store::Store;
+use std::mem;
 use zbase::Memory;
 use zdisk::MemoryDisk;
 
@@ -40,6 +45,25 @@ impl<E: Evaluator> Core<MemoryDisk, E> {
         ensures { self.new ≡ record { store = on_disk self.old.store (disarming self.old.store.disk); slots = self.old.slots } }
     {
         self.store.disarm();
+    }
+
+    /// Goes on over another store, in which no vote is out and on whose disk nothing is armed and was hit, where no worker has a
+    /// request. Its disk takes over what waits on the old one, with the calls that are left to the first, and what was hit
+    /// there. Takes no memory.
+    pub fn replace(&mut self, store: Store<MemoryDisk>)
+        requires rest { list_any is_taken self.old.slots ≡ false }
+        requires running { self.old.store.disk.counter.arms.stopped ≡ false }
+        requires idle { store.out ≡ None }
+        requires unarmed { store.disk.counter.arms.queue ≡ [] }
+        requires unhit { store.disk.counter.arms.hits ≡ [] }
+        requires new_running { store.disk.counter.arms.stopped ≡ false }
+        ensures store { self.new.store ≡ on_disk store self.new.store.disk }
+        ensures told { self.new.store.disk.told ≡ store.disk.told }
+        ensures taken { self.new.store.disk.counter ≡ taking store.disk.counter self.old.store.disk.counter }
+        ensures slots { self.new.slots ≡ self.old.slots }
+    {
+        let old = mem::replace(&mut self.store, store);
+        self.store.take_queue(old.into_disk());
     }
 
     /// Whether a stop was hit. If not, the first entry that waits is hit by a later call, and where none waits no call

@@ -1,4 +1,5 @@
 ghost use Rattle.std.specs.Prelude.{◌≡◌, [], None, length, map, true};
+ghost use Rattle.std.specs.List.{list_any};
 ghost use Rattle.zbase.specs.Faults.{Counts};
 ghost use Rattle.connection.specs.Telling.{TellsOn};
 ghost use Rattle.txn_core.specs.Cores.{is_taken};
@@ -10,8 +11,8 @@ use fs_store::Store;
 use schedule::WORKERS;
 use zdisk::Disk;
 
-// Whether a worker has a request.
-fn is_taken<E: Evaluator>(slot: &Slot<E>) -> bool
+/// Whether a worker has a request.
+pub(crate) fn is_taken<E: Evaluator>(slot: &Slot<E>) -> bool
     ensures { result ≡ is_taken slot.now }
 {
     match slot {
@@ -21,6 +22,13 @@ fn is_taken<E: Evaluator>(slot: &Slot<E>) -> bool
         Slot::Computed(_) => true,
         Slot::Pending(_) => true,
     }
+}
+
+/// Whether some worker has a request.
+pub(crate) fn has_taken<E: Evaluator>(slots: &[Slot<E>]) -> bool
+    ensures { result ≡ list_any is_taken slots.now }
+{
+    slots.iter().any(|slot| is_taken(slot))
 }
 
 /// Which of the sixteen workers have a request.

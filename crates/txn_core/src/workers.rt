@@ -1,11 +1,15 @@
-ghost use Rattle.std.specs.Prelude.{◌≡◌, ◌<◌, ◌≤◌, ◌≢◌, ◌↔◌, ⊤, Bool, false, true, ℕ, List, [], Some, None, IfOk, IfErr, IfSome, OnOk, All, length, map, slice_get};
+ghost use Rattle.std.specs.Prelude.{◌≡◌, ◌<◌, ◌≤◌, ◌≢◌, ◌↔◌, ⊤, Bool, false, true, ℕ, List, [], Some, None, IfOk, IfErr, IfSome, IsErrOf, OnOk, All, length, map, slice_get};
+ghost use Rattle.std.specs.List.{list_any};
 ghost use Rattle.zbase.specs.Faults.{Counts, Twice};
 ghost use Rattle.schedule.specs.Follows.{Follows};
 ghost use Rattle.schedule.specs.Moments.{Terms};
+ghost use Rattle.schedule.specs.Stepping.{has_request};
 ghost use Rattle.schedule.specs.declared.item.Item2.{Item2};
+ghost use Rattle.zdisk.specs.Disk.{content};
 ghost use Rattle.zdisk.specs.Images.{IsImage};
-ghost use Rattle.fs_store.specs.Moments.{OpensAsKnown};
-ghost use Rattle.fs_store.specs.Stores.{IsTold};
+ghost use Rattle.fs_store.specs.Moments.{IsWhole, KeepsOpening, OpensAsKnown};
+ghost use Rattle.fs_store.specs.Stores.{IsTold, Settles, Stands, Stays};
+ghost use Rattle.fs_store.specs.declared.refusal.LoadRefusal.{LoadRefusal};
 ghost use Rattle.connection.specs.States.{PendingView};
 ghost use Rattle.connection.specs.Telling.{TellsOn};
 ghost use Rattle.txn_core.specs.Counting.{IsFinishLine, IsOutcome, Lowers, Paces, left};
@@ -13,22 +17,22 @@ ghost use Rattle.connection.specs.Votes.{IsHeldBy};
 ghost use Rattle.txn_core.specs.Passing.{Passes};
 ghost use Rattle.txn_core.specs.StepLines.{IsAnswered, IsCommitLine, IsFaultLine, IsVoteLine, step_lines};
 ghost use Rattle.txn_core.specs.Crashing.{KeepsNearly};
-ghost use Rattle.txn_core.specs.Slots.{Closes, IsLeft, RestsOn};
+ghost use Rattle.txn_core.specs.Slots.{Closes, IsLeft, RestsOn, doing_of};
 ghost use Rattle.txn_core.specs.declared.slot.Slot.{Slot};
 ghost use Rattle.txn_core.specs.declared.step_line.StepLine.{StepLine};
 
 use crate::advancing::advance;
-use crate::closing::{end_slots, taken};
+use crate::closing::{end_slots, has_taken, is_taken, taken};
 use crate::slot::Slot;
 use crate::{GiveRefusal, StepLine};
 use connection::Fresh;
 use evaluator::Evaluator;
-use fs_store::{AbortRefusal, Store};
+use fs_store::{AbortRefusal, LoadRefusal, Store};
 use schedule::WORKERS;
 use std::alloc::Global;
 use std::marker::Model;
 use std::mem;
-use zbase::{Memory, Tid};
+use zbase::{Bytes, Memory, Tid};
 use zdisk::Disk;
 
 // Sixteen idle workers.
@@ -139,6 +143,45 @@ impl<D: Disk + Drop, E: Evaluator> Core<D, E> {
         let idle = mem::replace(&mut self.slots[at], Slot::Fresh(fresh));
         let Slot::Idle = idle else { unreachable!() };
         Ok(())
+    }
+
+    /// Whether no worker has a request; then no vote is out.
+    pub fn is_idle(&self) -> bool
+        ensures idle { result ≡ true → list_any is_taken self.now.slots ≡ false }
+        ensures rest { result ≡ true → IsAtRest E.meaning self.now }
+        ensures busy { result ≡ false → list_any (λ d. has_request (Some d)) (map (doing_of E.meaning) self.now.slots) ≡ true }
+    {
+        !has_taken(self.slots.as_slice())
+    }
+
+    /// Whether a worker has no request.
+    pub fn is_free(&self, worker: u32) -> bool
+        requires { worker < WORKERS }
+        ensures { result ≡ true ↔ IsIdle self.now worker }
+    {
+        !is_taken(&self.slots[worker as usize])
+    }
+
+    /// The bytes of the disk's file, where no vote is out: a file of the history, which is all that the disk reads. A stale store
+    /// is opened again first; no worker is changed.
+    pub fn bytes(&mut self) -> Result<Bytes, LoadRefusal>
+        requires idle { self.old.store.out ≡ None }
+        ensures content { IfOk result (λ bytes. IfSome self.new.store.disk.told (λ told. bytes ≡ content told)) }
+        ensures whole { IfOk result (λ bytes. IsTold self.new.store → IsWhole self.new.store bytes) }
+        ensures long { IfOk result (λ bytes. length bytes ≡ self.new.store.end) }
+        ensures fresh { OnOk result (self.new.store.stale ≡ false) }
+        ensures settled { OnOk result (IsTold self.old.store → Settles self.old.store self.new.store) }
+        ensures stands { IsTold self.old.store → Stands self.old.store self.new.store }
+        ensures same { self.old.store.stale ≡ false → Stays self.old.store self.new.store }
+        ensures out { self.new.store.out ≡ self.old.store.out }
+        ensures limit { self.new.store.limit ≡ self.old.store.limit }
+        ensures tells { TellsOn self.old.store.disk.told self.new.store.disk.told }
+        ensures any_moment { KeepsOpening self.old.store self.new.store }
+        ensures slots { self.new.slots ≡ self.old.slots }
+        ensures counts { Counts self.old.store.disk.counter self.new.store.disk.counter (IsErrOf result LoadRefusal.Disk) }
+    {
+        self.store.is_sound();
+        self.store.bytes()
     }
 
     /// One event of a worker, at this stamp of the clock: a step of the table, whatever the other workers are

@@ -1,6 +1,6 @@
 -- A call more in the record of a file, which covered a piece of the buffer or nothing.
 use Rattle.std.proofs.Common.{◌≡◌, ℕ, ◌+◌, ◌-◌, ◌<◌, ◌≤◌, Bool, false, List, [], ◌∷◌, ◌++◌, length, min, ◌*◌, take, drop, reverse, refl, sym, ap, subst, ◌∙◌, append_assoc, arith}
-use Rattle.std.proofs.lemmas.List.{ext_get_or, get_or-take, get_or-drop, length-append, length-take, length-take-le, length-drop, take_at, drop_at, reverse-append, drop_all}
+use Rattle.std.proofs.lemmas.List.{ext_get_or, get_or-take, get_or-drop, length-append, length-take, length-take-le, length-drop, take_at, drop_at, reverse-append}
 use Rattle.std.proofs.Math.Nat.{mul-le-mul_left, add-mul}
 use Rattle.zdisk.specs.Calls.{put}
 use Rattle.zdisk.specs.Disk.{content}
@@ -97,14 +97,6 @@ whole_cover seed new at count end piece bytes mixed e f =
     ∙ ap (λ (x : List ℕ). take at bytes ++ take count (drop at bytes) ++ x) (ap (λ (k : ℕ). drop k mixed) (sym e) ∙ rest_same seed new at end piece bytes mixed f ∙ ap (λ (k : ℕ). drop k bytes) e)
     ∙ three_parts at count bytes
 
--- the whole buffer
-pub whole_buffer : (count : ℕ) (bytes mixed : List ℕ) → count ≡ length bytes → length mixed ≡ length bytes → take 0 mixed ++ bytes ++ drop (0 + count) mixed ≡ bytes
-whole_buffer count bytes mixed c long = ap (λ (x : List ℕ). bytes ++ x) (drop_all (0 + count) mixed (omega (arith, c, long))) ∙ append_nothing bytes
-  where
-    append_nothing : (xs : List ℕ) → xs ++ [] ≡ xs
-    append_nothing [] = refl
-    append_nothing (x ∷ xs) = ap (λ (ys : List ℕ). x ∷ ys) (append_nothing xs)
-
 -- ---- the room that is left
 
 pub room_none : (n : ℕ) → room_for 0 n ≡ 0
@@ -170,19 +162,6 @@ undone_cover seed new at count end len len2 piece bytes mixed covered covered2 w
 pub fits_cover : (at count len2 : ℕ) (bytes mixed covered covered2 : List ℕ) → at + count ≤ length bytes → length mixed ≡ length bytes → covered2 ≡ covered ++ take count (drop at bytes) → FitsWrite (record { bytes = mixed; len = len2; covered = covered2 }) at count count
 fits_cover at count len2 bytes mixed covered covered2 within long f = (
   (omega (arith, long, within), omega (arith, ap length f, length-append covered (take count (drop at bytes)), length-take count (drop at bytes), length-drop at bytes, within)),
-  (omega arith, λ lt. absurd (omega (arith, lt))),
-)
-
--- the whole buffer was covered
-pub undone_buffer : (count len len2 : ℕ) (bytes mixed covered covered2 : List ℕ) → count ≡ length bytes → length mixed ≡ length bytes → covered2 ≡ covered ++ bytes
-    → undone (entries.Write 0 count count len) (record { bytes = mixed; len = len2; covered = covered2 }) ≡ record { bytes = bytes; len = len; covered = covered }
-undone_buffer count len len2 bytes mixed covered covered2 c long f =
-    ap (λ (x : List ℕ). undone (entries.Write 0 count count len) (record { bytes = mixed; len = len2; covered = x })) f
-    ∙ undone_covering 0 count count len len2 bytes mixed covered bytes (sym c) (whole_buffer count bytes mixed c long)
-
-pub fits_buffer : (count len2 : ℕ) (bytes mixed covered covered2 : List ℕ) → count ≡ length bytes → length mixed ≡ length bytes → covered2 ≡ covered ++ bytes → FitsWrite (record { bytes = mixed; len = len2; covered = covered2 }) 0 count count
-fits_buffer count len2 bytes mixed covered covered2 c long f = (
-  (omega (arith, c, long), omega (arith, ap length f, length-append covered bytes, c)),
   (omega arith, λ lt. absurd (omega (arith, lt))),
 )
 

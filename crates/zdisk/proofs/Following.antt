@@ -1,6 +1,6 @@
 -- What a disk in memory makes of a call is what the disk model says of it.
 use Rattle.std.specs.Prelude.{IsErr, OnOk}
-use Rattle.std.proofs.Common.{◌≡◌, ℕ, ◌+◌, ◌<◌, ◌≤◌, Bool, true, false, List, [], ◌∷◌, length, take, Some, Ok, Err, Result, refl, sym, subst, arith, inl, inr}
+use Rattle.std.proofs.Common.{◌≡◌, ℕ, ◌+◌, ◌<◌, ◌≤◌, min, Bool, true, false, List, [], ◌∷◌, length, take, Some, Ok, Err, Result, refl, sym, subst, arith, inl, inr}
 use Rattle.zbase.specs.declared.faults.Arm.{Arm}
 use Rattle.zbase.specs.Faults.{Arms, Counter, Counts, Once, counts_as, hit_of}
 use Rattle.zdisk.specs.Arming.{called, called_by, met}
@@ -101,9 +101,9 @@ needs_by (Met.Failure seed) n some = some seed refl
 needs_by (Met.Stop seed) n some = omega arith
 needs_by Met.Stopped n some = omega arith
 
--- there is room where an entry waits that makes a call fail
-pub needs_room : (a : Arms) (n : ℕ) → length a.queue ≤ n → needs (met a) ≤ n
-needs_room a n le = needs_by (met a) n (λ seed e. omega (arith, le, (failure_waits a seed e).1))
+-- there is room for a call that may come, where an entry waits that makes it fail
+pub needs_room : (a : Arms) (calls n : ℕ) → 1 ≤ calls → min calls (length a.queue) ≤ n → needs (met a) ≤ n
+needs_room a calls n some le = needs_by (met a) n (λ seed e. omega (arith, some, le, (failure_waits a seed e).1))
 
 -- an entry that was hit waits no more
 fewer_wait : (stopped : Bool) (queue hits : List Arm) → length (hit_of stopped queue hits).queue ≤ length queue
@@ -116,11 +116,22 @@ one_waits true queue hits e lt = absurd cc
 one_waits false [] hits e lt = absurd (omega (arith, lt))
 one_waits false (x ∷ xs) hits e lt = omega arith
 
-left_by : (c : Counter) (m : Met) (n : ℕ) → met c.arms ≡ m → length c.arms.queue ≤ n → length (called_by m c).arms.queue ≤ faults_left m n
-left_by c Met.Nothing n e le = omega (arith, le)
-left_by c (Met.Failure seed) n e le = let w = failure_waits c.arms seed e in omega (arith, le, one_waits c.arms.stopped c.arms.queue c.arms.hits w.0 w.1)
-left_by c (Met.Stop seed) n e le = omega (arith, le, fewer_wait c.arms.stopped c.arms.queue c.arms.hits)
-left_by c Met.Stopped n e le = omega (arith, le, fewer_wait c.arms.stopped c.arms.queue c.arms.hits)
+left_by : (c : Counter) (m : Met) (old new n : ℕ) → met c.arms ≡ m → new + 1 ≡ old → min old (length c.arms.queue) ≤ n → min new (length (called_by m c).arms.queue) ≤ faults_left m n
+left_by c Met.Nothing old new n e one le = omega (arith, one, le)
+left_by c (Met.Failure seed) old new n e one le = let w = failure_waits c.arms seed e in omega (arith, one, le, one_waits c.arms.stopped c.arms.queue c.arms.hits w.0 w.1)
+left_by c (Met.Stop seed) old new n e one le = omega (arith, one, le, fewer_wait c.arms.stopped c.arms.queue c.arms.hits)
+left_by c Met.Stopped old new n e one le = omega (arith, one, le, fewer_wait c.arms.stopped c.arms.queue c.arms.hits)
 
-pub room_left : (c : Counter) (n : ℕ) → length c.arms.queue ≤ n → length (called c).arms.queue ≤ faults_left (met c.arms) n
-room_left c n le = left_by c (met c.arms) n refl le
+-- a call that may change the file, of those for which there was room
+pub room_left : (c : Counter) (old new n : ℕ) → new + 1 ≡ old → min old (length c.arms.queue) ≤ n → min new (length (called c).arms.queue) ≤ faults_left (met c.arms) n
+room_left c old new n one le = left_by c (met c.arms) old new n refl one le
+
+fewer_by : (c : Counter) (m : Met) → length (called_by m c).arms.queue ≤ length c.arms.queue
+fewer_by c Met.Nothing = omega arith
+fewer_by c (Met.Failure seed) = fewer_wait c.arms.stopped c.arms.queue c.arms.hits
+fewer_by c (Met.Stop seed) = fewer_wait c.arms.stopped c.arms.queue c.arms.hits
+fewer_by c Met.Stopped = fewer_wait c.arms.stopped c.arms.queue c.arms.hits
+
+-- a call that reads
+pub room_stays : (c : Counter) (calls n : ℕ) → min calls (length c.arms.queue) ≤ n → min calls (length (called c).arms.queue) ≤ n
+room_stays c calls n le = omega (arith, le, fewer_by c (met c.arms))

@@ -3,6 +3,7 @@ mod Buffers
 mod Covering
 mod Filled
 mod Following
+mod Lowest
 mod Mixing
 mod Queues
 mod Telling

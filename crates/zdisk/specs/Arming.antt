@@ -33,6 +33,10 @@ disarmed c = counter_of c.count c.calls (begun [] c.arms.hits c.arms.stopped)
 abbrev pub resumed : Counter → Counter
 resumed c = counter_of (length c.arms.hits) c.calls (begun c.arms.queue c.arms.hits false)
 
+-- what waits on another disk, and what was hit there, in the place of the own: the entries stay with their counts as they stand
+abbrev pub taking : Counter → Counter → Counter
+taking own from = counter_of (length from.arms.hits) own.calls from.arms
+
 -- the seed of the last of these, 0 where there is none
 abbrev pub last_seed : List Arm → ℕ
 last_seed [] = 0

@@ -1,5 +1,5 @@
 -- The contents since the last sync, taken back one call after another.
-use Rattle.std.proofs.Common.{◌≡◌, ℕ, ◌+◌, ◌-◌, ◌<◌, ◌≤◌, true, false, List, [], ◌∷◌, length, get_or, take, drop, reverse, refl}
+use Rattle.std.proofs.Common.{◌≡◌, ℕ, ◌+◌, ◌-◌, ◌<◌, ◌≤◌, min, true, false, List, [], ◌∷◌, length, get_or, take, drop, reverse, refl}
 use Rattle.std.specs.Coded.{×_prop, →_prop, le_prop}
 use Rattle.zdisk.specs.Filling.{IsFilled}
 use Rattle.zdisk.specs.Recorded.{Buffer, file_of, told_back, undone}
@@ -52,6 +52,21 @@ synced_back b (entries.Sync ∷ es) = refl
 synced_back b (entries.Write at written covered len ∷ es) = synced_back (undone (entries.Write at written covered len) b) es
 synced_back b (entries.Cut len ∷ es) = synced_back (undone (entries.Cut len) b) es
 synced_back b (entries.Failed ∷ es) = synced_back b es
+
+-- The least place at which a call since the last sync wrote, and the least length that the file had since then, from its length
+-- now on and by the calls from the newest to the oldest.
+abbrev pub lowest_since : ℕ → List Entry → ℕ
+lowest_since n [] = n
+lowest_since n (entries.Sync ∷ es) = n
+lowest_since n (entries.Write at written covered len ∷ es) = lowest_since (min n (min at len)) es
+lowest_since n (entries.Cut len ∷ es) = lowest_since (min n len) es
+lowest_since n (entries.Failed ∷ es) = lowest_since n es
+
+abbrev pub lower : ℕ → Entry → ℕ
+lower n (entries.Write at written covered len) = min n (min at len)
+lower n (entries.Cut len) = min n len
+lower n entries.Sync = n
+lower n entries.Failed = n
 
 -- A buffer that holds the newest bytes at the places where the seed takes them, and those of an older buffer at the
 -- others, as far as it reaches.

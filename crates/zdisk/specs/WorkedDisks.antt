@@ -2,9 +2,11 @@
 use Rattle.std.proofs.Common.{◌≡◌, ℕ, zero, suc, true, false, List, [], ◌∷◌, refl}
 use Rattle.zbase.specs.declared.faults.Arm.{Arm}
 use Rattle.zbase.specs.Faults.{Counter, no_arms}
-use Rattle.zdisk.specs.Arming.{armed, called, counter_of, disarmed, met, resumed}
+use Rattle.zdisk.specs.Arming.{armed, called, counter_of, disarmed, met, resumed, taking}
 use Rattle.zdisk.specs.Seeds.{image_of, takes_new}
+use Rattle.zdisk.specs.Undoing.{lowest_since}
 use Rattle.zdisk.specs.declared.queue.Met.{Met}
+use Rattle.zdisk.specs.declared.record.Entry.TheVariants as entries
 
 -- ---- queues
 
@@ -56,6 +58,28 @@ counts_of_a_disk_that_goes_on = refl
 
 disarmed_in_time : meets 3 (disarmed (after 1 (armed fresh (stop 2 7)))) ≡ Met.Nothing ∷ Met.Nothing ∷ Met.Nothing ∷ []
 disarmed_in_time = refl
+
+-- one of the three calls was made on another disk; this one had four calls of its own
+goes_on_elsewhere : meets 3 (taking (after 4 fresh) (after 1 (armed fresh (failure 3 8)))) ≡ Met.Nothing ∷ Met.Failure 8 ∷ Met.Nothing ∷ []
+goes_on_elsewhere = refl
+
+-- what was hit there is told here
+hit_elsewhere : taking (after 4 fresh) (after 1 (armed fresh (failure 1 8))) ≡ counter_of 1 4 (record { queue = []; left = 0; hits = failure 1 8 ∷ []; stopped = false })
+hit_elsewhere = refl
+
+-- ---- the least place at which a file may differ from what was last synced
+
+-- two bytes were written behind a synced file of eight; what was written before that counts no more
+written_behind : lowest_since 10 (entries.Write 8 2 0 8 ∷ entries.Sync ∷ entries.Write 0 3 3 8 ∷ []) ≡ 8
+written_behind = refl
+
+-- a file of eight was cut to five, and nine bytes were written from its fifth on
+cut_and_written : lowest_since 14 (entries.Write 5 9 3 5 ∷ entries.Cut 8 ∷ entries.Failed ∷ []) ≡ 5
+cut_and_written = refl
+
+-- a file of eight was written over from its second byte on, and cut to seven
+written_over : lowest_since 7 (entries.Cut 8 ∷ entries.Write 1 4 4 8 ∷ []) ≡ 1
+written_over = refl
 
 -- ---- seeds
 

@@ -1,7 +1,7 @@
-ghost use Rattle.std.specs.Prelude.{◌≡◌, ◌+◌, ◌≤◌, [], Some, false, true, length, max, take, option_map, IfSome, OnOk, OnErr, IsErr};
+ghost use Rattle.std.specs.Prelude.{◌≡◌, ◌+◌, ◌≤◌, [], Some, false, true, length, max, min, take, option_map, IfSome, OnOk, OnErr, IsErr};
 ghost use Rattle.std.specs.declared.option.Option.{Option};
 ghost use Rattle.zbase.specs.Faults.{Counts, IsFaultless, IsWaiting, Once, no_arms};
-ghost use Rattle.zdisk.specs.Arming.{armed, called, counter_of, disarmed, last_seed, met, resumed};
+ghost use Rattle.zdisk.specs.Arming.{armed, called, counter_of, disarmed, last_seed, met, resumed, taking};
 ghost use Rattle.zdisk.specs.Calls.{Cuts, Follows, Syncs, Writes, put};
 ghost use Rattle.zdisk.specs.Disk.{GivesLength, GivesRange, HasPlace, HasRange, counted, synced};
 ghost use Rattle.zdisk.specs.Effects.{after_change, after_sync, brings, image_left};
@@ -30,7 +30,7 @@ use zbase::{Arm, Bytes, Failed, Memory};
 pub struct MemoryDisk {
     file: RecordedFile,
     queue: Queue,
-    ghost room: { length queue.arms.queue ≤ file.faults },
+    ghost room: { min file.calls (length queue.arms.queue) ≤ file.faults },
 }
 
 impl MemoryDisk {
@@ -83,7 +83,7 @@ impl MemoryDisk {
         })
     }
 
-    // Arms an entry. What it must keep when it is hit has its room from then on.
+    // Arms an entry. Of the calls for which there is room, one more has room for what it must keep where it fails.
     fn arm(&mut self, arm: Arm) -> Result<(), Memory>
         requires { 1 ≤ arm.calls }
         ensures armed { OnOk result (⟦<MemoryDisk as Disk>⟧.counter self.new ≡ armed (⟦<MemoryDisk as Disk>⟧.counter self.old) arm) }
@@ -92,8 +92,8 @@ impl MemoryDisk {
         ensures spare { (⟦<MemoryDisk as Disk>⟧.spare_calls self.new ≡ ⟦<MemoryDisk as Disk>⟧.spare_calls self.old)
             × (⟦<MemoryDisk as Disk>⟧.spare_bytes self.new ≡ ⟦<MemoryDisk as Disk>⟧.spare_bytes self.old) }
     {
-        let faults = self.queue.waiting().checked_add(1).ok_or(Memory)?;
-        self.file.reserve_faults(faults)?;
+        let waiting = self.queue.waiting().checked_add(1).ok_or(Memory)?;
+        self.file.reserve_faults(waiting)?;
         self.queue.arm(arm)
     }
 
@@ -105,6 +105,25 @@ impl MemoryDisk {
             × (⟦<MemoryDisk as Disk>⟧.spare_bytes self.new ≡ ⟦<MemoryDisk as Disk>⟧.spare_bytes self.old) }
     {
         self.queue.disarm();
+    }
+
+    /// Takes over what waits on another disk, with the calls that are left to its first, and what was hit there. What this disk
+    /// has held stays. Takes no memory: the room for changes is given up, but for that which an entry may need that fails one,
+    /// and is made by `reserve`.
+    pub fn take_queue(&mut self, from: MemoryDisk)
+        requires unarmed { (⟦<MemoryDisk as Disk>⟧.counter self.old).arms.queue ≡ [] }
+        requires unhit { (⟦<MemoryDisk as Disk>⟧.counter self.old).arms.hits ≡ [] }
+        requires running { (⟦<MemoryDisk as Disk>⟧.counter self.old).arms.stopped ≡ false }
+        requires from_running { (⟦<MemoryDisk as Disk>⟧.counter from).arms.stopped ≡ false }
+        ensures taken { ⟦<MemoryDisk as Disk>⟧.counter self.new
+            ≡ taking (⟦<MemoryDisk as Disk>⟧.counter self.old) (⟦<MemoryDisk as Disk>⟧.counter from) }
+        ensures same { ⟦<MemoryDisk as Disk>⟧.told self.new ≡ ⟦<MemoryDisk as Disk>⟧.told self.old }
+        ensures spare { (⟦<MemoryDisk as Disk>⟧.spare_calls self.new ≤ ⟦<MemoryDisk as Disk>⟧.spare_calls self.old)
+            × (⟦<MemoryDisk as Disk>⟧.spare_bytes self.new ≡ ⟦<MemoryDisk as Disk>⟧.spare_bytes self.old) }
+    {
+        let MemoryDisk { file: _, queue } = from;
+        self.file.keep_calls();
+        self.queue.take(queue);
     }
 
     /// Whether a stop was hit, and the disk doesn't go on yet. If not, the first entry that waits is hit by a later call, and
@@ -134,7 +153,7 @@ impl MemoryDisk {
 
     /// The disk goes on after a stop, with a synced file that is the image which the stop's seed names. The entries that wait
     /// stay armed, and the count of the first begins. The record of what the disk has held begins anew, and the room that it
-    /// took is spare again. Takes no memory.
+    /// took is spare again where no entry waits. Takes no memory.
     pub fn after_stop(self) -> MemoryDisk
         requires stopped { (⟦<MemoryDisk as Disk>⟧.counter self).arms.stopped ≡ true }
         ensures told { ⟦<MemoryDisk as Disk>⟧.told result
@@ -142,12 +161,13 @@ impl MemoryDisk {
         ensures counter { ⟦<MemoryDisk as Disk>⟧.counter result ≡ resumed (⟦<MemoryDisk as Disk>⟧.counter self) }
         ensures spare { (⟦<MemoryDisk as Disk>⟧.spare_calls self ≤ ⟦<MemoryDisk as Disk>⟧.spare_calls result)
             × (⟦<MemoryDisk as Disk>⟧.spare_bytes result ≡ ⟦<MemoryDisk as Disk>⟧.spare_bytes self) }
-        ensures gives_back { IfSome (⟦<MemoryDisk as Disk>⟧.told self)
+        ensures gives_back { (⟦<MemoryDisk as Disk>⟧.counter self).arms.queue ≡ [] → IfSome (⟦<MemoryDisk as Disk>⟧.told self)
             (λ told. ⟦<MemoryDisk as Disk>⟧.spare_calls result ≡ ⟦<MemoryDisk as Disk>⟧.spare_calls self + length told.earlier) }
     {
         let seed = self.last_seed();
         let mut disk = self;
-        disk.file.settle(seed);
+        let waiting = disk.queue.waiting();
+        disk.file.settle(seed, waiting);
         disk.queue.resume();
         disk
     }
@@ -173,7 +193,8 @@ impl Disk for MemoryDisk {
         ensures stays { OnErr result ((⟦<MemoryDisk as Disk>⟧.spare_calls self.new ≡ ⟦<MemoryDisk as Disk>⟧.spare_calls self.old)
             × (⟦<MemoryDisk as Disk>⟧.spare_bytes self.new ≡ ⟦<MemoryDisk as Disk>⟧.spare_bytes self.old)) }
     {
-        self.file.reserve(calls as usize, bytes as usize)
+        self.file
+            .reserve(calls as usize, bytes as usize, self.queue.waiting())
     }
 
     fn len(&mut self) -> Result<u64, Failed>

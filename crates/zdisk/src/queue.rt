@@ -1,7 +1,7 @@
 ghost use Rattle.std.specs.Prelude.{◌≡◌, ◌<◌, ◌≤◌, All, false, true, drop, length, take, IsErr, OnErr, OnOk, []};
 ghost use Rattle.zbase.specs.Faults.{Counts, IsFaultless, IsWaiting, Once, begun, calls_of_first, hit, no_arms};
 ghost use Rattle.zbase.specs.Limits.{greatest_number};
-ghost use Rattle.zdisk.specs.Arming.{armed, called, called_by, counter_of, disarmed, is_calm, last_seed, met, resumed};
+ghost use Rattle.zdisk.specs.Arming.{armed, called, called_by, counter_of, disarmed, is_calm, last_seed, met, resumed, taking};
 ghost use Rattle.zdisk.specs.Disk.{counted};
 ghost use Rattle.zdisk.specs.Meeting.{Answers, IsFault};
 
@@ -143,6 +143,29 @@ impl Queue {
     {
         self.arms.truncate(self.hits);
         self.left = 0;
+    }
+
+    /// Takes over what waits on another queue, with the calls that are left to its first, and what was hit there. The calls that
+    /// this one counted stay. Takes no memory.
+    pub fn take(&mut self, from: Queue)
+        requires unarmed { self.old.arms.queue ≡ [] }
+        requires unhit { self.old.arms.hits ≡ [] }
+        requires running { self.old.arms.stopped ≡ false }
+        requires from_running { from.arms.stopped ≡ false }
+        ensures { self.new ≡ taking self.old from }
+    {
+        let Queue {
+            arms,
+            hits,
+            stopped: _,
+            calls: _,
+            left,
+            count,
+        } = from;
+        self.arms = arms;
+        self.hits = hits;
+        self.left = left;
+        self.count = count;
     }
 
     /// The disk goes on after a stop. The count of the first that waits begins.

@@ -1,4 +1,4 @@
-ghost use Rattle.std.specs.Prelude.{◌≡◌, ◌+◌, ◌≤◌, length, max, take, IfOk, OnErr, OnOk};
+ghost use Rattle.std.specs.Prelude.{◌≡◌, ◌+◌, ◌≤◌, length, max, min, take, IfOk, OnErr, OnOk};
 ghost use Rattle.zdisk.specs.Calls.{put};
 ghost use Rattle.zdisk.specs.Disk.{bytes_at, content, synced};
 ghost use Rattle.zdisk.specs.Effects.{after_change, after_sync, brings, faults_left, image_left, more, needs};
@@ -10,7 +10,7 @@ use crate::queue::Met;
 use crate::record::{Entry, cover, note, push_all};
 use crate::recorded::RecordedFile;
 use crate::seeds::{fill, length_by, takes_new};
-use crate::undoing::mix;
+use crate::undoing::{lowest, mix};
 use zbase::{Bytes, Memory};
 
 impl RecordedFile {
@@ -47,25 +47,37 @@ impl RecordedFile {
         buf.copy_from_slice(&self.bytes[at..at + buf.len()]);
     }
 
-    /// Makes room for so many calls that may change the file, and for so many bytes that writes bring, where there was
-    /// less. For want of memory the room that there was stays.
-    pub fn reserve(&mut self, calls: usize, bytes: usize) -> Result<(), Memory>
+    /// Makes room for so many calls that may change the file, and for so many bytes that writes bring, where there was less, while
+    /// so many entries wait. For want of memory the room that there was stays.
+    pub fn reserve(&mut self, calls: usize, bytes: usize, waiting: usize) -> Result<(), Memory>
         ensures told { told_in self.new ≡ told_in self.old }
         ensures room { OnOk result ((self.new.calls ≡ max self.old.calls calls) × (self.new.spare ≡ max self.old.spare bytes)) }
         ensures kept { OnErr result ((self.new.calls ≡ self.old.calls) × (self.new.spare ≡ self.old.spare)) }
-        ensures faults { self.new.faults ≡ self.old.faults }
+        ensures faults { OnOk result (min self.new.calls waiting ≤ self.new.faults) }
+        ensures faults_kept { OnErr result (self.new.faults ≡ self.old.faults) }
     {
-        self.make_room(self.calls.max(calls), self.spare.max(bytes), self.faults)
+        let calls = self.calls.max(calls);
+        self.make_room(calls, self.spare.max(bytes), calls.min(waiting))
     }
 
-    /// Makes room for so many calls that fail. For want of memory the room that there was stays.
-    pub fn reserve_faults(&mut self, faults: usize) -> Result<(), Memory>
+    /// Gives up the room for calls that may change the file, but for as many as may fail.
+    pub fn keep_calls(&mut self)
+        ensures told { told_in self.new ≡ told_in self.old }
+        ensures spare { (self.new.calls ≡ min self.old.calls self.old.faults) × (self.new.spare ≡ self.old.spare) }
+        ensures faults { self.new.faults ≡ self.old.faults }
+    {
+        self.calls = self.calls.min(self.faults);
+    }
+
+    /// Makes room for those of the calls for which there is room to fail, while so many entries wait. For want of memory the room
+    /// that there was stays.
+    pub fn reserve_faults(&mut self, waiting: usize) -> Result<(), Memory>
         ensures told { told_in self.new ≡ told_in self.old }
         ensures spare { (self.new.calls ≡ self.old.calls) × (self.new.spare ≡ self.old.spare) }
-        ensures room { OnOk result (self.new.faults ≡ faults) }
+        ensures room { OnOk result (min self.new.calls waiting ≤ self.new.faults) }
         ensures kept { OnErr result (self.new.faults ≡ self.old.faults) }
     {
-        self.make_room(self.calls, self.spare, faults)
+        self.make_room(self.calls, self.spare, self.calls.min(waiting))
     }
 
     // Makes room for so many calls that may change the file, for so many bytes that writes bring, and for so many calls that
@@ -136,8 +148,25 @@ impl RecordedFile {
         }
     }
 
-    /// The file becomes the image that a stop with this seed leaves, which is synced and has no record.
-    pub fn settle(&mut self, seed: u64)
+    /// The file becomes the image that a stop with this seed leaves, which is synced and has no record. The room that the record
+    /// took is spare again, but where there isn't room for as many calls that fail as wait.
+    pub fn settle(&mut self, seed: u64, waiting: usize)
+        requires { min self.old.calls waiting ≤ self.old.faults }
+        ensures told { told_in self.new ≡ synced (image_left seed (told_in self.old)) }
+        ensures spare { (self.old.calls ≤ self.new.calls) × (self.new.spare ≡ self.old.spare) }
+        ensures gives_back { waiting ≡ 0 → self.new.calls ≡ self.old.calls + length (told_in self.old).earlier }
+        ensures room { min self.new.calls waiting ≤ self.new.faults }
+        ensures faults { self.new.faults ≡ self.old.faults }
+    {
+        self.take_back(seed);
+        if self.faults < waiting {
+            self.calls = self.calls.min(self.faults);
+        }
+    }
+
+    // The file becomes the image that a stop with this seed leaves, which is synced and has no record. The room that the record
+    // took is spare again.
+    fn take_back(&mut self, seed: u64)
         ensures told { told_in self.new ≡ synced (image_left seed (told_in self.old)) }
         ensures spare { (self.new.calls ≡ self.old.calls + length (told_in self.old).earlier) × (self.new.spare ≡ self.old.spare) }
         ensures faults { self.new.faults ≡ self.old.faults }
@@ -262,8 +291,10 @@ impl RecordedFile {
     {
         let kept = self.covered.len();
         let len = self.len;
-        let count = self.bytes.len();
-        push_all(&mut self.covered, &self.bytes);
+        // Below this place the image has what the file has.
+        let at = lowest(len, &self.entries);
+        let count = self.bytes.len() - at;
+        push_all(&mut self.covered, &self.bytes[at..]);
         self.calls -= 1;
         self.faults -= 1;
         self.len = mix(
@@ -274,7 +305,7 @@ impl RecordedFile {
             seed,
         );
         let entry = Entry::Write {
-            at: 0,
+            at,
             written: count,
             covered: count,
             len,

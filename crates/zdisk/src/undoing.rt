@@ -1,7 +1,7 @@
 ghost use Rattle.std.specs.Prelude.{◌≡◌, ◌≤◌, length, reverse, take};
 ghost use Rattle.zdisk.specs.Recorded.{file_of};
 ghost use Rattle.zdisk.specs.Seeds.{image_of};
-ghost use Rattle.zdisk.specs.Undoing.{Blends, FitsBack, FitsEntry, IsTakenBack, back};
+ghost use Rattle.zdisk.specs.Undoing.{Blends, FitsBack, FitsEntry, IsTakenBack, back, lower, lowest_since};
 
 use crate::record::Entry;
 use crate::seeds::{fill, length_by};
@@ -49,6 +49,35 @@ pub fn blend(bytes: &mut [u8], kept: &[u8], len: usize, entries: &[Entry], seed:
         count -= 1;
     }
     was
+}
+
+// The place, or a lower one at which the call changed the file.
+fn lower(place: usize, entry: Entry) -> usize
+    ensures { result ≡ lower place entry }
+{
+    match entry {
+        Entry::Write { at, len, .. } => place.min(at.min(len)),
+        Entry::Cut { len } => place.min(len),
+        Entry::Sync | Entry::Failed => place,
+    }
+}
+
+/// The least place at which a file of this length may differ from what was last synced, by the calls since then: below it
+/// both have the same bytes.
+pub fn lowest(len: usize, entries: &[Entry]) -> usize
+    ensures { result ≡ lowest_since len (reverse entries.now) }
+{
+    let mut place = len;
+    let mut count = entries.len();
+    while count > 0 {
+        let entry = entries[count - 1];
+        if matches!(entry, Entry::Sync) {
+            return place;
+        }
+        place = lower(place, entry);
+        count -= 1;
+    }
+    place
 }
 
 /// Makes a buffer the image that the seed names, of the file at the last sync and the file as it is. The answer is how long

@@ -5,10 +5,10 @@ use Rattle.zbase.specs.Faults.{counts_as}
 use Rattle.zbase.specs.History.{IsHistory}
 use Rattle.fs_store.specs.Arming.{disarming}
 use Rattle.fs_store.specs.Moments.{OpensAsKnown}
-use Rattle.connection.specs.Telling.{TellsOn, tells_then}
+use Rattle.connection.specs.Telling.{TellsOn, leaves_tell, tells_then}
 use Rattle.txn_core.specs.Cores.{is_taken}
 use Rattle.replay.proofs.Closing.{no_fault}
-use Rattle.replay.proofs.Endings.{closed_ends, closes_with, disarmed_calm, is_closed, leaves_tell}
+use Rattle.replay.proofs.Endings.{closed_ends, closes_with, disarmed_calm, is_closed}
 use Rattle.replay.proofs.LineRefusals.{outside_counts}
 use Rattle.replay.proofs.ending.end_run.Goals as goal
 

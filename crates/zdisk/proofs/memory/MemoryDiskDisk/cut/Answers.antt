@@ -1,4 +1,4 @@
-use Rattle.std.proofs.Common.{◌≡◌, ◌≤◌, ℕ, length, refl, sym, ap, subst, ◌∙◌, take, Some}
+use Rattle.std.proofs.Common.{◌≡◌, ◌≤◌, ℕ, min, length, refl, sym, ap, subst, ◌∙◌, take, Some}
 use Rattle.zbase.specs.Faults.{Counter}
 use Rattle.zdisk.specs.Arming.{called, met}
 use Rattle.zdisk.specs.Calls.{Cuts, Follows}
@@ -16,13 +16,13 @@ cut-requires-clause-within c = c.requires.within (told_in c.args.self.now.file) 
 pub cut-requires-clause-faults : goal.cut-requires-clause-faults
 cut-requires-clause-faults c =
     let d = c.args.self.now in
-    subst (λ (m : Met). needs m ≤ d.file.faults) (sym c.call-meets.ensures.met) (needs_room d.queue.arms d.file.faults d.room)
+    subst (λ (m : Met). needs m ≤ d.file.faults) (sym c.call-meets.ensures.met) (needs_room d.queue.arms d.file.calls d.file.faults c.requires.room d.room)
 
 pub invariant_of-self : goal.invariant_of-self
 invariant_of-self c =
     let d = c.args.self.now in
     let left : c.cut.new.self.faults ≡ faults_left (met d.queue.arms) d.file.faults = c.cut.ensures.faults ∙ ap (λ (m : Met). faults_left m d.file.faults) c.call-meets.ensures.met in
-    record { room = subst (λ (q : Counter). length q.arms.queue ≤ c.cut.new.self.faults) (sym c.call-meets.ensures.called) (subst (λ (n : ℕ). length (called d.queue).arms.queue ≤ n) (sym left) (room_left d.queue d.file.faults d.room)) }
+    record { room = subst (λ (q : Counter). min c.cut.new.self.calls (length q.arms.queue) ≤ c.cut.new.self.faults) (sym c.call-meets.ensures.called) (subst (λ (n : ℕ). min c.cut.new.self.calls (length (called d.queue).arms.queue) ≤ n) (sym left) (room_left d.queue d.file.calls c.cut.new.self.calls d.file.faults c.cut.ensures.spare.0 d.room)) }
 
 pub returns-clause-held : goal.returns-clause-held
 returns-clause-held c =

@@ -1,4 +1,4 @@
-use Rattle.std.proofs.Common.{◌≡◌, ◌≤◌, ℕ, length, sym, ap, subst, ◌∙◌, Some}
+use Rattle.std.proofs.Common.{◌≡◌, ◌≤◌, ℕ, min, length, sym, ap, subst, ◌∙◌, Some}
 use Rattle.zbase.specs.Faults.{Counter}
 use Rattle.zdisk.specs.Arming.{called, met}
 use Rattle.zdisk.specs.Calls.{Syncs, Follows}
@@ -13,13 +13,13 @@ use Rattle.zdisk.proofs.memory.MemoryDiskDisk.sync.Goals as goal
 pub sync-requires-clause-faults : goal.sync-requires-clause-faults
 sync-requires-clause-faults c =
     let d = c.args.self.now in
-    subst (λ (m : Met). needs m ≤ d.file.faults) (sym c.call-meets.ensures.met) (needs_room d.queue.arms d.file.faults d.room)
+    subst (λ (m : Met). needs m ≤ d.file.faults) (sym c.call-meets.ensures.met) (needs_room d.queue.arms d.file.calls d.file.faults c.requires.room d.room)
 
 pub invariant_of-self : goal.invariant_of-self
 invariant_of-self c =
     let d = c.args.self.now in
     let left : c.sync.new.self.faults ≡ faults_left (met d.queue.arms) d.file.faults = c.sync.ensures.faults ∙ ap (λ (m : Met). faults_left m d.file.faults) c.call-meets.ensures.met in
-    record { room = subst (λ (q : Counter). length q.arms.queue ≤ c.sync.new.self.faults) (sym c.call-meets.ensures.called) (subst (λ (n : ℕ). length (called d.queue).arms.queue ≤ n) (sym left) (room_left d.queue d.file.faults d.room)) }
+    record { room = subst (λ (q : Counter). min c.sync.new.self.calls (length q.arms.queue) ≤ c.sync.new.self.faults) (sym c.call-meets.ensures.called) (subst (λ (n : ℕ). min c.sync.new.self.calls (length (called d.queue).arms.queue) ≤ n) (sym left) (room_left d.queue d.file.calls c.sync.new.self.calls d.file.faults c.sync.ensures.spare.0 d.room)) }
 
 pub returns-clause-held : goal.returns-clause-held
 returns-clause-held c =

@@ -5,7 +5,7 @@ use Rattle.zdisk.specs.Keeping.{buffer_of}
 use Rattle.zdisk.proofs.Covering.{told_alike, fits_empty}
 use Rattle.zdisk.proofs.Mixing.{left_alike}
 use Rattle.zdisk.proofs.Telling.{earlier_told, told_new}
-use Rattle.zdisk.proofs.recorded.RecordedFile.settle.Goals as goal
+use Rattle.zdisk.proofs.recorded.RecordedFile.take_back.Goals as goal
 
 pub invariant_of-self-clause-fits : goal.invariant_of-self-clause-fits
 invariant_of-self-clause-fits c =
