@@ -57,7 +57,7 @@ fn bytes_key(start: u64, bytes: &[u8]) -> u64
 
 /// The key of a name, a number of 64 bits. Names with different keys differ; that two names have one key is rare.
 #[tactic(auto, unfolding(crate::specs::Keys::name_key))]
-pub(crate) fn name_key(name: &[u8]) -> u64
+pub fn name_key(name: &[u8]) -> u64
     ensures { result ≡ name_key name.now }
 {
     let words = name.len() / 8;

@@ -1,18 +1,12 @@
 -- Where children stand by the numbers of their names: what is skipped on the way has another name.
-use Rattle.std.proofs.Common.{◌≡◌, ◌≢◌, ℕ, suc, ◌+◌, ◌<◌, ◌≤◌, ◌==◌, Bool, true, false, List, [], ◌∷◌, length, drop, get_or, set, ◌-◌, Some, refl, sym, ap, subst, ◌∙◌, arith, if◌then◌else◌, slice_index_or}
+use Rattle.std.proofs.Common.{◌≡◌, ◌≢◌, ℕ, suc, ◌+◌, ◌<◌, ◌≤◌, ◌==◌, Bool, true, false, List, [], ◌∷◌, length, drop, get_or, set, ◌-◌, Some, refl, sym, ap, subst, ◌∙◌, arith, if◌then◌else◌}
 use Rattle.std.specs.Str.{bytes_eq}
 use Rattle.std.proofs.lemmas.Bool.Decides.{nat_tests}
 use Rattle.std.proofs.lemmas.List.{drop-drop, drop_all, drop_more, get_or-drop, get_or-set_other, get_or-set_same, get_or_default, length-drop, length-set}
 use Rattle.std.proofs.lemmas.Slice.Eq.{bytes_eq-Decides}
-use Rattle.name_keys.specs.Keys.{bytes_key, mixed}
 use Rattle.zobject.specs.declared.object.Child.{Child}
 use Rattle.zobject.specs.Folders.{child_of}
 use Rattle.zknown.specs.Spots.{before, next_at, spot_of}
-
--- the key of one byte more
-pub bytes_more : (start n : ℕ) (bytes : List ℕ) → bytes_key start (n + 1) bytes ≡ mixed (bytes_key start n bytes) (slice_index_or bytes n 0)
-unfolding bytes_key
-bytes_more start n bytes = let k : n + 1 ≡ suc n = omega arith in rw k refl
 
 nat_same : (a b : ℕ) → (a == b) ≡ true → a ≡ b
 nat_same a b e = grind (arith, nat_tests)

@@ -1,6 +1,6 @@
 -- Where the children of a folder stand by a number of their names, so that one of so many isn't looked for among all.
 use Rattle.std.specs.Prelude.{ℕ, suc, ◌+◌, ◌%◌, ◌<◌, ◌≡◌, ◌==◌, ◌⊎◌, if◌then◌else◌, List, [], ◌∷◌, length, drop, get_or}
-use Rattle.name_keys.specs.Keys.{bytes_key}
+use Rattle.name_keys.specs.Keys.{name_key}
 use Rattle.zobject.specs.declared.object.Child.{Child}
 use Rattle.zobject.specs.declared.object.Part2.TheVariants as parts
 use Rattle.zknown.specs.declared.kept.Kept.{Kept}
@@ -8,7 +8,7 @@ use Rattle.zknown.specs.declared.kept.Kept.TheVariants as kept
 
 -- the number of a name, below so many
 unfoldable pub spot_of : ℕ → List ℕ → ℕ
-spot_of many name = bytes_key (length name) (length name) name % many
+spot_of many name = name_key name % many
 
 -- how many children stand before the first one whose name has this number
 unfoldable pub before : ℕ → ℕ → List Child → ℕ

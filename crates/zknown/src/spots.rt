@@ -1,38 +1,11 @@
 ghost use Rattle.std.specs.Prelude.{◌≡◌, ◌<◌, ◌≤◌, ◌^◌, ℕ, length, IfOk};
-ghost use Rattle.name_keys.specs.Keys.{bytes_key, mixed};
 ghost use Rattle.zobject.specs.Folders.{child_of};
 ghost use Rattle.zknown.specs.Spots.{spot_of, AreSpots};
 
+use name_keys::name_key;
 use std::alloc::Global;
 use zbase::{Memory, Oid};
 use zobject::Child;
-
-/// An odd number, whose product with a byte carries each of the byte's bits up.
-const FACTOR: u64 = 0x9e37_79b9_7f4a_7c15;
-
-/// How far a product is turned, so that its upper bits count in the next product.
-const TURN: u32 = 29;
-
-// A key with a byte mixed into it.
-#[tactic(auto, unfolding(name_keys::specs::Keys::mixed))]
-fn mixed(key: u64, byte: u8) -> u64
-    ensures { result ≡ mixed key byte }
-{
-    key.wrapping_add(byte as u64)
-        .wrapping_mul(FACTOR)
-        .rotate_left(TURN)
-}
-
-// The key of a name.
-fn key_of(name: &[u8]) -> u64
-    ensures { result ≡ bytes_key (length name.now) (length name.now) name.now }
-{
-    let mut key = name.len() as u64;
-    for at in 0..name.len() {
-        key = mixed(key, name[at]);
-    }
-    key
-}
 
 // The number of a name, below so many.
 #[tactic(auto, unfolding(crate::specs::Spots::spot_of))]
@@ -41,7 +14,7 @@ fn spot_of(many: usize, name: &[u8]) -> usize
     ensures is { result ≡ spot_of many name.now }
     ensures below { result < many }
 {
-    (key_of(name) % many as u64) as usize
+    (name_key(name) % many as u64) as usize
 }
 
 /// Where the children stand by the numbers of their names.
