@@ -5,6 +5,7 @@ use Rattle.zbase.specs.History.{Value}
 use Rattle.fs_index.specs.Places.{known}
 use Rattle.fs_record.specs.Sizes.{record_size}
 use Rattle.fs_record.specs.declared.body.Item.{Item}
+use Rattle.fs_record.specs.declared.layout.TheConstants.{DATA_HEAD_LEN}
 use Rattle.fs_scan.specs.Wholes.{records_in}
 use Rattle.fs_scan.specs.declared.wholes.OidValue.{OidValue}
 use Rattle.packing.specs.Reachable.{Linking, links_in, spells_none}
@@ -60,10 +61,10 @@ plus_twice (Some k) m n =
     let same : k + m + n ≡ k + (m + n) = omega arith in
     plus_fits (k + m) n ∙ ap fitting same
 
-pub size_step : (i : ℕ) (values : List OidValue) (v : OidValue) (old one new all : Option ℕ) (size : ℕ) → v ≡ get_or values i v → i < length values → one ≡ plus old 42 → size ≡ value_size v.value → new ≡ plus one size
+pub size_step : (i : ℕ) (values : List OidValue) (v : OidValue) (old one new all : Option ℕ) (size : ℕ) → v ≡ get_or values i v → i < length values → one ≡ plus old DATA_HEAD_LEN → size ≡ value_size v.value → new ≡ plus one size
     → plus_records old (records_in (drop i values)) ≡ all → plus_records new (records_in (drop (i + 1) values)) ≡ all
 size_step i values v old one new all size is lt first long both so_far =
-    ap (λ (s : Option ℕ). plus_records s (records_in (drop (i + 1) values))) (both ∙ ap₂ plus first long ∙ plus_twice old 42 (value_size v.value))
+    ap (λ (s : Option ℕ). plus_records s (records_in (drop (i + 1) values))) (both ∙ ap₂ plus first long ∙ plus_twice old DATA_HEAD_LEN (value_size v.value))
     ∙ sym (ap (λ (vs : List OidValue). plus_records old (records_in vs)) (here values i v is lt)) ∙ so_far
 
 -- ---- places

@@ -1,6 +1,7 @@
 -- How long a packed file is, and what else is told of it.
 use Rattle.std.specs.Prelude.{◌≡◌, ℕ, ◌+◌, ◌<◌, ◌^◌, ◌∷◌, ◌++◌, List, [], length, nat_lt, Option, None, Some, true, if◌then◌else◌}
 use Rattle.zbase.specs.History.{Value}
+use Rattle.fs_record.specs.declared.layout.TheConstants.{BARE_TXN_LEN}
 use Rattle.fs_record.specs.File.{AreRight, bytes_of}
 use Rattle.fs_record.specs.Opening.{is_end}
 use Rattle.fs_record.specs.Spelling.{Block}
@@ -25,7 +26,7 @@ plus_records size (r ∷ rs) = plus_records (plus size (record_size r)) rs
 
 -- with the size of a transaction
 abbrev pub plus_entry : Option ℕ → Entry → Option ℕ
-plus_entry size e = plus_records (plus (plus (plus (plus size 31) (length e.said.user)) (length e.said.description)) (length e.said.extension)) e.said.records
+plus_entry size e = plus_records (plus (plus (plus (plus size BARE_TXN_LEN) (length e.said.user)) (length e.said.description)) (length e.said.extension)) e.said.records
 
 -- a size is over the limit, and this much is told of it
 abbrev pub IsOver : Option ℕ → ℕ → ℕ → Type 0

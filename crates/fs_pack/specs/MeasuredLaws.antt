@@ -4,6 +4,7 @@ use Rattle.std.proofs.lemmas.List.{length-append}
 use Rattle.std.proofs.lemmas.List.Sums.{sum_by-append, sum_by-cons}
 use Rattle.std.proofs.lemmas.Bool.Decides.{nat_tests}
 use Rattle.zbase.specs.History.{Value}
+use Rattle.fs_record.specs.declared.layout.TheConstants.{BARE_TXN_LEN}
 use Rattle.packing.specs.Sizes.{record_size}
 use Rattle.fs_pack.specs.Entries.{Entry}
 use Rattle.fs_pack.specs.EntryLaws.{floor-append}
@@ -36,15 +37,15 @@ entry_from m e =
     let u = length e.said.user in
     let d = length e.said.description in
     let x = length e.said.extension in
-    let same : m + 31 + u + d + x + sum_by record_size e.said.records ≡ m + entry_size e = omega arith in
+    let same : m + BARE_TXN_LEN + u + d + x + sum_by record_size e.said.records ≡ m + entry_size e = omega arith in
     ap (λ (o : Option ℕ). plus_records o e.said.records)
-    (ap (λ (o : Option ℕ). plus (plus o d) x) (plus_fits (m + 31) u) ∙ ap (λ (o : Option ℕ). plus o x) (plus_fits (m + 31 + u) d) ∙ plus_fits (m + 31 + u + d) x)
-    ∙ records_fit (m + 31 + u + d + x) e.said.records
+    (ap (λ (o : Option ℕ). plus (plus o d) x) (plus_fits (m + BARE_TXN_LEN) u) ∙ ap (λ (o : Option ℕ). plus o x) (plus_fits (m + BARE_TXN_LEN + u) d) ∙ plus_fits (m + BARE_TXN_LEN + u + d) x)
+    ∙ records_fit (m + BARE_TXN_LEN + u + d + x) e.said.records
     ∙ ap fitting same
 
 entry_fits : (m : ℕ) (e : Entry) → plus_entry (fitting m) e ≡ fitting (m + entry_size e)
 entry_fits m e =
-    ap (λ (o : Option ℕ). plus_records (plus (plus (plus o (length e.said.user)) (length e.said.description)) (length e.said.extension)) e.said.records) (plus_fits m 31)
+    ap (λ (o : Option ℕ). plus_records (plus (plus (plus o (length e.said.user)) (length e.said.description)) (length e.said.extension)) e.said.records) (plus_fits m BARE_TXN_LEN)
     ∙ entry_from m e
 
 size_more : (es : List Entry) (e : Entry) → file_size (es ++ e ∷ []) ≡ file_size es + entry_size e

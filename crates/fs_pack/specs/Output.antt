@@ -10,6 +10,7 @@ use Rattle.fs_record.specs.Spelling.{Block, block_spelling}
 use Rattle.fs_record.specs.Written.{transaction}
 use Rattle.fs_record.specs.declared.body.Item.{Item}
 use Rattle.fs_record.specs.declared.body.TxnTexts.{TxnTexts}
+use Rattle.fs_record.specs.declared.layout.TheConstants.{TXN_HEAD_LEN}
 use Rattle.fs_pack.specs.Entries.{Entry}
 use Rattle.fs_pack.specs.Spelled.{blocks_behind, body_of, entry_size, file_of, texts_of}
 use Rattle.fs_pack.specs.declared.writing.Output.{Output}
@@ -45,7 +46,7 @@ pub record HasTexts (texts : TxnTexts) : Type 0 where
 -- a transaction more is written
 pub record Appends (e : Entry) (old new : Output) : Type 0 where
   pub end : new.end ≡ old.end + entry_size e
-  pub newest : (o : ℕ) → place_of new.newest o ≡ noted o (place_of old.newest o) (old.end + 23 + texts_size (texts_of e.said)) (items_with (place_of old.newest) e.said.records)
+  pub newest : (o : ℕ) → place_of new.newest o ≡ noted o (place_of old.newest o) (old.end + TXN_HEAD_LEN + texts_size (texts_of e.said)) (items_with (place_of old.newest) e.said.records)
 
 -- a sync succeeded, where the disk tells
 abbrev pub IsSettled : Option Told → Option Told → Type 0

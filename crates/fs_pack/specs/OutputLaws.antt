@@ -11,6 +11,7 @@ use Rattle.fs_record.specs.Sizes.{length-data, length-transaction, long-transact
 use Rattle.fs_record.specs.Spelling.{Block, Data, Records, block_spelling, data_spelling, long_of}
 use Rattle.fs_record.specs.Written.{data_of, records_of, transaction}
 use Rattle.fs_record.specs.declared.body.Item.{Item}
+use Rattle.fs_record.specs.declared.layout.TheConstants.{DATA_HEAD_LEN, TAIL_LEN, TXN_HEAD_LEN}
 use Rattle.packing.specs.Sizes as sizes
 use Rattle.fs_pack.specs.Entries.{Entry}
 use Rattle.fs_pack.specs.Output.{Appends, IsOutput, block_with, item_with, items_with, noted}
@@ -21,7 +22,7 @@ use Rattle.fs_pack.specs.declared.writing.Output.{Output}
 -- ---- how long it is
 
 item_long : (found : ℕ → Option ℕ) (r : ℕ × Value) → record_size (item_with found r) ≡ sizes.record_size r
-item_long found (o, None) = ap (λ (n : ℕ). 42 + n) (length-be64 0)
+item_long found (o, None) = ap (λ (n : ℕ). DATA_HEAD_LEN + n) (length-be64 0)
 item_long found (o, Some bytes) = refl
 
 items_long : (found : ℕ → Option ℕ) (rs : List (ℕ × Value)) → records_size (items_with found rs) ≡ sum_by sizes.record_size rs
@@ -69,7 +70,7 @@ after_records : (front : Front) (b : Block) (ds : List Data) → (after_in front
 unfolding after_in
 after_records front b ds = refl
 
-after_place : (front : Front) (b : Block) (ds : List Data) → (after_in front b (Records ds)).place ≡ front.place + (long_of b + 8)
+after_place : (front : Front) (b : Block) (ds : List Data) → (after_in front b (Records ds)).place ≡ front.place + (long_of b + TAIL_LEN)
 unfolding after_in
 after_place front b ds = refl
 
@@ -93,7 +94,7 @@ output_more es e old new before after is more file = record {
   end = more.end ∙ ap₂ (λ (m n : ℕ). m + n) is.end (sym (with_size old.end (place_of old.newest) e)) ∙ sym (ap length file ∙ length-append before (block_spelling (block_with old.end (place_of old.newest) e)));
   newest = λ o.
       more.newest o
-      ∙ ap (λ (f : Option ℕ). noted o f (old.end + 23 + texts_size (texts_of e.said)) (items_with (place_of old.newest) e.said.records)) (is.newest o)
+      ∙ ap (λ (f : Option ℕ). noted o f (old.end + TXN_HEAD_LEN + texts_size (texts_of e.said)) (items_with (place_of old.newest) e.said.records)) (is.newest o)
       ∙ ap₂ (λ (n : ℕ) (items : List Item). noted o (known (last_place o 0 (rows front.records))) n items) first items
       ∙ noted_so o (last_place o 0 (rows front.records)) (records_place front.place (block_of front e)) e.said.tid front.place front.records (items_of front e.said)
       ∙ sym (ap (λ (bs : List Block). known (last_place o 0 (rows (front_of bs).records))) (behind-append [] es (e ∷ []))
@@ -120,5 +121,5 @@ output_more es e old new before after is more file = record {
     block : block_with old.end (place_of old.newest) e ≡ block_of front e
     block = ap₂ (λ (n : ℕ) (xs : List Item). transaction n e.said.tid e.status (texts_of e.said) xs) end items
 
-    first : old.end + 23 + texts_size (texts_of e.said) ≡ records_place front.place (block_of front e)
+    first : old.end + TXN_HEAD_LEN + texts_size (texts_of e.said) ≡ records_place front.place (block_of front e)
     first = omega (arith, end)

@@ -7,6 +7,7 @@ use Rattle.fs_record.specs.declared.body.Body.{Body}
 use Rattle.fs_record.specs.declared.body.Body.TheVariants.{Full, Back}
 use Rattle.fs_record.specs.declared.body.Item.{Item}
 use Rattle.fs_record.specs.declared.body.TxnTexts.{TxnTexts}
+use Rattle.fs_record.specs.declared.layout.TheConstants.{BARE_TXN_LEN}
 use Rattle.fs_record.specs.Spelling.{Block}
 use Rattle.fs_record.specs.File.{Front, bytes_of, front_of, is_counted, last_place, rows}
 use Rattle.fs_record.specs.Written.{transaction}
@@ -43,7 +44,7 @@ file_of es = bytes_of (blocks_behind [] es)
 -- ---- how long it is, and which transactions can be written
 
 abbrev pub entry_size : Entry → ℕ
-entry_size e = 31 + length e.said.user + length e.said.description + length e.said.extension + sum_by record_size e.said.records
+entry_size e = BARE_TXN_LEN + length e.said.user + length e.said.description + length e.said.extension + sum_by record_size e.said.records
 
 abbrev pub file_size : List Entry → ℕ
 file_size es = 4 + sum_by entry_size es

@@ -10,6 +10,7 @@ use Rattle.zbase.specs.Values.{last}
 use Rattle.zbase.specs.HistoryLaws.{last_after-append}
 use Rattle.zbase.specs.NumberLaws.{length-be64}
 use Rattle.zbase.specs.declared.ids.Row.{Row}
+use Rattle.fs_record.specs.declared.layout.TheConstants.{BARE_TXN_LEN, DATA_HEAD_LEN}
 use Rattle.fs_record.specs.declared.body.Item.{Item}
 use Rattle.fs_record.specs.Spelling.{Block, block_spelling}
 use Rattle.fs_record.specs.File.{Earlier, Front, IsFile, AreRight, after, bytes_of, front_of, is_right_body, last_place, longer, rows, value_of}
@@ -26,8 +27,8 @@ use Rattle.fs_pack.specs.Spelled.{IsEntry, IsValue, block_of, blocks_behind, bod
 abbrev Records : Type 0
 Records = List (ℕ × Value)
 
-item_size : (earlier : List Row) (r : ℕ × Value) → record_size (item_of earlier r) ≡ 42 + value_size r.1
-item_size earlier (o, None) = ap (λ (n : ℕ). 42 + n) (length-be64 0)
+item_size : (earlier : List Row) (r : ℕ × Value) → record_size (item_of earlier r) ≡ DATA_HEAD_LEN + value_size r.1
+item_size earlier (o, None) = ap (λ (n : ℕ). DATA_HEAD_LEN + n) (length-be64 0)
 item_size earlier (o, Some bytes) = refl
 
 items_size : (earlier : List Row) (rs : Records) → records_size (map (item_of earlier) rs) ≡ sum_by sizes.record_size rs
@@ -158,7 +159,7 @@ history_behind bs (e ∷ es) =
 
 -- it is as long as is told of the history
 one_size : (e : Entry) → entry_size e ≡ transaction_size e.said
-one_size e = ap (λ (n : ℕ). 31 + length e.said.user + length e.said.description + length e.said.extension + n) (sym (sum-map sizes.record_size e.said.records))
+one_size e = ap (λ (n : ℕ). BARE_TXN_LEN + length e.said.user + length e.said.description + length e.said.extension + n) (sym (sum-map sizes.record_size e.said.records))
 
 all_sizes : (es : List Entry) → sum_by entry_size es ≡ sum_by transaction_size (map (λ (e : Entry). e.said) es)
 all_sizes [] = refl

@@ -4,7 +4,7 @@ ghost use Rattle.fs_pack.specs.Measured.{IsTally, plus, plus_entry, plus_records
 ghost use Rattle.fs_scan.specs.Wholes.{records_in};
 ghost use Rattle.packing.specs.Sizes.{value_size};
 
-use fs_record::{MAGIC_LEN, STATUS_PACKED};
+use fs_record::{BACK_LEN, BARE_TXN_LEN, DATA_HEAD_LEN, MAGIC_LEN, STATUS_PACKED};
 use fs_scan::{OidValue, Whole};
 use zbase::{Tid, Value};
 
@@ -35,7 +35,7 @@ fn value_size(value: &Value) -> u64
 {
     match value {
         Some(bytes) => bytes.len() as u64,
-        None => 8,
+        None => BACK_LEN as u64,
     }
 }
 
@@ -45,7 +45,7 @@ fn plus_values(size: Option<u64>, values: &[OidValue]) -> Option<u64>
 {
     let mut size = size;
     for value in values {
-        size = plus(plus(size, 42), value_size(&value.value));
+        size = plus(plus(size, DATA_HEAD_LEN as u64), value_size(&value.value));
     }
     size
 }
@@ -54,7 +54,7 @@ fn plus_values(size: Option<u64>, values: &[OidValue]) -> Option<u64>
 pub(crate) fn plus_whole(size: Option<u64>, whole: &Whole) -> Option<u64>
     ensures { result ≡ plus_entry size (entry_of whole.now) }
 {
-    let size = plus(size, 31);
+    let size = plus(size, BARE_TXN_LEN as u64);
     let size = plus(size, whole.texts.user.len() as u64);
     let size = plus(size, whole.texts.description.len() as u64);
     let size = plus(size, whole.texts.extension.len() as u64);

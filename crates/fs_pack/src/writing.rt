@@ -23,7 +23,10 @@ ghost use Rattle.fs_pack.specs.Plans.{IsPacked, StandsFor};
 use crate::tallying::plus_whole;
 use crate::{PackRefusal, Packed, Plan, PutRefusal};
 use fs_index::Index;
-use fs_record::{Body, Item, MAGIC_LEN, MAX_LENGTH, TxnTexts, texts_size, write_txn};
+use fs_record::{
+    BACK_LEN, Body, DATA_HEAD_LEN, Item, MAGIC_LEN, MAX_LENGTH, TXN_HEAD_LEN, TxnTexts, texts_size,
+    write_txn,
+};
 use fs_scan::{OidValue, OidValues, ScanRefusal, Walk, Whole};
 use std::alloc::Global;
 use zbase::{Bytes, Items, Memory, Value};
@@ -61,7 +64,7 @@ fn body_size(body: &Body) -> u64
 {
     match body {
         Body::Full(bytes) => bytes.len() as u64,
-        Body::Back(_) => 8,
+        Body::Back(_) => BACK_LEN as u64,
     }
 }
 
@@ -69,7 +72,7 @@ fn body_size(body: &Body) -> u64
 fn behind(place: u64, item: &Item) -> Result<u64, Memory>
     ensures { IfOk result (λ at. at ≡ place + record_size item.now) }
 {
-    let Some(at) = place.checked_add(42) else {
+    let Some(at) = place.checked_add(DATA_HEAD_LEN as u64) else {
         return Err(Memory);
     };
     match at.checked_add(body_size(&item.body)) {
@@ -179,7 +182,7 @@ impl Output {
         let mut bytes = Bytes::new(alloc);
         write_txn(&mut bytes, self.end, tid, status, &texts, items.as_slice())?;
         put(to, self.end, bytes.as_slice())?;
-        let first = self.end + 23 + texts_size(&texts) as u64;
+        let first = self.end + TXN_HEAD_LEN as u64 + texts_size(&texts) as u64;
         note(&mut self.newest, first, items.as_slice())?;
         self.end = end;
         Ok(())

@@ -78,7 +78,7 @@ pub trait Shelf {
 
     /// Puts the one file whole in the place of the other, whether or not there is such a one; from then on there is none
     /// under its own name. A stop leaves the place as it was, or with the new file, and a stop at any later moment leaves
-    /// it so.
+    /// it so. Whatever the answer, each file of another name that lasted before lasts still.
     ///
     /// `Missing` comes exactly where the shelf, if it tells, has no such new file, want of memory aside.
     fn replace(&mut self, new: &str, main: &str) -> Result<(), ShelfRefusal>
@@ -89,6 +89,7 @@ pub trait Shelf {
         ensures replaces { IsErrOf result ShelfRefusal.Exists → ⊥ }
         ensures kept { OnErr result (files self.new ≡ files self.old) }
         ensures lasting { OnOk result (lasts self.old new.now → lasts self.new main.now × Lasts (lasts self.old) (lasts self.new)) }
+        ensures others { (other : List ℕ) → (other ≡ new.now → ⊥) → (other ≡ main.now → ⊥) → lasts self.old other → lasts self.new other }
         ensures stays_sound { sound_disks self.old → sound_disks self.new }
         ensures counts { Counts (counter self.old) (counter self.new) (IsErrOf result ShelfRefusal.Failed) };
 }

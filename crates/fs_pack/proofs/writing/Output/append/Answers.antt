@@ -3,6 +3,7 @@ use Rattle.fs_index.specs.Places.{place_of}
 use Rattle.fs_record.specs.Spelling.{block_spelling}
 use Rattle.fs_record.specs.Written.{transaction}
 use Rattle.fs_record.specs.declared.body.Item.{Item}
+use Rattle.fs_record.specs.declared.layout.TheConstants.{TXN_HEAD_LEN}
 use Rattle.fs_pack.specs.Entries.{entry_of}
 use Rattle.fs_pack.specs.Output.{noted}
 use Rattle.fs_pack.specs.OutputLaws.{with_size}
@@ -37,5 +38,5 @@ returns-clause-appends g c =
       end = sized.is;
       newest = λ o.
           c.in_ok-note.ensures o
-          ∙ ap₂ (λ (n : ℕ) (items : List Item). noted o (place_of old.newest o) (old.end + 23 + n) items) c.texts_size.ensures (c.as_slice-3.ensures ∙ c.in_ok-items.ensures.items);
+          ∙ ap₂ (λ (n : ℕ) (items : List Item). noted o (place_of old.newest o) (old.end + TXN_HEAD_LEN + n) items) c.texts_size.ensures (c.as_slice-3.ensures ∙ c.in_ok-items.ensures.items);
     }
