@@ -1,0 +1,4 @@
+pub mod Drawing
+pub mod Messages
+pub mod Rounds
+pub mod Worked
