@@ -1,7 +1,6 @@
 //! Plans packs of files in memory and writes them, for each case of the files that its words name, and tells which are wrong.
 #![tactic(auto)]
 
-mod linking;
 mod running;
 mod telling;
 

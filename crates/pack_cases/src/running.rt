@@ -4,8 +4,8 @@ ghost use Rattle.zdisk.specs.Disk.{content, synced};
 ghost use Rattle.packing.specs.Reachable.{Linking};
 ghost use Rattle.fs_pack.specs.Plans.{StandsFor};
 
-use crate::linking::ByteLinks;
 use crate::telling::{packed_words, refusal_words};
+use case_links::ByteLinks;
 use cases::{Case, CasesRefusal, Part, Runner, add_bytes, add_line};
 use fs_pack::{Plan, plan, write};
 use std::alloc::Global;
@@ -96,7 +96,7 @@ impl Runner for PackRuns {
         let before = time_of(case)?;
         let limit = case.number("limit", u64::MAX)?;
         let mut disk = disk_of(alloc, case, "from", case.bytes(alloc, "file")?)?;
-        match plan(alloc, &mut disk, before, limit, &ByteLinks { alloc }) {
+        match plan(alloc, &mut disk, before, limit, &ByteLinks::new(alloc)) {
             Ok(plan) => {
                 let size = plan.size();
                 let words = format!(in alloc; "size {size}")?;

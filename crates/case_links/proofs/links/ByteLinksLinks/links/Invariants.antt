@@ -1,6 +1,6 @@
 use Rattle.std.proofs.Common.{◌≡◌, ◌==◌, ◌++◌, drop}
 use Rattle.std.specs.List.{list_any}
-use Rattle.pack_cases.proofs.linking.ByteLinksLinks.links.Given as goal
+use Rattle.case_links.proofs.links.ByteLinksLinks.links.Given as goal
 
 -- the ids so far, with the rest, are the bytes, and an `x` is among the rest if there is one
 abbrev pub invariant-loop-byte : goal.invariant-loop-byte

@@ -1,4 +1,4 @@
-ghost use Rattle.pack_cases.specs.Linked.{linked_by};
+ghost use Rattle.case_links.specs.Linked.{linked_by};
 
 use packing::Links;
 use std::alloc::Global;
@@ -7,7 +7,14 @@ use zbase::{Memory, Oid, Oids};
 /// Values of cases: each byte is the id of an object to which a value leads, and bytes with an `x` spell no object.
 #[derive(Drop)]
 pub struct ByteLinks {
-    pub alloc: Global,
+    alloc: Global,
+}
+
+impl ByteLinks {
+    /// Takes no memory.
+    pub fn new(alloc: Global) -> ByteLinks {
+        ByteLinks { alloc }
+    }
 }
 
 impl Links for ByteLinks {
