@@ -8,4 +8,4 @@ mod making;
 mod objects;
 
 pub use laws::new_sites_open;
-pub use making::{MakeRefusal, make_site};
+pub use making::{MakeRefusal, make_site, site_bytes};

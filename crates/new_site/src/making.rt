@@ -40,11 +40,17 @@ impl From<Memory> for MakeRefusal {
     }
 }
 
-// The file whose transaction isn't finished.
+// The file whose one transaction has this status.
 #[tactic(auto, using(crate::specs::SiteLaws::site_bodies, crate::specs::SiteLaws::site_fits), unfolding(crate::specs::NewSite::file_with))]
-fn waiting_file(alloc: Global, stamp: Tid, name: &str, password: &str) -> Result<Bytes, Memory>
+fn file_with(
+    alloc: Global,
+    status: u8,
+    stamp: Tid,
+    name: &str,
+    password: &str,
+) -> Result<Bytes, Memory>
     requires name { Keeps UserName name.now }
-    ensures { IfOk result (λ bytes. bytes ≡ file_with STATUS_WAITING stamp name.now password.now) }
+    ensures { IfOk result (λ bytes. bytes ≡ file_with status stamp name.now password.now) }
 {
     let texts = TxnTexts {
         user: Bytes::new(alloc),
@@ -57,7 +63,7 @@ fn waiting_file(alloc: Global, stamp: Tid, name: &str, password: &str) -> Result
         &mut bytes,
         MAGIC_LEN as u64,
         stamp,
-        STATUS_WAITING,
+        status,
         &texts,
         items.as_slice(),
     )?;
@@ -78,6 +84,14 @@ fn put_file<D: Disk>(disk: &mut D, waiting: &[u8]) -> Result<(), Failed>
 {
     append_and_sync(disk, 0, waiting)?;
     overwrite_and_sync(disk, (MAGIC_LEN + STATUS_AT) as u64, STATUS_COUNTED)
+}
+
+/// The file of a new site, as `make_site` leaves it.
+pub fn site_bytes(alloc: Global, stamp: Tid, name: &str, password: &str) -> Result<Bytes, Memory>
+    requires { Keeps UserName name.now }
+    ensures { IfOk result (λ bytes. bytes ≡ site_file stamp name.now password.now) }
+{
+    file_with(alloc, STATUS_COUNTED, stamp, name, password)
 }
 
 /// Makes a new site in an empty file: a root folder, a user folder with one manager of this name and password, and a
@@ -101,7 +115,7 @@ pub fn make_site<D: Disk>(
     ensures counts { Counts (D.counter disk.old) (D.counter disk.new) (IsErrOf result MakeRefusal.Disk) }
 {
     one_image();
-    let bytes = waiting_file(alloc, stamp, name, password)?;
+    let bytes = file_with(alloc, STATUS_WAITING, stamp, name, password)?;
     disk.reserve(4, bytes.len() as u64 + 1)?;
     put_file(disk, bytes.as_slice())?;
     Ok(())
