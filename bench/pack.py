@@ -9,13 +9,12 @@ doesn't. Each run packs a copy of its own, with its pages in the system's cache.
 
 import argparse
 import pathlib
-import shutil
 import subprocess
 import sys
 import tempfile
 
 from backup import least, run
-from replay import BUILT, Writer, be, build, folder, text
+from replay import BUILT, Writer, be, build, document, folder, text
 
 FIRST = 0x0331620000000000
 FOLDERS, DOCUMENTS, TOGETHER = 100, 100, 10
@@ -26,11 +25,6 @@ def part(name, children):
     """The record of a folder in the root."""
     listed = b"".join(text(child) + be(oid, 8) for child, oid in children)
     return b"Z1F" + text(name) + be(0, 8) + text(b"") + be(0, 6) + be(len(children), 2) + listed
-
-
-def document(name, source, parent):
-    """The record of a document in a folder."""
-    return b"Z1D" + text(name) + be(parent, 8) + text(b"") + be(0, 6) + be(len(source), 4) + source
 
 
 def oid_of(number):
@@ -87,8 +81,6 @@ def main():
         checked = subprocess.run([BUILT, "check", copy], stdout=subprocess.PIPE, text=True, check=False)
         if checked.returncode:
             sys.exit(f"the packed file doesn't open: {checked.stdout}")
-        shutil.rmtree(home, ignore_errors=True)
-        home.mkdir()
     (seconds, memory), other = least(ours), least(theirs)[0]
     print(f"pack: {size} bytes, {given.records} records, {left} bytes left, {seconds:.2f} s, cp and sha1sum {other:.2f} s, ratio {seconds / other:.2f}, memory {memory}")
 

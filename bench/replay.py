@@ -33,8 +33,9 @@ def folder(children):
     return b"Z1F" + text(b"") + be(0, 8) + text(b"Site") + be(0, 6) + be(len(children), 2) + listed
 
 
-def document(name, source):
-    return b"Z1D" + text(name) + be(0, 8) + text(b"") + be(0, 6) + be(len(source), 4) + source
+def document(name, source, parent=0):
+    """The record of a document in a folder: in the root, where none is given."""
+    return b"Z1D" + text(name) + be(parent, 8) + text(b"") + be(0, 6) + be(len(source), 4) + source
 
 
 class Writer:

@@ -314,8 +314,10 @@ def request(method, path, form=None, by=None):
 class Play:
     """A run that is made step by step."""
 
+    model = Run
+
     def __init__(self, content, limit=NO_LIMIT):
-        self.given, self.run = [], Run(content, site, limit)
+        self.given, self.run = [], self.model(content, site, limit)
         self.run.blocks = [b"zope report 1\n" + self.run.opened]
 
     def put(self, item):
@@ -379,8 +381,8 @@ FILES = {"new_site": file_of(INIT), "old_site": file_of(INIT, 1)}
 CASES = []
 
 
-def case(title, play, file="new_site", limit=""):
-    CASES.append((title, play.end(), file, limit))
+def case(title, play, file="new_site", limit="", command="replay"):
+    CASES.append((title, play.end(), file, limit, command))
 
 
 def kept_lines(content):
@@ -424,7 +426,9 @@ def put_items(items):
         at += same
 
 
-def put_all():
+def put_all(further={}):
+    """Writes the cases; of their reports the replies that stand several times, what the files hold, and further texts by their names stand
+    in pieces."""
     replies = [block for _, play, *_ in CASES for block in play.run.blocks if block.startswith(b"reply")]
     shared = {}
     for block in sorted({block for block in replies if replies.count(block) > 1}):
@@ -444,13 +448,17 @@ def put_all():
             put_bytes(kept_lines(content))
             print()
         lines[name.replace("_site", "_kept") if name in ("new_site", "old_site") else f"{name}_kept"] = kept_lines(content)
-    for title, play, file, limit in CASES:
+    for name, block in further.items():
+        print(f"piece {name}")
+        put_bytes(block)
+        print()
+    for title, play, file, limit, command in CASES:
         print(f"case {title}")
-        print(f"words replay site.fs{limit}\nfile site.fs\n  use {file}\ninput\n  | zope schedule 1")
+        print(f"words {command} site.fs{limit}\nfile site.fs\n  use {file}\ninput\n  | zope schedule 1")
         put_items(play.given)
         print("  | end\nstatus 0\noutput")
         # a piece ends with its line, so that what stands before and behind it are lines too
-        put_shared(play.printed(), shared | lines)
+        put_shared(play.printed(), shared | lines | further)
         print()
 
 

@@ -11,8 +11,8 @@ armed entry and its seed (`stops.py`), the table of a worker's steps, and the de
 
 - An opening syncs, looks at the length twice, and goes over the file by pieces of 65,536 bytes: one is read where bytes aren't in
   the one before that are looked at, which are the magic, and of each transaction its head, the first 50 bytes of each record, and
-  its second length. Of each back pointer the id is read that stands where it points. A torn rest is cut off, which is synced; of
-  one that has a head the status is read before that.
+  its second length; of one that was undone in the old manner no records. Of each back pointer the id is read that stands where it
+  points. A torn rest is cut off, which is synced; of one that has a head the status is read before that.
 - Loading an object reads the head of its newest record, and of each one before it up to the transaction that is asked for,
   and then that record's data. An object without a record takes no call.
 - A vote writes its record and syncs, a finish writes the status and syncs, an abort cuts the record off and syncs. A vote that
@@ -89,11 +89,12 @@ class Known:
         return self.transactions[-1][0] if self.transactions else 0
 
     def newest(self, oid):
-        return next(((tid, place) for tid, _, records in reversed(self.transactions) for o, place, _ in records if o == oid), None)
+        return next(((tid, place) for tid, place, _ in self.revisions(oid)), None)
 
     def revisions(self, oid):
-        """The object's records, newest first."""
-        return [(tid, place, data) for tid, _, records in reversed(self.transactions) for o, place, data in records if o == oid]
+        """The object's records, newest first, of a transaction the last one."""
+        found = [(tid, [(place, data) for o, place, data in records if o == oid]) for tid, _, records in reversed(self.transactions)]
+        return [(tid, *of[-1]) for tid, of in found if of]
 
     def greatest(self):
         return max((o for _, _, records in self.transactions for o, _, _ in records), default=-1)
@@ -184,6 +185,10 @@ def opening(disk):
         status = content[known.end + 16]
         if status in b"c\0" or length + 8 > left:
             break
+        if status == ord("u"):
+            pieces.show(known.end + length, 8)
+            known.end += length + 8
+            continue
         pieces.show_transaction(known.end, length)
         assert status in b" p"
         found = transaction_at(content, known.end)
@@ -317,10 +322,13 @@ def cells(request, known):
     """The evaluator of cells: what is asked for; or a reply's status, body, type and the lines behind it; or a change's user,
     description and entries, of which each new object's name is None."""
     words = request.split()
-    oid = int(words[1], 16)
-    if oid not in known:
-        return "need", oid
-    value = known[oid]
+    asks = {b"log": lambda: ("log",), b"part": lambda: ("transaction", int(words[1], 16))}
+    ask = asks.get(words[0], lambda: int(words[1], 16))()
+    if ask not in known:
+        return "need", ask
+    value = known[ask]
+    if words[0] in (b"log", b"part"):
+        return "answer", 200, (b"none" if value is None else b"%d" % len(value)) + b"\n", "plain", []
     if words[0] == b"read":
         return "answer", 200, (b"none" if value is None else value.hex().encode()) + b"\n", "plain", []
     data = (value or b"") + b"+"
@@ -482,14 +490,16 @@ class Run:
         if self.store.out:
             self.store.abort()
         self.store.refresh()
-        printed = "".join(f"lost {w}\n" for w in sorted(self.workers))
+        return "".join(f"lost {w}\n" for w in sorted(self.workers)).encode() + self.history() + b"end\n"
+
+    def history(self):
         known = self.store.known
-        printed += f"history {len(known.transactions)}\n" + (f"floor {hex16(known.floor)}\n" if known.floor else "")
+        printed = f"history {len(known.transactions)}\n" + (f"floor {hex16(known.floor)}\n" if known.floor else "")
         for tid, texts, records in known.transactions:
             said = " ".join(text.hex() or "-" for text in texts)
             printed += f"transaction {hex16(tid)} {said} {len(records)}\n"
             printed += "".join(f"record {hex16(oid)} {'none' if data is None else data.hex()}\n" for oid, _, data in records)
-        return printed.encode() + b"end\n"
+        return printed.encode()
 
     def go(self, items):
         self.blocks = [b"zope report 1\n" + self.opened]
@@ -502,8 +512,8 @@ class Run:
 def item_bytes(item):
     if item[0] == "request":
         return f"request {item[1]} {len(item[2])}\n".encode() + item[2] + b"\n"
-    if item[0] == "clock":
-        return f"clock {hex16(item[1])}\n".encode()
+    if item[0] in ("clock", "pack"):
+        return f"{item[0]} {hex16(item[1])}\n".encode()
     return (" ".join(map(str, item)) + "\n").encode()
 
 
@@ -556,7 +566,7 @@ class Pieces:
             print(f"piece {self.name}_to_{front}")
             if before:
                 print(f"  use {self.name}_to_{before}")
-            put_bytes(b"".join(self.rows[0][before:front]))
+            self.put_blocks(self.rows[0][before:front])
             print()
         for at, run in enumerate(self.shared_ends()):
             print(f"piece {self.name}_from_{at}")
@@ -564,9 +574,12 @@ class Pieces:
             self.names[run] = f"{self.name}_from_{at}"
             print()
 
+    def put_blocks(self, blocks):
+        put_bytes(b"".join(blocks))
+
     def put_end(self, rest):
         at = next((at for at in range(len(rest)) if rest[at:] in self.names), len(rest))
-        put_bytes(b"".join(rest[:at]))
+        self.put_blocks(rest[:at])
         if at < len(rest):
             print(f"  use {self.names[rest[at:]]}")
 
@@ -579,47 +592,70 @@ class Pieces:
 class Table:
     """Cases over one file."""
 
+    pieces = Pieces
+
     def __init__(self, program, name, content, shared_file):
         self.program, self.name, self.content, self.file = program, name, content, shared_file
         self.evaluator = pages if program == "zope" else cells
         self.cases = []
 
+    def run(self, limit):
+        return Run(self.content, self.evaluator, limit)
+
     def add(self, title, items, limit=100_000):
-        run = Run(self.content, self.evaluator, limit).go(items)
+        run = self.run(limit).go(items)
         self.cases.append((title, items, limit, tuple(run.blocks), run))
         return run
 
-    def put(self):
-        inputs = Pieces(f"{self.name}_given", [tuple(map(item_bytes, items)) + (b"end\n",) for _, items, *_ in self.cases])
-        inputs.put()
-        outputs = Pieces(self.name, [blocks for *_, blocks, _ in self.cases])
-        outputs.put()
-        disks = []
-        for *_, run in self.cases:
-            if run.disk.content not in disks:
-                disks.append(run.disk.content)
-        if self.program == "replay":
-            for at, content in enumerate(disks):
-                print(f"piece {self.name}_disk_{at}\n  use {self.file}")
-                assert content[: len(self.content)] == self.content
-                put_hex(content[len(self.content) :])
-                print()
-        return self.put_cases, inputs, outputs, disks
+    def rows(self):
+        """The lines of each case's schedule, and the blocks of its report."""
+        return [tuple(map(item_bytes, items)) + (b"end\n",) for _, items, *_ in self.cases], [blocks for *_, blocks, _ in self.cases]
 
-    def put_cases(self, inputs, outputs, disks):
-        for (title, items, limit, blocks, run), row in zip(self.cases, inputs.rows):
+    def put(self):
+        given, printed = self.rows()
+        inputs = self.pieces(f"{self.name}_given", given)
+        inputs.put()
+        outputs = self.pieces(self.name, printed)
+        outputs.put()
+        self.disks = []
+        if self.program == "replay":
+            self.put_disks()
+        return self.put_cases, inputs, outputs
+
+    def put_disks(self):
+        """Writes what is on the disks at the end."""
+        for *_, run in self.cases:
+            if run.disk.content not in self.disks:
+                self.disks.append(run.disk.content)
+        for at, content in enumerate(self.disks):
+            print(f"piece {self.name}_disk_{at}\n  use {self.file}")
+            assert content[: len(self.content)] == self.content
+            put_hex(content[len(self.content) :])
+            print()
+
+    def put_disk(self, run):
+        if self.program == "replay":
+            print(f"disk\n  use {self.name}_disk_{self.disks.index(run.disk.content)}")
+
+    def put_status(self, run):
+        print("status 0" if self.program == "zope" else "status done")
+
+    def put_given(self, limit):
+        if self.program == "zope":
+            print(f"words replay site.fs --limit {limit}\nfile site.fs")
+        else:
+            print(f"limit {limit}\nfile")
+
+    def put_cases(self, inputs, outputs):
+        for (title, _, limit, _, run), row, blocks in zip(self.cases, inputs.rows, outputs.rows):
             print(f"case {title}")
-            if self.program == "zope":
-                print(f"words replay site.fs --limit {limit}\nfile site.fs")
-            else:
-                print(f"limit {limit}\nfile")
+            self.put_given(limit)
             print(f"  use {self.file}\ninput\n  | zope schedule 1")
             inputs.put_row(row)
-            print("status 0" if self.program == "zope" else "status done")
+            self.put_status(run)
             print("output")
             outputs.put_row(blocks)
-            if self.program == "replay":
-                print(f"disk\n  use {self.name}_disk_{disks.index(run.disk.content)}")
+            self.put_disk(run)
             print()
 
 
