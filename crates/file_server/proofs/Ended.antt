@@ -8,6 +8,7 @@ use Rattle.zio.specs.Hubs.{Peers}
 use Rattle.evaluator.specs.Exec.{Eval}
 use Rattle.http_clients.specs.Arriving.{Tells}
 use Rattle.http_clients.specs.Clients.{Client, held}
+use Rattle.packing.specs.Reachable.{Linking}
 use Rattle.schedule.specs.Items.{IsSchedule}
 use Rattle.fs_store.specs.Opened.{Opens, OpensAs, WhereTold}
 use Rattle.fs_store.specs.Stores.{IsTold, StoreView, most_length}
@@ -37,7 +38,7 @@ use Rattle.file_server.proofs.Tapes.{taped_as, taped_whole}
 -- there is a report for each store that may stand
 abbrev pub AreReported : {E R S : Type 0} → (List ℕ → Option R) → Eval R → CoreView E R S → CoreView E R S → List Happening → Type 0
 AreReported takes eval old new all =
-    IsTold old.store → (may : StoreView) → Possible new.store may → Reports (terms_of takes eval old.store.limit old.store.end) old.store.disk.counter.count new.store.disk.counter.count old.store.history all may
+    IsTold old.store → (links : Linking) (may : StoreView) → Possible new.store may → Reports (terms_of takes eval links old.store.limit old.store.end) old.store.disk.counter.count new.store.disk.counter.count old.store.history all may
 
 abbrev pub WasServed : {E R S : Type 0} → (List ℕ → Option R) → Eval R → (port connections most : ℕ) → CoreView E R S → CoreView E R S → Option Told → Option (List Tick) → Counter → Option (List Tick) → Counter → Option Peers → Option Peers → Served → Type 0
 WasServed takes eval port connections most old new tape ticks counter ticks' counter' hub hub' served =
@@ -87,7 +88,7 @@ closed_calmly takes eval port connections most old new tape a k b l hub hub' r l
 
 leaves : {E R S : Type 0} (takes : List ℕ → Option R) (eval : Eval R) (old new : CoreView E R S) (all : List Happening) (disk : Option Told) → AreReported takes eval old new all → WentOn old new → IfSome disk (λ t. MayHold new.store (content t)) → LeavesDisk takes eval old.store all disk
 leaves takes eval old new all None reports on holds told = tt
-leaves takes eval old new all (Some t) reports on holds told = record { may = holds.0; count = new.store.disk.counter.count; reports = reports told holds.0 holds.1; calm = λ calm. (on.1 calm).1; end = holds.2; opens = holds.3 }
+leaves takes eval old new all (Some t) reports on holds told = record { may = holds.0; count = new.store.disk.counter.count; reports = λ links. reports told links holds.0 holds.1; calm = λ calm. (on.1 calm).1; end = holds.2; opens = holds.3 }
 
 pub served_over : {E R S : Type 0} (takes : List ℕ → Option R) (eval : Eval R) (port connections most : ℕ) (old new : CoreView E R S) (disk tape : Option Told) (a : Option (List Tick)) (k : Counter) (b : Option (List Tick)) (l : Counter) (hub hub' : Option Peers) (served : Served)
     → WasServed takes eval port connections most old new tape a k b l hub hub' served → IfSome disk (λ t. MayHold new.store (content t)) → ServedOver takes eval port connections most old.store disk tape a k b l hub hub' served.connections served.replies
@@ -171,7 +172,7 @@ runs sound takes eval all s torn before opened after opens limit calm left = rec
   new = left.count;
   calm = λ is. (left.calm (calm is), (calm is).below);
   may = left.may;
-  reports = subst (λ n. Reports (terms_of takes eval n s.end) s.disk.counter.count left.count s.history all left.may) limit left.reports;
+  reports = λ links. subst (λ n. Reports (terms_of takes eval links n s.end) s.disk.counter.count left.count s.history all left.may) limit (left.reports links);
   stands = left.end;
   left = left.opens;
 }

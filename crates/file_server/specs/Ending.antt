@@ -7,6 +7,7 @@ use Rattle.zio.specs.Clocks.{Tick}
 use Rattle.zio.specs.Hubs.{Peers}
 use Rattle.evaluator.specs.Exec.{Eval}
 use Rattle.http_clients.specs.Arriving.{Tells}
+use Rattle.packing.specs.Reachable.{Linking}
 use Rattle.schedule.specs.Items.{IsSchedule}
 use Rattle.fs_store.specs.Moments.{OpensTo}
 use Rattle.fs_store.specs.Stores.{IsTold, StoreView}
@@ -26,7 +27,7 @@ MayHold s bytes = (may : StoreView) × Possible s may × (end : ℕ) × OpensTo 
 pub record Leaves {R : Type 0} (takes : List ℕ → Option R) (eval : Eval R) (store : StoreView) (all : List Happening) (bytes : List ℕ) : Type 0 where
   pub may : StoreView
   pub count : ℕ
-  pub reports : Reports (terms_of takes eval store.limit store.end) store.disk.counter.count count store.history all may
+  pub reports : (links : Linking) → Reports (terms_of takes eval links store.limit store.end) store.disk.counter.count count store.history all may
   pub calm : IsFaultless store.disk.counter → count ≡ store.disk.counter.count
   pub end : ℕ
   pub opens : OpensTo bytes may.history end

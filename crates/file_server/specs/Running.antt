@@ -9,6 +9,7 @@ use Rattle.zio.specs.Clocks.{Tick}
 use Rattle.zio.specs.Hubs.{Peers}
 use Rattle.evaluator.specs.Exec.{Eval}
 use Rattle.http_clients.specs.Arriving.{Tells}
+use Rattle.packing.specs.Reachable.{Linking}
 use Rattle.schedule.specs.Items.{IsSchedule}
 use Rattle.fs_store.specs.Moments.{OpensTo}
 use Rattle.fs_store.specs.Opened.{WhereTold}
@@ -33,7 +34,7 @@ pub record Runs {R : Type 0} (sound : Type 0) (takes : List ℕ → Option R) (e
   pub new : ℕ
   pub calm : sound → (new ≡ old) × (old < greatest_number)
   pub may : StoreView
-  pub reports : Reports (terms_of takes eval most_length end) old new history all may
+  pub reports : (links : Linking) → Reports (terms_of takes eval links most_length end) old new history all may
   pub stands : ℕ
   pub left : OpensTo after may.history stands
 

@@ -20,6 +20,9 @@ regroup_stop n seed r = simp append_assoc
 pub regroup_fail : (n seed : ℕ) (r : List ℕ) → item_text (Item2.Fail n seed) ++ r ≡ codes "fail " ++ (decimal n ++ 32 ∷ (decimal seed ++ 10 ∷ r))
 regroup_fail n seed r = simp append_assoc
 
+pub regroup_pack : (t : ℕ) (r : List ℕ) → item_text (Item2.Pack t) ++ r ≡ codes "pack " ++ (hex16_text t ++ 10 ∷ r)
+regroup_pack t r = simp append_assoc
+
 -- a count of device calls, a seed and LF
 pub record Calls (fields : List ℕ) : Type 0 where
   pub calls : ℕ
@@ -37,6 +40,7 @@ a_request fields (Item2.Step w, more, line, text) = (let differ = ap (λ bytes. 
 a_request fields (Item2.Clock t, more, line, text) = (let differ = ap (λ bytes. get_or bytes 0 0) text in absurd (omega (arith, differ)))
 a_request fields (Item2.Stop n seed, more, line, text) = (let differ = ap (λ bytes. get_or bytes 0 0) text in absurd (omega (arith, differ)))
 a_request fields (Item2.Fail n seed, more, line, text) = (let differ = ap (λ bytes. get_or bytes 0 0) text in absurd (omega (arith, differ)))
+a_request fields (Item2.Pack t, more, line, text) = (let differ = ap (λ bytes. get_or bytes 0 0) text in absurd (omega (arith, differ)))
 a_request fields (Item2.End, more, line, text) = absurd line
 
 -- a step begins there: its worker and LF
@@ -46,6 +50,7 @@ a_step fields (Item2.Step w, more, line, text) = (w, more, line, append_cancel_l
 a_step fields (Item2.Clock t, more, line, text) = (let differ = ap (λ bytes. get_or bytes 0 0) text in absurd (omega (arith, differ)))
 a_step fields (Item2.Stop n seed, more, line, text) = (let differ = ap (λ bytes. get_or bytes 2 0) text in absurd (omega (arith, differ)))
 a_step fields (Item2.Fail n seed, more, line, text) = (let differ = ap (λ bytes. get_or bytes 0 0) text in absurd (omega (arith, differ)))
+a_step fields (Item2.Pack t, more, line, text) = (let differ = ap (λ bytes. get_or bytes 0 0) text in absurd (omega (arith, differ)))
 a_step fields (Item2.End, more, line, text) = absurd line
 
 -- a clock begins there: its stamp and LF
@@ -55,6 +60,7 @@ a_clock fields (Item2.Step w, more, line, text) = (let differ = ap (λ bytes. ge
 a_clock fields (Item2.Clock t, more, line, text) = (t, more, line, append_cancel_left (codes "clock ") _ _ (text ∙ regroup_clock t more))
 a_clock fields (Item2.Stop n seed, more, line, text) = (let differ = ap (λ bytes. get_or bytes 0 0) text in absurd (omega (arith, differ)))
 a_clock fields (Item2.Fail n seed, more, line, text) = (let differ = ap (λ bytes. get_or bytes 0 0) text in absurd (omega (arith, differ)))
+a_clock fields (Item2.Pack t, more, line, text) = (let differ = ap (λ bytes. get_or bytes 0 0) text in absurd (omega (arith, differ)))
 a_clock fields (Item2.End, more, line, text) = absurd line
 
 -- a stop begins there: its count of calls, its seed and LF
@@ -64,6 +70,7 @@ a_stop fields (Item2.Step w, more, line, text) = (let differ = ap (λ bytes. get
 a_stop fields (Item2.Clock t, more, line, text) = (let differ = ap (λ bytes. get_or bytes 0 0) text in absurd (omega (arith, differ)))
 a_stop fields (Item2.Stop n seed, more, line, text) = record { calls = n; seed = seed; more = more; some = line.0; calls_small = line.1; seed_small = line.2; text = append_cancel_left (codes "stop ") _ _ (text ∙ regroup_stop n seed more) }
 a_stop fields (Item2.Fail n seed, more, line, text) = (let differ = ap (λ bytes. get_or bytes 0 0) text in absurd (omega (arith, differ)))
+a_stop fields (Item2.Pack t, more, line, text) = (let differ = ap (λ bytes. get_or bytes 0 0) text in absurd (omega (arith, differ)))
 a_stop fields (Item2.End, more, line, text) = absurd line
 
 -- a failure begins there: its count of calls, its seed and LF
@@ -73,20 +80,32 @@ a_fail fields (Item2.Step w, more, line, text) = (let differ = ap (λ bytes. get
 a_fail fields (Item2.Clock t, more, line, text) = (let differ = ap (λ bytes. get_or bytes 0 0) text in absurd (omega (arith, differ)))
 a_fail fields (Item2.Stop n seed, more, line, text) = (let differ = ap (λ bytes. get_or bytes 0 0) text in absurd (omega (arith, differ)))
 a_fail fields (Item2.Fail n seed, more, line, text) = record { calls = n; seed = seed; more = more; some = line.0; calls_small = line.1; seed_small = line.2; text = append_cancel_left (codes "fail ") _ _ (text ∙ regroup_fail n seed more) }
+a_fail fields (Item2.Pack t, more, line, text) = (let differ = ap (λ bytes. get_or bytes 0 0) text in absurd (omega (arith, differ)))
 a_fail fields (Item2.End, more, line, text) = absurd line
+
+-- a pack begins there: its id and LF
+pub a_pack : (fields : List ℕ) → BeginsItem (codes "pack " ++ fields) → (t : ℕ) × (more : List ℕ) × (t < 2 ^ 64) × (fields ≡ hex16_text t ++ 10 ∷ more)
+a_pack fields (Item2.Request w bytes, more, line, text) = (let differ = ap (λ bytes. get_or bytes 0 0) text in absurd (omega (arith, differ)))
+a_pack fields (Item2.Step w, more, line, text) = (let differ = ap (λ bytes. get_or bytes 0 0) text in absurd (omega (arith, differ)))
+a_pack fields (Item2.Clock t, more, line, text) = (let differ = ap (λ bytes. get_or bytes 0 0) text in absurd (omega (arith, differ)))
+a_pack fields (Item2.Stop n seed, more, line, text) = (let differ = ap (λ bytes. get_or bytes 0 0) text in absurd (omega (arith, differ)))
+a_pack fields (Item2.Fail n seed, more, line, text) = (let differ = ap (λ bytes. get_or bytes 0 0) text in absurd (omega (arith, differ)))
+a_pack fields (Item2.Pack t, more, line, text) = (t, more, line, append_cancel_left (codes "pack ") _ _ (text ∙ regroup_pack t more))
+a_pack fields (Item2.End, more, line, text) = absurd line
 
 -- the text doesn't begin with the front
 abbrev pub LacksFront : List ℕ → List ℕ → Type 0
 LacksFront front text = (fields : List ℕ) → text ≢ front ++ fields
 
--- no item begins without one of the five words
-pub no_word : (text : List ℕ) → LacksFront (codes "request ") text → LacksFront (codes "step ") text → LacksFront (codes "clock ") text → LacksFront (codes "stop ") text → LacksFront (codes "fail ") text → BeginsItem text → ⊥
-no_word text r s c h f (Item2.Request w bytes, more, line, e) = r _ (e ∙ regroup_request w bytes more)
-no_word text r s c h f (Item2.Step w, more, line, e) = s _ (e ∙ regroup_step w more)
-no_word text r s c h f (Item2.Clock t, more, line, e) = c _ (e ∙ regroup_clock t more)
-no_word text r s c h f (Item2.Stop n seed, more, line, e) = h _ (e ∙ regroup_stop n seed more)
-no_word text r s c h f (Item2.Fail n seed, more, line, e) = f _ (e ∙ regroup_fail n seed more)
-no_word text r s c h f (Item2.End, more, line, e) = line
+-- no item begins without one of the six words
+pub no_word : (text : List ℕ) → LacksFront (codes "request ") text → LacksFront (codes "step ") text → LacksFront (codes "clock ") text → LacksFront (codes "stop ") text → LacksFront (codes "fail ") text → LacksFront (codes "pack ") text → BeginsItem text → ⊥
+no_word text r s c h f k (Item2.Request w bytes, more, line, e) = r _ (e ∙ regroup_request w bytes more)
+no_word text r s c h f k (Item2.Step w, more, line, e) = s _ (e ∙ regroup_step w more)
+no_word text r s c h f k (Item2.Clock t, more, line, e) = c _ (e ∙ regroup_clock t more)
+no_word text r s c h f k (Item2.Stop n seed, more, line, e) = h _ (e ∙ regroup_stop n seed more)
+no_word text r s c h f k (Item2.Fail n seed, more, line, e) = f _ (e ∙ regroup_fail n seed more)
+no_word text r s c h f k (Item2.Pack t, more, line, e) = k _ (e ∙ regroup_pack t more)
+no_word text r s c h f k (Item2.End, more, line, e) = line
 
 -- what follows the worker of a request
 pub behind_worker : (fields rest : List ℕ) (w : ℕ) → w < workers → fields ≡ decimal w ++ 32 ∷ rest → BeginsItem (codes "request " ++ fields) → (bytes : List ℕ) × (more : List ℕ) × (length bytes < 2 ^ 64) × (rest ≡ decimal (length bytes) ++ 10 ∷ (bytes ++ 10 ∷ more))

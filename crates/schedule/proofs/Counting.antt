@@ -34,6 +34,7 @@ quiet_line Line.Stop e = absurd cc
 quiet_line (Line.DiskFault w) e = absurd cc
 quiet_line (Line.Unknown w t) e = absurd cc
 quiet_line Line.OpenFault e = absurd cc
+quiet_line Line.PackFault e = absurd cc
 quiet_line (Line.Vote w t) e = refl
 quiet_line (Line.ReplyCommit w t bytes) e = refl
 quiet_line Line.Head e = refl
@@ -59,6 +60,11 @@ quiet_line (Line.History n) e = refl
 quiet_line (Line.Floor t) e = refl
 quiet_line (Line.Transaction t u d x n) e = refl
 quiet_line (Line.RecordRow o v) e = refl
+quiet_line (Line.Packed t n) e = refl
+quiet_line Line.PackBusy e = refl
+quiet_line (Line.PackUnreadable o) e = refl
+quiet_line (Line.PackFull need limit) e = refl
+quiet_line Line.PackMemory e = refl
 quiet_line Line.End e = refl
 
 quiet_lines : (ls : List Line) → faults ls ≡ 0 → after_lines (Some nothing_armed) ls ≡ Some nothing_armed
@@ -73,6 +79,7 @@ quiet_item (Item2.Fail n seed) e = absurd cc
 quiet_item (Item2.Request w bytes) e = refl
 quiet_item (Item2.Step w) e = refl
 quiet_item (Item2.Clock t) e = refl
+quiet_item (Item2.Pack t) e = refl
 quiet_item Item2.End e = refl
 
 no_front : {A : Type 0} (front behind : List A) → front ++ behind ≡ [] → (front ≡ []) × (behind ≡ [])

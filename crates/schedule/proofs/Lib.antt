@@ -19,3 +19,5 @@ pub mod WorkedQueues
 pub mod Unhindered
 mod Counting
 mod Replaying
+mod WorkedPackReports
+mod Sectioning

@@ -44,8 +44,8 @@ two_numbers m a n b r s fm fa fn fb e =
     let second = number_ends a b 10 r s fa fb (omega arith) first.1 in
     (first.0, second.0, second.1)
 
-one_clock : (t u : ℕ) (r s : List ℕ) → t < 2 ^ 64 → u < 2 ^ 64 → (hex16_text t ++ 10 ∷ []) ++ r ≡ (hex16_text u ++ 10 ∷ []) ++ s → (t ≡ u) × (r ≡ s)
-one_clock t u r s ft fu e =
+one_id : (t u : ℕ) (r s : List ℕ) → t < 2 ^ 64 → u < 2 ^ 64 → (hex16_text t ++ 10 ∷ []) ++ r ≡ (hex16_text u ++ 10 ∷ []) ++ s → (t ≡ u) × (r ≡ s)
+one_id t u r s ft fu e =
     let f : hex16_text t ++ 10 ∷ r ≡ hex16_text u ++ 10 ∷ s = sym (append_assoc (hex16_text t) (10 ∷ []) r) ∙ e ∙ append_assoc (hex16_text u) (10 ∷ []) s in
     let parts = fronts_same (hex16_text t) (hex16_text u) (10 ∷ r) (10 ∷ s) (length-hex16_text t ∙ sym (length-hex16_text u)) f in
     let rest : 10 ∷ r ≡ 10 ∷ s = parts.1 in
@@ -78,7 +78,7 @@ one_item (Item2.Step w) (Item2.Step v) r s p q e =
     let same = one_number w v r s (omega (arith, p)) (omega (arith, q)) (append_cancel_left (codes "step ") _ _ e) in
     (ap (λ n. Item2.Step n) same.0, same.1)
 one_item (Item2.Clock t) (Item2.Clock u) r s p q e =
-    let same = one_clock t u r s p q (append_cancel_left (codes "clock ") _ _ e) in
+    let same = one_id t u r s p q (append_cancel_left (codes "clock ") _ _ e) in
     (ap (λ n. Item2.Clock n) same.0, same.1)
 one_item (Item2.Stop n a) (Item2.Stop m b) r s p q e =
     let same = two_numbers n a m b r s p.1 p.2 q.1 q.2 (append_cancel_left (codes "stop ") _ _ e) in
@@ -90,6 +90,9 @@ one_item (Item2.Fail n a) (Item2.Fail m b) r s p q e =
     let counts : n ≡ m = same.0 in
     let seeds : a ≡ b = same.1 in
     (cc, same.2)
+one_item (Item2.Pack t) (Item2.Pack u) r s p q e =
+    let same = one_id t u r s p q (append_cancel_left (codes "pack ") _ _ e) in
+    (ap (λ n. Item2.Pack n) same.0, same.1)
 one_item Item2.End y r s p q e = absurd p
 one_item x Item2.End r s p q e = absurd q
 one_item x y r s p q e = (let differ = ap sort e in absurd (omega (arith, differ)))

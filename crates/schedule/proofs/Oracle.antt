@@ -20,6 +20,7 @@ happens_by terms m (Item2.Step w) trouble = steps_by terms m w trouble
 happens_by terms m (Item2.Clock t) trouble = Some ([], clocked m t)
 happens_by terms m (Item2.Stop n seed) trouble = Some ([], m)
 happens_by terms m (Item2.Fail n seed) trouble = Some ([], m)
+happens_by terms m (Item2.Pack t) trouble = None
 happens_by terms m Item2.End trouble = None
 
 abbrev pub ran_on : {R : Type 0} → Moment R → Item2 → List Line → Moment R → Option (List (Place R) × Moment R) → Option (List (Place R) × Moment R)

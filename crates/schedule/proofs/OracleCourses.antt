@@ -31,6 +31,7 @@ happens_so terms m (Item2.Stop n seed) trouble r e =
 happens_so terms m (Item2.Fail n seed) trouble r e =
     let same : ([], m) ≡ r = cc in
     (sym (ap (λ (s : Told _). s.0) same), sym (ap (λ (s : Told _). s.1) same))
+happens_so terms m (Item2.Pack t) trouble r e = cc
 happens_so terms m Item2.End trouble r e = cc
 
 some_same : {X : Type 0} {x y : X} → Some x ≡ Some y → x ≡ y

@@ -1,5 +1,5 @@
 -- Each arm of the table, and each trouble, leaves a good moment, and what it printed is right.
-use Rattle.std.proofs.Common.{◌≡◌, ℕ, ◌+◌, ◌<◌, ◌==◌, ◌&&◌, Bool, true, false, cond, List, [], ◌∷◌, ◌++◌, Option, Some, None, refl, sym, ap, ◌∙◌, subst, arith, inl, inr, length, nat_lt, eqb-true}
+use Rattle.std.proofs.Common.{◌≡◌, ℕ, zero, suc, ◌+◌, ◌<◌, ◌==◌, ◌&&◌, ◌||◌, min, slice_get, Bool, true, false, cond, List, [], ◌∷◌, ◌++◌, Option, Some, None, refl, sym, ap, ◌∙◌, subst, arith, inl, inr, length, nat_lt, eqb-true}
 use Rattle.std.proofs.lemmas.Bool.Decides.{nat_tests}
 use Rattle.evaluator.specs.declared.ask.Ask.{Ask}
 use Rattle.evaluator.specs.declared.fact.Fact.{Fact}
@@ -20,10 +20,15 @@ use Rattle.schedule.specs.Moments.{Terms, Attempt, Doing, Free, Waiting, Asking,
 use Rattle.schedule.specs.Causes.{fault_reply, memory_reply, unknown_reply}
 use Rattle.schedule.specs.Stepping.{Told, ended, first_clash, vote_tid, need, votes, conflicts, validated, commits, from_computed, from_asking, from_doing, Trouble, Wants_memory, Disk_fails, Is_unknown, Is_stopped, has_request, held_by, settled, restarted, fails, troubled, Steps}
 use Rattle.schedule.specs.Courses.{Happens, request_of, worker_of}
-use Rattle.schedule.specs.Right.{IsCommitted, RightReply, RightGrowth}
+use Rattle.schedule.specs.Histories.{history_lines}
+use Rattle.schedule.specs.Packing.{PackTrouble, Lacks_memory, Pack_fails, Is_cut_off, PacksAt, any_request, pack_fails, packed_to}
+use Rattle.packing.specs.Packed.{packed}
+use Rattle.packing.specs.PackedLaws.{packed_rises}
+use Rattle.packing.specs.Sizes.{full_size}
+use Rattle.schedule.specs.Right.{IsCommitted, RightReply, RightGrowth, ends_section}
 use Rattle.zbase.specs.HistoryLaws.{prefix_refl, prefix_added, upto_stays, upto_is_prefix, before_next, transaction_next}
 use Rattle.schedule.proofs.Serial.{change_stands}
-use Rattle.schedule.proofs.Good.{Rooted, Sound, Good, NotHolder, no_vote, the_vote, not_holder, good_turned, good_dropped, good_stood, good_emptied, good_clocked}
+use Rattle.schedule.proofs.Good.{Rooted, Sound, SoundVote, Good, NotHolder, no_vote, the_vote, not_holder, good_turned, good_dropped, good_stood, good_emptied, good_clocked}
 
 -- what a step leaves, and what it printed, are right by every history that goes on from there
 pub record Proper {R : Type 0} (terms : Terms R) (old : Moment R) (q : Option R) (r : Told R) : Type 0 where
@@ -233,11 +238,89 @@ proper_quiet terms m n new q lines good same none is =
     subst (λ ls. P ls new) (sym none) (subst (λ k. P [] k) (sym is)
     (record { good = good; grows = subst (λ s. IsPrefixOf m.standing s) (sym same) (prefix_refl m.standing); right = λ h is' whole. (tt, inl same) }))
 
-pub proper_happens : {R : Type 0} (terms : Terms R) (old : Moment R) (item : Item2) (lines : List Line) (new : Moment R) → IsLawful terms.eval → Good terms old → Happens terms old item lines new → Proper terms old (request_of (doing old (worker_of item))) (lines, new)
-proper_happens terms old (Item2.Request w bytes) lines new lawful good h =
-    proper_quiet terms old (turned old w (Waiting h.0 [])) new _ lines (good_turned terms old w (Waiting h.0 []) good tt (not_holder terms old w (Some Free) good h.2 (λ c. c))) refl h.3 h.4
-proper_happens terms old (Item2.Step w) lines new lawful good h = proper_steps terms old w lines new lawful good h
-proper_happens terms old (Item2.Clock t) lines new lawful good h = proper_quiet terms old (clocked old t) new _ lines (good_clocked terms old t good) refl h.0 h.1
-proper_happens terms old (Item2.Stop n seed) lines new lawful good h = proper_quiet terms old old new _ lines good refl h.0 h.1
-proper_happens terms old (Item2.Fail n seed) lines new lawful good h = proper_quiet terms old old new _ lines good refl h.0 h.1
-proper_happens terms old Item2.End lines new lawful good h = absurd h
+-- What an item leaves is good, and what it printed is right by every history that goes on from there. But for a pack that is done,
+-- the history grew rightly.
+pub record Leads {R : Type 0} (terms : Terms R) (old : Moment R) (item : Item2) (lines : List Line) (new : Moment R) : Type 0 where
+  pub good : Good terms new
+  pub grows : ends_section item lines ≡ false → IsPrefixOf old.standing new.standing
+  pub right : (h : History) → IsHistory h → IsPrefixOf new.standing h
+      → RightReply terms h (request_of (doing old (worker_of item))) lines × (ends_section item lines ≡ false → RightGrowth terms h (request_of (doing old (worker_of item))) old.standing new.standing)
+
+leads_so : {R : Type 0} (terms : Terms R) (old : Moment R) (item : Item2) (lines : List Line) (new : Moment R) → Proper terms old (request_of (doing old (worker_of item))) (lines, new) → Leads terms old item lines new
+leads_so terms old item lines new proper = record {
+  good = proper.good;
+  grows = λ more. proper.grows;
+  right = λ h is whole. (let both = proper.right h is whole in (both.0, λ more. both.1));
+}
+
+-- ---- a pack
+
+-- of a worker without a request nothing is to be kept
+sound_idle : {R : Type 0} (terms : Terms R) (h : History) (o : Option (Doing R)) → has_request o ≡ false → Sound terms h o
+sound_idle terms h None idle = tt
+sound_idle terms h (Some Free) idle = tt
+sound_idle terms h (Some (Waiting q cs)) idle = tt
+sound_idle terms h (Some (Asking a)) idle = absurd cc
+sound_idle terms h (Some (Computed a x d)) idle = absurd cc
+
+front_false : (a b : Bool) → (a || b) ≡ false → (a ≡ false) × (b ≡ false)
+front_false false b e = (refl, e)
+front_false true b e = absurd cc
+
+-- where no worker has a request
+pub none_has : {R : Type 0} (ds : List (Doing R)) (w : ℕ) → any_request ds ≡ false → has_request (slice_get ds w) ≡ false
+none_has [] w none = refl
+none_has (d ∷ ds) zero none = (front_false (has_request (Some d)) (any_request ds) none).0
+none_has (d ∷ ds) (suc w) none = none_has ds w (front_false (has_request (Some d)) (any_request ds) none).1
+
+packed_good : {R : Type 0} (terms : Terms R) (m : Moment R) (g : History) → Good terms m → IsHistory g → any_request m.workers ≡ false → Good terms (packed_to m g)
+packed_good {R} terms m g good is none = record { history = is; workers = λ w. sound_idle terms g (doing m w) (none_has m.workers w none); vote = go m.vote refl }
+  where
+    go : (o : Option Vote) → m.vote ≡ o → SoundVote terms g m.workers o
+    go None e = tt
+    go (Some v) e =
+        let right = the_vote terms m v good e in
+        let idle : has_request (slice_get m.workers v.holder) ≡ false = none_has m.workers v.holder none in
+        absurd (let bad : true ≡ false = sym (ap has_request right.holder) ∙ idle in cc)
+
+-- a pack that isn't done, and leaves all as it was
+leads_same : {R : Type 0} (terms : Terms R) (m : Moment R) (t : ℕ) (line : Line) → Good terms m → ((h : History) (q : Option R) → RightReply terms h q (line ∷ [])) → Leads terms m (Item2.Pack t) (line ∷ []) m
+leads_same terms m t line good right = record { good = good; grows = λ more. prefix_refl m.standing; right = λ h is whole. (right h (request_of (doing m 0)), λ more. inl refl) }
+
+leads_packed : {R : Type 0} (terms : Terms R) (m : Moment R) (t : ℕ) (g : History) → Good terms m → IsHistory g → any_request m.workers ≡ false → (b : Bool)
+    → (let r : Told R = cond b (Line.PackFull (min (full_size g) greatest_number) terms.limit ∷ [], m) (history_lines m.standing ++ Line.Packed g.floor (length g.transactions) ∷ [], packed_to m g) in Leads terms m (Item2.Pack t) r.0 r.1)
+leads_packed terms m t g good is none true = leads_same terms m t (Line.PackFull (min (full_size g) greatest_number) terms.limit) good (λ h q. tt)
+leads_packed terms m t g good is none false = record {
+  good = packed_good terms m g good is none;
+  grows = λ more. absurd (let bad : true ≡ false = more in cc);
+  right = λ h is' whole. (tt, λ more. absurd (let bad : true ≡ false = more in cc));
+}
+
+leads_troubled : {R : Type 0} (terms : Terms R) (m : Moment R) (t : ℕ) → Good terms m → (trouble : PackTrouble) → Leads terms m (Item2.Pack t) (pack_fails m trouble).0 (pack_fails m trouble).1
+leads_troubled terms m t good Lacks_memory = leads_same terms m t Line.PackMemory good (λ h q. tt)
+leads_troubled terms m t good Pack_fails = leads_same terms m t Line.PackFault good (λ h q. tt)
+leads_troubled terms m t good (Is_cut_off openings) = record { good = good_emptied terms m good; grows = λ more. prefix_refl m.standing; right = λ h is whole. (tt, λ more. inl refl) }
+
+leads_pack : {R : Type 0} (terms : Terms R) (m : Moment R) (t : ℕ) (lines : List Line) (new : Moment R) → Good terms m → PacksAt terms m t lines new → Leads terms m (Item2.Pack t) lines new
+leads_pack {R} terms m t lines new good packs = go packs
+  where
+    P : Told R → Type 0
+    P r = Leads terms m (Item2.Pack t) r.0 r.1
+
+    go : PacksAt terms m t lines new → Leads terms m (Item2.Pack t) lines new
+    go (inl (busy, e)) = subst P e (leads_same terms m t Line.PackBusy good (λ h q. tt))
+    go (inr (none, inl did)) = elim did.told [
+      | inl bad ↦ subst P bad.2 (leads_same terms m t (Line.PackUnreadable bad.0) good (λ h q. tt))
+      | inr done ↦ subst P done.1 (leads_packed terms m t (packed did.keep m.standing t) good (packed_rises did.keep m.standing t good.history) none (nat_lt terms.limit (full_size (packed did.keep m.standing t))))
+    ]
+    go (inr (none, inr (trouble, e))) = subst P e (leads_troubled terms m t good trouble)
+
+pub happens_rightly : {R : Type 0} (terms : Terms R) (old : Moment R) (item : Item2) (lines : List Line) (new : Moment R) → IsLawful terms.eval → Good terms old → Happens terms old item lines new → Leads terms old item lines new
+happens_rightly terms old (Item2.Request w bytes) lines new lawful good h =
+    leads_so terms old (Item2.Request w bytes) lines new (proper_quiet terms old (turned old w (Waiting h.0 [])) new _ lines (good_turned terms old w (Waiting h.0 []) good tt (not_holder terms old w (Some Free) good h.2 (λ c. c))) refl h.3 h.4)
+happens_rightly terms old (Item2.Step w) lines new lawful good h = leads_so terms old (Item2.Step w) lines new (proper_steps terms old w lines new lawful good h)
+happens_rightly terms old (Item2.Clock t) lines new lawful good h = leads_so terms old (Item2.Clock t) lines new (proper_quiet terms old (clocked old t) new _ lines (good_clocked terms old t good) refl h.0 h.1)
+happens_rightly terms old (Item2.Stop n seed) lines new lawful good h = leads_so terms old (Item2.Stop n seed) lines new (proper_quiet terms old old new _ lines good refl h.0 h.1)
+happens_rightly terms old (Item2.Fail n seed) lines new lawful good h = leads_so terms old (Item2.Fail n seed) lines new (proper_quiet terms old old new _ lines good refl h.0 h.1)
+happens_rightly terms old (Item2.Pack t) lines new lawful good h = leads_pack terms old t lines new good h
+happens_rightly terms old Item2.End lines new lawful good h = absurd h

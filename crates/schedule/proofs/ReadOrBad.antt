@@ -6,7 +6,7 @@ use Rattle.std.proofs.lemmas.List.{take-append-drop}
 use Rattle.schedule.specs.declared.item.Item2.{Item2}
 use Rattle.schedule.specs.Items.{item_text, first_line, workers, HasLine, IsSchedule}
 use Rattle.schedule.specs.BadLines.{BeginsItem, IsBadLine, GoesOn, IsBadAt}
-use Rattle.schedule.proofs.BadItems.{regroup_step, regroup_clock, regroup_stop, regroup_fail, a_request, a_step, a_clock, a_stop, a_fail, no_word, behind_worker, behind_length}
+use Rattle.schedule.proofs.BadItems.{regroup_step, regroup_clock, regroup_stop, regroup_fail, regroup_pack, a_request, a_step, a_clock, a_stop, a_fail, a_pack, no_word, behind_worker, behind_length}
 use Rattle.schedule.proofs.Decided.{Begins, begins, NumberAt, number_at, WorkerAt, worker_at, CallsAt, calls_at}
 use Rattle.schedule.proofs.OneSchedule.{regroup_request}
 use Rattle.schedule.proofs.Stamps.{Stamp, stamp}
@@ -53,16 +53,21 @@ fail : (fields : List ℕ) → CallsAt fields → Item (codes "fail " ++ fields)
 fail fields (inl c) = inl (Item2.Fail c.calls c.seed, c.more, (c.some, c.calls_small, c.seed_small), ap (λ xs. codes "fail " ++ xs) c.text ∙ sym (regroup_fail c.calls c.seed c.more))
 fail fields (inr none) = inr (λ item. none (a_fail fields item))
 
-item_by_word : (text : List ℕ) → Begins (codes "request ") text → Begins (codes "step ") text → Begins (codes "clock ") text → Begins (codes "stop ") text → Begins (codes "fail ") text → Item text
-item_by_word text (inl (fields, e)) _ _ _ _ = subst (λ xs. Item xs) (sym e) (request fields (worker_at 32 fields (omega arith)))
-item_by_word text (inr _) (inl (fields, e)) _ _ _ = subst (λ xs. Item xs) (sym e) (step fields (worker_at 10 fields (omega arith)))
-item_by_word text (inr _) (inr _) (inl (fields, e)) _ _ = subst (λ xs. Item xs) (sym e) (clock fields (stamp fields))
-item_by_word text (inr _) (inr _) (inr _) (inl (fields, e)) _ = subst (λ xs. Item xs) (sym e) (stop fields (calls_at fields))
-item_by_word text (inr _) (inr _) (inr _) (inr _) (inl (fields, e)) = subst (λ xs. Item xs) (sym e) (fail fields (calls_at fields))
-item_by_word text (inr r) (inr s) (inr c) (inr h) (inr f) = inr (no_word text r s c h f)
+pack : (fields : List ℕ) → Stamp fields → Item (codes "pack " ++ fields)
+pack fields (inl (t, rest, small, e)) = inl (Item2.Pack t, rest, small, ap (λ xs. codes "pack " ++ xs) e ∙ sym (regroup_pack t rest))
+pack fields (inr none) = inr (λ item. (let parts = a_pack fields item in none parts.0 parts.1 parts.3))
+
+item_by_word : (text : List ℕ) → Begins (codes "request ") text → Begins (codes "step ") text → Begins (codes "clock ") text → Begins (codes "stop ") text → Begins (codes "fail ") text → Begins (codes "pack ") text → Item text
+item_by_word text (inl (fields, e)) _ _ _ _ _ = subst (λ xs. Item xs) (sym e) (request fields (worker_at 32 fields (omega arith)))
+item_by_word text (inr _) (inl (fields, e)) _ _ _ _ = subst (λ xs. Item xs) (sym e) (step fields (worker_at 10 fields (omega arith)))
+item_by_word text (inr _) (inr _) (inl (fields, e)) _ _ _ = subst (λ xs. Item xs) (sym e) (clock fields (stamp fields))
+item_by_word text (inr _) (inr _) (inr _) (inl (fields, e)) _ _ = subst (λ xs. Item xs) (sym e) (stop fields (calls_at fields))
+item_by_word text (inr _) (inr _) (inr _) (inr _) (inl (fields, e)) _ = subst (λ xs. Item xs) (sym e) (fail fields (calls_at fields))
+item_by_word text (inr _) (inr _) (inr _) (inr _) (inr _) (inl (fields, e)) = subst (λ xs. Item xs) (sym e) (pack fields (stamp fields))
+item_by_word text (inr r) (inr s) (inr c) (inr h) (inr f) (inr k) = inr (no_word text r s c h f k)
 
 item : (text : List ℕ) → Item text
-item text = item_by_word text (begins (codes "request ") text) (begins (codes "step ") text) (begins (codes "clock ") text) (begins (codes "stop ") text) (begins (codes "fail ") text)
+item text = item_by_word text (begins (codes "request ") text) (begins (codes "step ") text) (begins (codes "clock ") text) (begins (codes "stop ") text) (begins (codes "fail ") text) (begins (codes "pack ") text)
 
 -- good lines, and why they end
 abbrev Ends : List ℕ → Type 0
@@ -81,6 +86,7 @@ item_long (Item2.Step w) = omega arith
 item_long (Item2.Clock t) = omega arith
 item_long (Item2.Stop n seed) = omega arith
 item_long (Item2.Fail n seed) = omega arith
+item_long (Item2.Pack t) = omega arith
 item_long Item2.End = omega arith
 
 read_by : (k : ℕ) (rest : List ℕ) → ((others : List ℕ) → length others < k → Read others) → length rest < suc k → Begins (item_text Item2.End) rest → Item rest → Read rest

@@ -1,43 +1,46 @@
--- Every course of moments is right by the history in which it ends, and by each longer one.
-use Rattle.std.proofs.Common.{◌≡◌, List, [], ◌∷◌, refl, sym, subst}
-use Rattle.std.specs.List.{AllByRecursion}
+-- Every course of moments is right, each place by the history that ends its section.
+use Rattle.std.proofs.Common.{◌≡◌, Bool, true, false, cond, List, [], ◌∷◌, refl, sym, subst}
 use Rattle.zbase.specs.History.{History, IsHistory, IsPrefixOf}
 use Rattle.evaluator.specs.Exec.{IsLawful}
 use Rattle.schedule.specs.Moments.{Terms, Moment, start}
 use Rattle.schedule.specs.Courses.{Place, Course, items_of}
-use Rattle.schedule.specs.Right.{IsRight, AreRight}
+use Rattle.schedule.specs.Right.{AreRight, ends_section, history_after}
 use Rattle.schedule.specs.Explained.{report, Explains}
 use Rattle.zbase.specs.HistoryLaws.{prefix_refl, prefix_trans}
 use Rattle.schedule.proofs.Good.{Good, good_start}
-use Rattle.schedule.proofs.Proper.{proper_happens}
+use Rattle.schedule.proofs.Proper.{happens_rightly}
 
--- The run law: a course is right by the history in which it ends and by every one that goes on from there.
+-- The run law: a course is right, each of its places by the history that ends its section; and the history of its first
+-- moment is a prefix of the one that ends the first section.
 pub record Runs {R : Type 0} (terms : Terms R) (old : Moment R) (ps : List (Place R)) (new : Moment R) : Type 0 where
   pub good : Good terms new
-  pub grows : IsPrefixOf old.standing new.standing
-  pub right : (h : History) → IsHistory h → IsPrefixOf new.standing h → AllByRecursion (IsRight terms h) ps
+  pub whole : IsHistory (history_after ps new)
+  pub grows : IsPrefixOf old.standing (history_after ps new)
+  pub right : AreRight terms ps new
 
 pub course_is_right : {R : Type 0} (terms : Terms R) (old : Moment R) (ps : List (Place R)) (new : Moment R) → IsLawful terms.eval → Good terms old → Course terms old ps new → Runs terms old ps new
 course_is_right terms old [] new lawful good c = record {
   good = subst (Good terms) c good;
+  whole = (subst (Good terms) c good).history;
   grows = subst (λ k. IsPrefixOf old.standing k.standing) c (prefix_refl old.standing);
-  right = λ h is whole. tt;
+  right = tt;
 }
 course_is_right {R} terms old (p ∷ ps) new lawful good c =
-    let step = proper_happens terms p.before p.item p.lines p.after lawful (subst (Good terms) c.0 good) c.1 in
+    let before : Good terms p.before = subst (Good terms) c.0 good in
+    let step = happens_rightly terms p.before p.item p.lines p.after lawful before c.1 in
     let rest = course_is_right terms p.after ps new lawful step.good c.2 in
+    let here = step.right (history_after ps new) rest.whole rest.grows in
+    let first = section_goes_on p.before.standing (history_after ps new) before.history rest.whole (ends_section p.item p.lines) (λ more. prefix_trans (step.grows more) rest.grows) in
     record {
       good = rest.good;
-      grows = subst (λ (k : Moment R). IsPrefixOf k.standing new.standing) (sym c.0) (prefix_trans step.grows rest.grows);
-      right = λ h is whole.
-          let mid = prefix_trans rest.grows whole in
-          let here = step.right h is mid in
-          (record { reply = here.0; growth = here.1; grows = step.grows; stands = mid }, rest.right h is whole);
+      whole = first.0;
+      grows = subst (λ (k : Moment R). IsPrefixOf k.standing (history_after (p ∷ ps) new)) (sym c.0) first.1;
+      right = (record { reply = here.0; growth = here.1; grows = step.grows; stands = rest.grows }, rest.right);
     }
-
-are_right : {R : Type 0} (terms : Terms R) (ps : List (Place R)) (end : Moment R) → AllByRecursion (IsRight terms end.standing) ps → AreRight terms ps end
-are_right terms [] end all = tt
-are_right terms (p ∷ ps) end all = (all.0, are_right terms ps end all.1)
+  where
+    section_goes_on : (now h : History) → IsHistory now → IsHistory h → (b : Bool) → (b ≡ false → IsPrefixOf now h) → IsHistory (cond b now h) × IsPrefixOf now (cond b now h)
+    section_goes_on now h is whole true more = (is, prefix_refl now)
+    section_goes_on now h is whole false more = (whole, more refl)
 
 -- What a loop has to show is the course and the faults alone: the rest follows, by that course.
 pub explained_by : {R : Type 0} (terms : Terms R) (licence : List (Place R) → Type 0) (h0 : History) (ps : List (Place R)) (end : Moment R) → IsLawful terms.eval → IsHistory h0 → Course terms (start terms h0) ps end → licence ps
@@ -51,7 +54,7 @@ explained_by terms licence h0 ps end lawful is c faults =
         lines = refl;
         course = c;
         first = run.grows;
-        right = are_right terms ps end (run.right end.standing run.good.history (prefix_refl end.standing));
+        right = run.right;
         faults = faults;
       },
       refl,

@@ -5,7 +5,7 @@ use Rattle.std.proofs.lemmas.Bool.Decides.{nat_tests}
 use Rattle.std.specs.List.{AllByRecursion}
 use Rattle.zbase.specs.Limits.{greatest_number}
 use Rattle.zbase.specs.History.{History, IsHistory, IsPrefixOf}
-use Rattle.zbase.specs.HistoryLaws.{prefix_trans, upto_stays}
+use Rattle.zbase.specs.HistoryLaws.{prefix_refl, prefix_trans, upto_stays}
 use Rattle.zbase.specs.Values.{last, next, upto}
 use Rattle.zbase.specs.declared.ids.Clash.{Clash}
 use Rattle.evaluator.specs.declared.ask.Ask.{Ask}
@@ -25,10 +25,12 @@ use Rattle.schedule.specs.Asks.{asked_from, asks_at, then_asked}
 use Rattle.schedule.specs.Causes.{denied_line, fault_reply, memory_reply, shown_lines, unknown_reply}
 use Rattle.schedule.specs.Courses.{Happens, Place, Course, lines_of}
 use Rattle.schedule.specs.Moments.{Terms, Attempt, Doing, Free, Waiting, Asking, Computed, Vote, Moment, doing, turned, dropped, stood, start}
+use Rattle.schedule.specs.Packing.{PacksAt}
+use Rattle.schedule.specs.Right.{begins_history, ends_section, history_after}
 use Rattle.schedule.specs.Stepping.{Told, told, Trouble, Wants_memory, Disk_fails, Is_unknown, Is_stopped, Steps, conflicts, ended, fails, first_clash, from_asking, from_computed, from_doing, has_request, held_by, need, troubled, validated, vote_tid, votes}
 use Rattle.schedule.specs.Unhindered.{GoTogether, GoesUnhindered, IsUnhindered, fetch_steps, hinders, is_step_of, last_steps, steps_of, whole_steps}
 use Rattle.schedule.proofs.Good.{Good, NotHolder, Rooted, Sound, good_start, no_vote, not_holder, set_other}
-use Rattle.schedule.proofs.Proper.{held, proper_happens}
+use Rattle.schedule.proofs.Proper.{happens_rightly, held, none_has}
 use Rattle.schedule.proofs.Running.{course_is_right}
 
 -- ---- lists
@@ -190,6 +192,24 @@ spares_steps terms m new w u lines other (inr (trouble, e)) quiet = spares_troub
 apart : (w v : ℕ) → (v == w) ≡ false → w ≢ v
 apart w v differs = λ same. grind (arith, nat_tests, differs, same)
 
+-- while a worker has a request, a pack leaves all as it was, and doesn't end the section
+pack_waits : {R : Type 0} (terms : Terms R) (m new : Moment R) (w t : ℕ) (lines : List Line) → PacksAt terms m t lines new → has_request (doing m w) ≡ true → (new ≡ m) × (begins_history lines ≡ false)
+pack_waits {R} terms m new w t lines (inl (busy, e)) has = (sym (ap (λ (r : Told R). r.1) e), subst (λ (r : Told R). begins_history r.0 ≡ false) e refl)
+pack_waits terms m new w t lines (inr (none, did)) has = absurd (let bad : true ≡ false = sym has ∙ none_has m.workers w none in cc)
+
+pack_spares : {R : Type 0} (terms : Terms R) (m new : Moment R) (w t : ℕ) (lines : List Line) → PacksAt terms m t lines new → has_request (doing m w) ≡ true → Spares w m new
+pack_spares {R} terms m new w t lines h has = subst (λ (k : Moment R). Spares w m k) (sym (pack_waits terms m new w t lines h has).0) (spares_same w m)
+
+-- so no section ends while a worker has a request
+section_stays : {R : Type 0} (terms : Terms R) (m new : Moment R) (w : ℕ) (item : Item2) (lines : List Line) → Happens terms m item lines new → has_request (doing m w) ≡ true → ends_section item lines ≡ false
+section_stays terms m new w (Item2.Request v bytes) lines h has = refl
+section_stays terms m new w (Item2.Step v) lines h has = refl
+section_stays terms m new w (Item2.Clock t) lines h has = refl
+section_stays terms m new w (Item2.Stop n seed) lines h has = refl
+section_stays terms m new w (Item2.Fail n seed) lines h has = refl
+section_stays terms m new w (Item2.Pack t) lines h has = (pack_waits terms m new w t lines h has).1
+section_stays terms m new w Item2.End lines h has = absurd h
+
 -- an item that is no step of the worker leaves it alone, while it has a request
 spares_item : {R : Type 0} (terms : Terms R) (m new : Moment R) (w : ℕ) (item : Item2) (lines : List Line) → Happens terms m item lines new → is_step_of w item ≡ false → IsUnhindered w lines → has_request (doing m w) ≡ true → Spares w m new
 spares_item {R} terms m new w (Item2.Request v bytes) lines h other quiet busy = go (v == w) refl
@@ -205,6 +225,7 @@ spares_item terms m new w (Item2.Step v) lines h other quiet busy = spares_steps
 spares_item {R} terms m new w (Item2.Clock t) lines h other quiet busy = subst (λ (k : Moment R). Spares w m k) (sym h.1) (record { doing_is = refl; held_is = λ v e same. e; free = λ not. not })
 spares_item {R} terms m new w (Item2.Stop n seed) lines h other quiet busy = subst (λ (k : Moment R). Spares w m k) (sym h.1) (spares_same w m)
 spares_item {R} terms m new w (Item2.Fail n seed) lines h other quiet busy = subst (λ (k : Moment R). Spares w m k) (sym h.1) (spares_same w m)
+spares_item terms m new w (Item2.Pack t) lines h other quiet busy = pack_spares terms m new w t lines h busy
 spares_item terms m new w Item2.End lines h other quiet busy = absurd h
 
 step_is : (w : ℕ) (item : Item2) → is_step_of w item ≡ true → item ≡ Item2.Step w
@@ -213,6 +234,7 @@ step_is w (Item2.Request v bytes) is = absurd cc
 step_is w (Item2.Clock t) is = absurd cc
 step_is w (Item2.Stop n seed) is = absurd cc
 step_is w (Item2.Fail n seed) is = absurd cc
+step_is w (Item2.Pack t) is = absurd cc
 step_is w Item2.End is = absurd cc
 
 -- ---- place by place
@@ -222,7 +244,7 @@ record Onward {R : Type 0} (terms : Terms R) (h : History) (w : ℕ) (m : Moment
   good : Good terms m
   end : Moment R
   course : Course terms m ps end
-  grows : IsPrefixOf end.standing h
+  grows : IsPrefixOf (history_after ps end) h
   quiet : IsUnhindered w (lines_of ps)
 
 -- a part of the history stands by then
@@ -237,7 +259,7 @@ record Next {R : Type 0} (terms : Terms R) (h : History) (w : ℕ) (m : Moment R
 
 next_place : {R : Type 0} (terms : Terms R) (h : History) (w : ℕ) (m : Moment R) (p : Place R) (ps : List (Place R)) → IsLawful terms.eval → Onward terms h w m (p ∷ ps) → has_request (doing m w) ≡ true → Next terms h w m p ps
 next_place {R} terms h w m p ps lawful on busy = record {
-  rest = record { good = (proper_happens terms p.before p.item p.lines p.after lawful (subst (Good terms) on.course.0 on.good) on.course.1).good; end = on.end; course = on.course.2; grows = on.grows; quiet = parts.1 };
+  rest = record { good = (happens_rightly terms p.before p.item p.lines p.after lawful (subst (Good terms) on.course.0 on.good) on.course.1).good; end = on.end; course = on.course.2; grows = subst (λ b. IsPrefixOf (cond b p.before.standing (history_after ps on.end)) h) (section_stays terms m p.after w p.item p.lines here busy) on.grows; quiet = parts.1 };
   quiet = parts.0;
   either = go (is_step_of w p.item) refl;
 }
@@ -466,9 +488,18 @@ course_split : {R : Type 0} (terms : Terms R) (first : Moment R) (xs ys : List (
 course_split terms first [] ys end c = (first, refl, c)
 course_split terms first (x ∷ xs) ys end c = (let rest = course_split terms x.after xs ys end c.2 in (rest.0, (c.0, c.1, rest.1), rest.2))
 
+-- what ends the section after some places ends that which goes on behind them, where none of them ends it
+ends_behind : {R : Type 0} (xs ys : List (Place R)) (mid end : Moment R) → IsPrefixOf mid.standing (history_after ys end) → IsPrefixOf (history_after xs mid) (history_after (xs ++ ys) end)
+ends_behind [] ys mid end grows = grows
+ends_behind {R} (x ∷ xs) ys mid end grows = go (ends_section x.item x.lines) (ends_behind xs ys mid end grows)
+  where
+    go : (b : Bool) → IsPrefixOf (history_after xs mid) (history_after (xs ++ ys) end) → IsPrefixOf (cond b x.before.standing (history_after xs mid)) (cond b x.before.standing (history_after (xs ++ ys) end))
+    go true rest = prefix_refl x.before.standing
+    go false rest = rest
+
 -- The steps of a request that meets nothing are those of its evaluation at its snapshot, as far as both go.
 pub keeps_pace : {R : Type 0} (terms : Terms R) (h0 : History) (trace : List (Place R)) (end : Moment R) → IsLawful terms.eval → AsksFew terms.eval → IsHistory h0 → Course terms (start terms h0) trace end
-    → (w : ℕ) (q : R) (during : List (Place R)) → GoesUnhindered terms trace w q during → (at tid : ℕ) × GoTogether (whole_steps terms end.standing w at tid q) (steps_of w during)
+    → (w : ℕ) (q : R) (during : List (Place R)) (u : GoesUnhindered terms trace w q during) → (at tid : ℕ) × GoTogether (whole_steps terms (history_after (during ++ u.after) end) w at tid q) (steps_of w during)
 keeps_pace {R} terms h0 trace end lawful few is course w q during u =
     let whole : Course terms (start terms h0) (u.before ++ u.place ∷ (during ++ u.after)) end = subst (λ (ps : List (Place R)). Course terms (start terms h0) ps end) u.all course in
     let front = course_split terms (start terms h0) u.before (u.place ∷ (during ++ u.after)) end whole in
@@ -476,12 +507,13 @@ keeps_pace {R} terms h0 trace end lawful few is course w q during u =
     let before = course_is_right terms (start terms h0) u.before front.0 lawful (good_start terms h0 is) front.1 in
     let good : Good terms u.place.before = subst (Good terms) front.2.0 before.good in
     let given : Happens terms u.place.before (Item2.Request w u.bytes) u.place.lines u.place.after = subst (λ (i : Item2). Happens terms u.place.before i u.place.lines u.place.after) u.given front.2.1 in
-    let after_good : Good terms u.place.after = (proper_happens terms u.place.before (Item2.Request w u.bytes) u.place.lines u.place.after lawful good given).good in
+    let after_good : Good terms u.place.after = (happens_rightly terms u.place.before (Item2.Request w u.bytes) u.place.lines u.place.after lawful good given).good in
     let same : given.0 ≡ q = (let both : Some given.0 ≡ Some q = sym given.1 ∙ u.takes in cc) in
     let does : doing u.place.after w ≡ Some (Waiting q []) = ap (λ (m : Moment R). doing m w) given.4 ∙ set_here (Waiting given.0 []) Free u.place.before.workers w given.2 ∙ ap (λ k. Some (Waiting k [])) same in
     let middle = course_is_right terms u.place.after during back.0 lawful after_good back.1 in
     let rest = course_is_right terms back.0 u.after end lawful middle.good back.2 in
-    waiting terms end.standing w q lawful few rest.good.history during u.place.after (record { good = after_good; end = back.0; course = back.1; grows = rest.grows; quiet = u.quiet }) does
+    let section = course_is_right terms u.place.after (during ++ u.after) end lawful after_good front.2.2 in
+    waiting terms (history_after (during ++ u.after) end) w q lawful few section.whole during u.place.after (record { good = after_good; end = back.0; course = back.1; grows = ends_behind during u.after back.0 end rest.grows; quiet = u.quiet }) does
 
 -- ---- how many steps these are
 

@@ -41,6 +41,7 @@ after_line k Line.Stop = hit true k.arms
 after_line k (Line.DiskFault w) = hit false k.arms
 after_line k (Line.Unknown w t) = hit false k.arms
 after_line k Line.OpenFault = hit false k.arms
+after_line k Line.PackFault = hit false k.arms
 after_line k (Line.Vote w t) = called k.arms k.since
 after_line k (Line.ReplyCommit w t bytes) = called k.arms k.since
 after_line k _ = Some k

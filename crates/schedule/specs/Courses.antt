@@ -3,6 +3,7 @@ use Rattle.std.specs.Prelude.{ℕ, ◌≡◌, List, [], ◌∷◌, map, flat_map
 use Rattle.schedule.specs.declared.item.Item2.{Item2}
 use Rattle.schedule.specs.declared.line.Line.{Line}
 use Rattle.schedule.specs.Moments.{Terms, Doing, Free, Waiting, Asking, Computed, Moment, doing, turned, clocked}
+use Rattle.schedule.specs.Packing.{PacksAt}
 use Rattle.schedule.specs.Stepping.{Steps}
 
 -- an item of the schedule prints these lines, and this is the moment after it
@@ -12,6 +13,7 @@ Happens terms old (Item2.Step w) lines new = Steps terms old w lines new
 Happens terms old (Item2.Clock t) lines new = (lines ≡ []) × (new ≡ clocked old t)
 Happens terms old (Item2.Stop n seed) lines new = (lines ≡ []) × (new ≡ old)
 Happens terms old (Item2.Fail n seed) lines new = (lines ≡ []) × (new ≡ old)
+Happens terms old (Item2.Pack t) lines new = PacksAt terms old t lines new
 Happens terms old Item2.End lines new = ⊥
 
 -- one item of a run, with the lines that it printed, and the moments before and after it

@@ -15,12 +15,13 @@ entry_of _ = []
 abbrev pub entries : List Item2 → List Arm
 entries items = flat_map entry_of items
 
--- the lines that tell of a fault: a stop, a disk fault, an unknown outcome, a fault of an opening
+-- the lines that tell of a fault: a stop, a disk fault, an unknown outcome, a fault of an opening, and one of a pack
 abbrev pub is_fault : Line → Bool
 is_fault Line.Stop = true
 is_fault (Line.DiskFault w) = true
 is_fault (Line.Unknown w t) = true
 is_fault Line.OpenFault = true
+is_fault Line.PackFault = true
 is_fault _ = false
 
 abbrev pub one_if : Bool → ℕ

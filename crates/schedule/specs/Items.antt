@@ -11,6 +11,7 @@ item_text (Item2.Step w) = row (codes "step") (decimal w ∷ [])
 item_text (Item2.Clock t) = row (codes "clock") (hex16_text t ∷ [])
 item_text (Item2.Stop n seed) = row (codes "stop") (decimal n ∷ decimal seed ∷ [])
 item_text (Item2.Fail n seed) = row (codes "fail") (decimal n ∷ decimal seed ∷ [])
+item_text (Item2.Pack t) = row (codes "pack") (hex16_text t ∷ [])
 item_text Item2.End = row (codes "end") []
 
 abbrev pub first_line : List ℕ
@@ -28,6 +29,7 @@ HasLine (Item2.Step w) = w < workers
 HasLine (Item2.Clock t) = t < 2 ^ 64
 HasLine (Item2.Stop n seed) = (0 < n) × (n < 2 ^ 64) × (seed < 2 ^ 64)
 HasLine (Item2.Fail n seed) = (0 < n) × (n < 2 ^ 64) × (seed < 2 ^ 64)
+HasLine (Item2.Pack t) = t < 2 ^ 64
 HasLine Item2.End = ⊥
 
 -- the bytes are this schedule, from its first line to its end

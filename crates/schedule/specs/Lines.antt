@@ -60,6 +60,12 @@ line_text (Line.History n) = row (codes "history") (decimal n ∷ [])
 line_text (Line.Floor t) = row (codes "floor") (hex16_text t ∷ [])
 line_text (Line.Transaction t user description extension n) = row (codes "transaction") (hex16_text t ∷ text_field user ∷ text_field description ∷ text_field extension ∷ decimal n ∷ [])
 line_text (Line.RecordRow o v) = row (codes "record") (hex16_text o ∷ value_field v ∷ [])
+line_text (Line.Packed t n) = row (codes "packed") (hex16_text t ∷ decimal n ∷ [])
+line_text Line.PackBusy = row (codes "pack") (codes "busy" ∷ [])
+line_text (Line.PackUnreadable o) = row (codes "pack") (codes "unreadable" ∷ hex16_text o ∷ [])
+line_text (Line.PackFull need limit) = row (codes "pack") (codes "full" ∷ decimal need ∷ decimal limit ∷ [])
+line_text Line.PackMemory = row (codes "pack") (codes "memory" ∷ [])
+line_text Line.PackFault = row (codes "packfault") []
 line_text Line.End = row (codes "end") []
 
 abbrev pub report_text : List Line → List ℕ

@@ -8,14 +8,16 @@ use Rattle.evaluator.specs.declared.draft.Draft.{Draft}
 use Rattle.zbase.specs.History.{History, Transaction, added}
 use Rattle.evaluator.specs.Exec.{Eval}
 use Rattle.zbase.specs.declared.ids.Clash.{Clash}
+use Rattle.packing.specs.Reachable.{Linking}
 use Rattle.schedule.specs.declared.line.Line.{Line}
 
 -- What a report rests on: what a request's bytes mean, what an evaluation makes of it, the bytes of a reply with
--- its mark, how long the file may become, and how long it was when it was opened.
+-- its mark, to which objects an object's bytes lead, how long the file may become, and how long it was when it was opened.
 pub record Terms (R : Type 0) : Type 0 where
   pub takes : List ℕ → Option R
   pub eval : Eval R
   pub answer : Reply → Mark → List ℕ
+  pub links : Linking
   pub limit : ℕ
   pub opened : ℕ
 

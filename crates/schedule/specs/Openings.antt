@@ -54,3 +54,19 @@ restart_queued k old new b m os t n is runs some e stops o =
     let rest = openings_queued h.0 (resumed new) b os t n (queue_resumed h.0 new h.2 (begins new old e)) refl o in
     let behind = map opening_line os ++ Line.Restart t n ∷ [] in
     (rest.0, ap (λ q. after_lines q (lost_lines m ++ behind)) here ∙ lost_quiet h.0 0 m.workers behind ∙ rest.1, rest.2)
+
+-- A stop in a pack, the openings and the restart: no request is lost.
+pub pack_restart_queued : (k : Queue) (old new b : Arms) (os : List Opening) (t n : ℕ) → IsQueueOf k old → old.stopped ≡ false → (old.queue ≡ [] → ⊥) → new ≡ hit old → new.stopped ≡ true → OpeningsOf (resumed new) os b
+    → Leaves k (Line.Stop ∷ (map opening_line os ++ Line.Restart t n ∷ [])) b
+pack_restart_queued k old new b os t n is runs some e stops o =
+    let h = queue_hit k old new is runs some e in
+    let here : licence_hit true k.arms ≡ Some h.0 = subst (λ s. licence_hit s k.arms ≡ Some h.0) stops h.1 in
+    let rest = openings_queued h.0 (resumed new) b os t n (queue_resumed h.0 new h.2 (begins new old e)) refl o in
+    (rest.0, ap (λ q. after_lines q (map opening_line os ++ Line.Restart t n ∷ [])) here ∙ rest.1, rest.2)
+
+-- a failure in a pack
+pub pack_fault_queued : (k : Queue) (old new : Arms) → IsQueueOf k old → old.stopped ≡ false → (old.queue ≡ [] → ⊥) → new ≡ hit old → new.stopped ≡ false → Leaves k (Line.PackFault ∷ []) new
+pack_fault_queued k old new is runs some e goes =
+    let h = queue_hit k old new is runs some e in
+    let here : licence_hit false k.arms ≡ Some h.0 = subst (λ s. licence_hit s k.arms ≡ Some h.0) goes h.1 in
+    (h.0, ap (λ q. after_lines q []) here, h.2)

@@ -9,6 +9,8 @@ abbrev pub is_trouble : Line → Bool
 is_trouble (Line.Memory w) = true
 is_trouble (Line.DiskFault w) = true
 is_trouble (Line.Unknown w t) = true
+is_trouble Line.PackMemory = true
+is_trouble Line.PackFault = true
 is_trouble Line.Stop = true
 is_trouble _ = false
 

@@ -16,7 +16,7 @@ mark_bytes (Mark.Commit t) = 99 ∷ t ∷ []
 mark_bytes Mark.Empty = 110 ∷ []
 
 abbrev pub cells : Terms CellRequest
-cells = record { takes = takes_cell; eval = eval_cell; answer = λ x mark. mark_bytes mark ++ x.body; limit = 281474976710655; opened = 184 }
+cells = record { takes = takes_cell; eval = eval_cell; answer = λ x mark. mark_bytes mark ++ x.body; links = λ bytes. Some []; limit = 281474976710655; opened = 184 }
 
 -- the stamp of the first moment of 2000
 abbrev pub first_tid : ℕ

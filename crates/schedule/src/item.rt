@@ -17,6 +17,8 @@ pub enum Item2 {
     Stop(u64, u64),
     /// `fail N SEED`: arms a failure of the N-th device call, N at least 1; the seed picks what it leaves.
     Fail(u64, u64),
+    /// `pack TID`: the history up to this transaction is packed, where no worker has a request.
+    Pack(Tid),
     /// `end`: the run ends.
     End,
 }

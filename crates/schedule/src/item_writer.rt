@@ -27,6 +27,7 @@ fn put_item(item: &Item2, out: &mut Bytes) -> Result<(), Memory>
             b"fail",
             &[Field::Number(*call), Field::Number(*seed)],
         ),
+        Item2::Pack(before) => put_row(out, b"pack", &[Field::Id(before.0)]),
         Item2::End => put_row(out, b"end", &[]),
     }
 }

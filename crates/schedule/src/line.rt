@@ -63,6 +63,18 @@ pub enum Line {
     Transaction(Tid, Bytes, Bytes, Bytes, u64),
     /// `record OID VALUE`.
     RecordRow(Oid, Value),
+    /// `packed TID N`: the history before it was packed; its floor and the number of its transactions from then on.
+    Packed(Tid, u64),
+    /// `pack busy`: a worker has a request.
+    PackBusy,
+    /// `pack unreadable OID`: the least object that is kept and can't be read.
+    PackUnreadable(Oid),
+    /// `pack full NEED LIMIT`: the packed file would be longer than the limit.
+    PackFull(u64, u64),
+    /// `pack memory`: want of memory in the pack.
+    PackMemory,
+    /// `packfault`: a device call failed in the pack.
+    PackFault,
     /// `end`.
     End,
 }

@@ -1,5 +1,6 @@
 ghost use Rattle.std.specs.Prelude.{◌≡◌, ◌≢◌, ◌++◌, ◌∷◌, ◌<◌, ◌≤◌, ◌^◌, ℕ, List, Err, codes, decimal, IfOk, IfSome, MatchOption};
 ghost use Rattle.std.specs.Char.{digit_value};
+ghost use Rattle.zbase.specs.Hex.{hex16_text};
 ghost use Rattle.schedule.specs.Rows.{Lacks};
 ghost use Rattle.schedule.specs.Items.{HasLine, IsSchedule, item_text, workers};
 ghost use Rattle.schedule.specs.BadLines.{BeginsItem, IsBadAt};
@@ -130,15 +131,35 @@ fn step_at(fields: &[u8]) -> Result<(Item2, &[u8]), Unread>
     Ok((Item2::Step(worker), rest))
 }
 
+// The id that ends its line, and what is behind it.
+fn id_at(fields: &[u8]) -> Result<(u64, &[u8]), Unread>
+    ensures id { IfOk result (λ read. fields.now ≡ hex16_text read.0 ++ 10 ∷ read.1.now) }
+    ensures small { IfOk result (λ read. read.0 < 2 ^ 64) }
+    ensures bad { result ≡ Err Bad → (t : ℕ) (rest : List ℕ) → t < 2 ^ 64 → fields.now ≢ hex16_text t ++ 10 ∷ rest }
+{
+    let (digits, rest) = split_byte(fields, b'\n').ok_or(Unread::Bad)?;
+    let id = read_hex16(digits).ok_or(Unread::Bad)?;
+    Ok((id, rest))
+}
+
 // The clock whose line goes on here behind its word, and what is behind it.
 fn clock_at(fields: &[u8]) -> Result<(Item2, &[u8]), Unread>
     ensures text { IfOk result (λ read. codes "clock " ++ fields.now ≡ item_text read.0 ++ read.1.now) }
     ensures line { IfOk result (λ read. HasLine read.0) }
     ensures bad { result ≡ Err Bad → BeginsItem (codes "clock " ++ fields.now) → ⊥ }
 {
-    let (digits, rest) = split_byte(fields, b'\n').ok_or(Unread::Bad)?;
-    let stamp = read_hex16(digits).ok_or(Unread::Bad)?;
+    let (stamp, rest) = id_at(fields)?;
     Ok((Item2::Clock(Tid(stamp)), rest))
+}
+
+// The pack whose line goes on here behind its word, and what is behind it.
+fn pack_at(fields: &[u8]) -> Result<(Item2, &[u8]), Unread>
+    ensures text { IfOk result (λ read. codes "pack " ++ fields.now ≡ item_text read.0 ++ read.1.now) }
+    ensures line { IfOk result (λ read. HasLine read.0) }
+    ensures bad { result ≡ Err Bad → BeginsItem (codes "pack " ++ fields.now) → ⊥ }
+{
+    let (before, rest) = id_at(fields)?;
+    Ok((Item2::Pack(Tid(before)), rest))
 }
 
 // The count of device calls and the seed of an armed fault, and what is behind their line.
@@ -194,8 +215,11 @@ fn item_at(alloc: Global, bytes: &[u8]) -> Result<(Item2, &[u8]), Unread>
     if let Some(fields) = after(bytes, b"stop ") {
         return stop_at(fields);
     }
-    let fields = after(bytes, b"fail ").ok_or(Unread::Bad)?;
-    fail_at(fields)
+    if let Some(fields) = after(bytes, b"fail ") {
+        return fail_at(fields);
+    }
+    let fields = after(bytes, b"pack ").ok_or(Unread::Bad)?;
+    pack_at(fields)
 }
 
 /// The schedule that the bytes spell, all of them.

@@ -4,6 +4,7 @@ ghost use Rattle.schedule.specs.declared.line.Line.{Line};
 ghost use Rattle.schedule.specs.Explained.{Explained};
 ghost use Rattle.schedule.specs.Unhindered.{whole_steps};
 ghost use Rattle.schedule.specs.Worked.{cells, one_cell, two_cells, first_tid, copy_steps, read_steps, conflict_schedule, conflict_report, stop_schedule, dropped_report, kept_report, early_commit_schedule, early_commit, second_vote_schedule, second_vote, stale_vote_schedule, stale_vote, lossy_restart_schedule, lossy_restart, packed_cell, packed_schedule, packed_report};
+ghost use Rattle.schedule.specs.WorkedPacks.{hindered_report, hindered_schedule, pack_report, pack_schedule, rooted, three_cells};
 
 /// Two requests that each read what the other writes: the second meets a conflict, begins anew and commits.
 pub fn conflict_is_explained()
@@ -25,6 +26,16 @@ pub fn packed_file_is_explained()
 pub fn unhindered_steps_are_these()
     ensures copy { whole_steps cells two_cells 0 first_tid (first_tid + 1) (CellRequest.Copy 1 2) ≡ copy_steps }
     ensures read { whole_steps cells two_cells 3 first_tid 0 (CellRequest.Read 1) ≡ read_steps }
+{}
+
+/// A commit, a pack at it, and a commit behind it: what the pack leaves is what the second one rests on.
+pub fn pack_is_explained()
+    ensures { Explained rooted three_cells pack_schedule pack_report }
+{}
+
+/// A pack while a worker has a request is refused; a stop cuts one off, and a failure meets the next.
+pub fn hindered_packs_are_explained()
+    ensures { Explained rooted three_cells hindered_schedule hindered_report }
 {}
 
 /// No report has a commit reply in the place of its vote, whatever follows.

@@ -210,6 +210,28 @@ fn put_line(line: &Line, out: &mut Bytes) -> Result<(), Memory>
             put_transaction(*tid, user, description, extension, *n, out)
         }
         Line::RecordRow(oid, value) => put_record(*oid, value, out),
+        Line::Packed(floor, n) => {
+            put_row(out, b"packed", &[Field::Id(floor.0), Field::Number(*n)])
+        }
+        Line::PackBusy => put_row(out, b"pack", &[Field::Word(b"busy")]),
+        Line::PackUnreadable(oid) => {
+            put_row(
+                out,
+                b"pack",
+                &[Field::Word(b"unreadable"), Field::Id(oid.0)],
+            )
+        }
+        Line::PackFull(need, limit) => put_row(
+            out,
+            b"pack",
+            &[
+                Field::Word(b"full"),
+                Field::Number(*need),
+                Field::Number(*limit),
+            ],
+        ),
+        Line::PackMemory => put_row(out, b"pack", &[Field::Word(b"memory")]),
+        Line::PackFault => put_row(out, b"packfault", &[]),
         Line::End => put_row(out, b"end", &[]),
     }
 }

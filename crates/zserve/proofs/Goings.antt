@@ -11,6 +11,7 @@ use Rattle.zdisk.specs.Images.{IsImage}
 use Rattle.zdisk.specs.MomentLaws.{leaves_as, leaves_now, piles_none}
 use Rattle.evaluator.specs.Exec.{Eval}
 use Rattle.http_out.specs.Replies.{answer}
+use Rattle.packing.specs.Reachable.{Linking}
 use Rattle.schedule.specs.declared.item.Item2.{Item2}
 use Rattle.schedule.specs.declared.line.Line.{Line}
 use Rattle.schedule.specs.Counted.{AreCounted, Counted}
@@ -45,7 +46,7 @@ safe_then a b c h g k (x ∷ xs) ys first second = (first.0, first.1, first.2, f
 pub goes_none : {E R S : Type 0} (takes : List ℕ → Option R) (eval : Eval R) (core : CoreView E R S) (now : ℕ) → Goes takes eval core now [] core now
 goes_none takes eval core now = record {
   limit = refl;
-  ran = λ told end first done prior. subst (λ xs. RanTo eval (terms_of takes eval core.store.limit end) first xs core now) (sym (append-nil done)) prior;
+  ran = λ told links end first done prior. subst (λ xs. RanTo eval (terms_of takes eval links core.store.limit end) first xs core now) (sym (append-nil done)) prior;
   tells = tells_self core.store.disk.told;
   counted = refl;
   calm = λ f. (f, refl);
@@ -57,10 +58,10 @@ goes_then {E} {R} {S} takes eval a b c s t u xs ys first second =
     let forth : IsTold a.store → IsTold b.store = λ told. tells_forth a.store.disk.told b.store.disk.told first.tells told in
     record {
       limit = second.limit ∙ first.limit;
-      ran = λ told end from done prior.
-          (let mid = first.ran told end from done prior in
-          let more = second.ran (forth told) end from (done ++ xs) (subst (λ n. RanTo eval (terms_of takes eval n end) from (done ++ xs) b t) (sym first.limit) mid) in
-          subst (λ zs. RanTo eval (terms_of takes eval a.store.limit end) from zs c u) (append_assoc done xs ys) (subst (λ n. RanTo eval (terms_of takes eval n end) from ((done ++ xs) ++ ys) c u) first.limit more));
+      ran = λ told links end from done prior.
+          (let mid = first.ran told links end from done prior in
+          let more = second.ran (forth told) links end from (done ++ xs) (subst (λ n. RanTo eval (terms_of takes eval links n end) from (done ++ xs) b t) (sym first.limit) mid) in
+          subst (λ zs. RanTo eval (terms_of takes eval links a.store.limit end) from zs c u) (append_assoc done xs ys) (subst (λ n. RanTo eval (terms_of takes eval links n end) from ((done ++ xs) ++ ys) c u) first.limit more));
       tells = tells_then a.store.disk.told b.store.disk.told c.store.disk.told first.tells second.tells;
       counted = subst (λ ls. AreCounted a.store.disk.counter.count ls c.store.disk.counter.count) (sym (map-append (λ (h : Happening). h.1) xs ys)) (counted_then a.store.disk.counter.count b.store.disk.counter.count c.store.disk.counter.count (printed xs) (printed ys) first.counted second.counted);
       calm = λ f. (let one = first.calm f in let two = second.calm one.0 in (two.0, two.1 ∙ one.1));
@@ -107,12 +108,12 @@ pub goes_step : {E R S : Type 0} (takes : List ℕ → Option R) (eval : Eval R)
     → TellsOn old.store.disk.told new.store.disk.told → Counts old.store.disk.counter new.store.disk.counter (IsFaultLine line) → KeepsNearly old.store new.store → Goes takes eval old now ((Item2.Step w, step_lines answer w line) ∷ []) new now
 goes_step takes eval old new w now line limit steps tells counts keeps = record {
   limit = limit;
-  ran = λ told end first done prior. ran_next eval (terms_of takes eval old.store.limit end) first done (Item2.Step w) (step_lines answer w line) old new now now (steps told (terms_of takes eval old.store.limit end) refl refl) prior;
+  ran = λ told links end first done prior. ran_next eval (terms_of takes eval links old.store.limit end) first done (Item2.Step w) (step_lines answer w line) old new now now (steps told (terms_of takes eval links old.store.limit end) refl refl) prior;
   tells = tells;
   counted = (new.store.disk.counter.count, step_counted old.store.disk.counter new.store.disk.counter w line counts, refl);
   calm = counts.calm;
   safe = λ told.
-      (let grew = step_grows eval (terms_of takes eval old.store.limit 0) w now old new (step_lines answer w line) (steps told (terms_of takes eval old.store.limit 0) refl refl) in
+      (let grew = step_grows eval (terms_of takes eval (λ bytes. None) old.store.limit 0) w now old new (step_lines answer w line) (steps told (terms_of takes eval (λ bytes. None) old.store.limit 0) refl refl) in
       (new.store.disk.told, new.store.history, step_leaves old.store new.store keeps, grew.0, grew.1, (refl, refl)));
 }
 
@@ -126,14 +127,14 @@ known_near s None known = tt
 known_near s (Some t) known = λ image is. near s image (inl (known image is))
 
 pub goes_quietly : {E R S : Type 0} (takes : List ℕ → Option R) (eval : Eval R) (old new : CoreView E R S) (since now : ℕ) (item : Item2) → new.store ≡ old.store
-    → ((end : ℕ) → Follows (terms_of takes eval old.store.limit end) (MayBe eval old) since (MayBe eval new) now item [])
+    → ((links : Linking) (end : ℕ) → Follows (terms_of takes eval links old.store.limit end) (MayBe eval old) since (MayBe eval new) now item [])
     → IfSome old.store.disk.told (λ told. (image : List ℕ) → IsImage told.now image → OpensAsKnown old.store image) → Goes takes eval old since ((item, []) ∷ []) new now
 goes_quietly {E} {R} {S} takes eval old new since now item same follows images =
     let told_is : new.store.disk.told ≡ old.store.disk.told = ap (λ (s : StoreView). s.disk.told) same in
     let count_is : new.store.disk.counter.count ≡ old.store.disk.counter.count = ap (λ (s : StoreView). s.disk.counter.count) same in
     record {
       limit = ap (λ (s : StoreView). s.limit) same;
-      ran = λ told end first done prior. ran_next eval (terms_of takes eval old.store.limit end) first done item [] old new since now (follows end) prior;
+      ran = λ told links end first done prior. ran_next eval (terms_of takes eval links old.store.limit end) first done item [] old new since now (follows links end) prior;
       tells = subst (λ d. TellsOn old.store.disk.told d) (sym told_is) (tells_self old.store.disk.told);
       counted = (old.store.disk.counter.count, record { later = omega arith; calm = λ none. refl; rose = λ some. absurd (omega (arith, some)); runs = refl }, count_is);
       calm = λ f. (subst (λ (s : StoreView). IsFaultless s.disk.counter) (sym same) f, count_is);

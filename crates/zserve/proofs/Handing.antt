@@ -92,7 +92,7 @@ pub next_given : {E R S : Type 0} (takes : List ℕ → Option R) (eval : Eval R
     → GivenTo takes eval old new w a.bytes → AllGiven takes eval first new now (bytes_of (front ++ a ∷ []))
 next_given takes eval first old new now w front a given at below images to =
     subst (λ (ms : List (List ℕ)). AllGiven takes eval first new now ms) (sym (bytes_more front a))
-    (given_more takes eval first old new now w (bytes_of front) a.bytes given (at ∙ sym (length_bytes front)) below (next_idle takes eval first old now w front given at below) to.store to.others (λ end. to.follows now end) images)
+    (given_more takes eval first old new now w (bytes_of front) a.bytes given (at ∙ sym (length_bytes front)) below (next_idle takes eval first old now w front given at below) to.store to.others (λ links end. to.follows now links end) images)
 
 pub next_workers : (ws : List ℕ) (front : List Asked) (a : Asked) (w : ℕ) → ws ≡ workers_from 0 (bytes_of front) → w ≡ length front → ws ++ w ∷ [] ≡ workers_from 0 (bytes_of (front ++ a ∷ []))
 next_workers ws front a w is at =

@@ -3,6 +3,7 @@ use Rattle.std.proofs.Common.{◌≡◌, ◌≢◌, ℕ, zero, suc, ◌+◌, ◌
 use Rattle.std.specs.Prelude.{◌⊎◌, IfSome}
 use Rattle.zdisk.specs.Images.{IsImage}
 use Rattle.evaluator.specs.Exec.{Eval}
+use Rattle.packing.specs.Reachable.{Linking}
 use Rattle.schedule.specs.declared.item.Item2.{Item2}
 use Rattle.schedule.specs.Follows.{Follows}
 use Rattle.schedule.specs.Moments.{Free, Moment, Terms, Waiting as Waiting_, clocked}
@@ -132,7 +133,7 @@ same_or_not (suc v) (suc w) = elim (same_or_not v w) [ inl e ↦ inl (ap suc e) 
 
 pub given_more : {E R S : Type 0} (takes : List ℕ → Option R) (eval : Eval R) (first old new : CoreView E R S) (now w : ℕ) (ms : List (List ℕ)) (m : List ℕ)
     → AllGiven takes eval first old now ms → w ≡ length ms → w < 16 → IsIdle old w → new.store ≡ old.store → ((v : ℕ) → v ≢ w → slice_get new.slots v ≡ slice_get old.slots v)
-    → ((end : ℕ) → Follows (terms_of takes eval old.store.limit end) (MayBe eval old) now (MayBe eval new) now (Item2.Request w m) [])
+    → ((links : Linking) (end : ℕ) → Follows (terms_of takes eval links old.store.limit end) (MayBe eval old) now (MayBe eval new) now (Item2.Request w m) [])
     → IfSome old.store.disk.told (λ told. (image : List ℕ) → IsImage told.now image → OpensAsKnown old.store image) → AllGiven takes eval first new now (ms ++ m ∷ [])
 given_more {E} {R} {S} takes eval first old new now w ms m given is below idle same others follows images = record {
   goes = subst (λ hs. Goes takes eval first now hs new now) (sym (given_last 0 ms m ∙ ap (λ n. given_from 0 ms ++ (Item2.Request n m, []) ∷ []) at)) (goes_then takes eval first old new now now now (given_from 0 ms) ((Item2.Request w m, []) ∷ []) given.goes (goes_quietly takes eval old new now now (Item2.Request w m) same follows images));
@@ -154,7 +155,7 @@ given_more {E} {R} {S} takes eval first old new now w ms m given is below idle s
     all : Wait new (workers_from 0 ms ++ w ∷ [])
     all v less = elim (same_or_not v w) [
       | inl e ↦ (
-        λ among i. given_busy eval (terms_of takes eval old.store.limit 0) old new now w m idle (follows 0) (subst (IsIdle new) e i),
+        λ among i. given_busy eval (terms_of takes eval (λ bytes. None) old.store.limit 0) old new now w m idle (follows (λ bytes. None) 0) (subst (IsIdle new) e i),
         λ none. absurd (none (among_right v (workers_from 0 ms) (w ∷ []) (inl e))),
       )
       | inr d ↦ (
@@ -185,7 +186,7 @@ none_yet n v less = none_replied n v (subst (λ k. v < k) (length_replicate n) l
     length_replicate (suc k) = ap suc (length_replicate k)
 
 pub clock_goes : {E R S : Type 0} (takes : List ℕ → Option R) (eval : Eval R) (core : CoreView E R S) (since stamp : ℕ) → IfSome core.store.disk.told (λ told. (image : List ℕ) → IsImage told.now image → OpensAsKnown core.store image) → Goes takes eval core since ((Item2.Clock stamp, []) ∷ []) core stamp
-clock_goes takes eval core since stamp images = goes_quietly takes eval core core since stamp (Item2.Clock stamp) refl (λ end m may. (m, may, (refl, refl))) images
+clock_goes takes eval core since stamp images = goes_quietly takes eval core core since stamp (Item2.Clock stamp) refl (λ links end m may. (m, may, (refl, refl))) images
 
 -- The heart of a tape: requests that are given, the clock, and turns until all have a reply are a round.
 pub round_done : {E R S : Type 0} (takes : List ℕ → Option R) (eval : Eval R) (old given new : CoreView E R S) (since stamp : ℕ) (ms : List (List ℕ)) (turns : List (List Happening)) (replies' : List (Option (List ℕ)))

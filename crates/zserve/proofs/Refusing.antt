@@ -29,6 +29,7 @@ use Rattle.zserve.proofs.Goings.{goes_none, goes_then}
 use Rattle.zserve.proofs.Reporting.{ReplayLaw, RunLaw, reports}
 use Rattle.zserve.proofs.Rounding.{rounds_whole}
 use Rattle.zserve.proofs.Tapings.{leaves_as, leaves_same}
+use Rattle.packing.specs.Reachable.{Linking}
 use Rattle.schedule.specs.Items.{HasLine, item_text}
 use Rattle.std.specs.List.{AllByRecursion}
 
@@ -212,11 +213,11 @@ went_all takes eval port connections most old new a k h i run = goes_then takes 
 -- what a refused server answers for: its run, its tape, and the report of all that happened in it
 abbrev pub Refuses : {E R S : Type 0} → (List ℕ → Option R) → Eval R → (port connections most : ℕ) → CoreView E R S → CoreView E R S → Option (List Tick) → Counter → Option Peers → Option Peers → (failed : Type 0) → Option Told → Type 0
 Refuses takes eval port connections most old new a k h i failed tape =
-    (gone : RefusedRun takes eval port connections most old new a k h i) × IfSome tape (Taped failed gone.all gone.more) × (IsTold old.store → (may : StoreView) → Possible new.store may
-    → Reports (terms_of takes eval old.store.limit old.store.end) old.store.disk.counter.count new.store.disk.counter.count old.store.history (gone.all ++ gone.more) may)
+    (gone : RefusedRun takes eval port connections most old new a k h i) × IfSome tape (Taped failed gone.all gone.more) × (IsTold old.store → (links : Linking) (may : StoreView) → Possible new.store may
+    → Reports (terms_of takes eval links old.store.limit old.store.end) old.store.disk.counter.count new.store.disk.counter.count old.store.history (gone.all ++ gone.more) may)
 
 pub refuses : {E R S : Type 0} (takes : List ℕ → Option R) (eval : Eval R) (port connections most : ℕ) (old new : CoreView E R S) (a : Option (List Tick)) (k : Counter) (h i : Option Peers) → RunLaw R → ReplayLaw R → IsLawful eval → (IsTold old.store → IsHistory old.store.history) → IsAtRest eval old
     → old.store.undecided ≡ None → (failed : Type 0) (tape : Option Told) (run : RefusedRun takes eval port connections most old new a k h i) → IfSome tape (Taped failed run.all run.more)
     → Refuses takes eval port connections most old new a k h i failed tape
 refuses takes eval port connections most old new a k h i law again lawful history rest decided failed tape run taped =
-    (run, taped, λ told may possible. reports takes eval old new run.later (run.all ++ run.more) law again lawful told (history told) rest decided (went_all takes eval port connections most old new a k h i run) may possible)
+    (run, taped, λ told links may possible. reports takes eval old new run.later (run.all ++ run.more) law again lawful told (history told) rest decided (went_all takes eval port connections most old new a k h i run) links may possible)

@@ -2,6 +2,7 @@
 use Rattle.std.proofs.Common.{◌≡◌, ℕ, List, [], ◌∷◌, map, replicate, Option, None, refl, sym, ap, ◌∙◌, subst, inl, inr}
 use Rattle.zbase.specs.History.{History, IsHistory}
 use Rattle.evaluator.specs.Exec.{Eval, IsLawful}
+use Rattle.packing.specs.Reachable.{Linking}
 use Rattle.schedule.specs.declared.item.Item2.{Item2}
 use Rattle.schedule.specs.declared.line.Line.{Line}
 use Rattle.schedule.specs.Counted.{AreCounted, ExplainedByCount}
@@ -50,11 +51,11 @@ abbrev pub ReplayLaw : Type 0 → Type 0
 ReplayLaw R = (terms : Terms R) (h0 : History) (s : List Item2) (r q : List Line) (old new : ℕ) (served : ExplainedByCount terms old new h0 s r) (replayed : Explained terms h0 s q) → Untroubled served.trace → Untroubled replayed.trace → q ≡ r
 
 pub reports : {E R S : Type 0} (takes : List ℕ → Option R) (eval : Eval R) (old new : CoreView E R S) (now : ℕ) (all : List Happening) → RunLaw R → ReplayLaw R → IsLawful eval → IsTold old.store → IsHistory old.store.history → IsAtRest eval old → old.store.undecided ≡ None
-    → Goes takes eval old 0 all new now → (may : StoreView) → Possible new.store may → Reports (terms_of takes eval old.store.limit old.store.end) old.store.disk.counter.count new.store.disk.counter.count old.store.history all may
-reports {E} {R} {S} takes eval old new now all law again lawful told is rest decided goes may possible =
-    let terms : Terms R = terms_of takes eval old.store.limit old.store.end in
+    → Goes takes eval old 0 all new now → (links : Linking) (may : StoreView) → Possible new.store may → Reports (terms_of takes eval links old.store.limit old.store.end) old.store.disk.counter.count new.store.disk.counter.count old.store.history all may
+reports {E} {R} {S} takes eval old new now all law again lawful told is rest decided goes links may possible =
+    let terms : Terms R = terms_of takes eval links old.store.limit old.store.end in
     let m : Moment R = moment_of eval may new.slots in
-    let ran : Ran terms (start terms old.store.history) all (clocked m now) = goes.ran told old.store.end (start terms old.store.history) [] (ran_none eval terms old rest decided refl) m (may, possible, refl) in
+    let ran : Ran terms (start terms old.store.history) all (clocked m now) = goes.ran told links old.store.end (start terms old.store.history) [] (ran_none eval terms old rest decided refl) m (may, possible, refl) in
     let counted : AreCounted old.store.disk.counter.count (printed_at ran.trace) new.store.disk.counter.count = subst (λ ls. AreCounted old.store.disk.counter.count ls new.store.disk.counter.count) (sym (printed_same ran.trace ∙ ap printed ran.is)) goes.counted in
     let e = law terms old.store.history old.store.disk.counter.count new.store.disk.counter.count ran.trace (clocked m now) lawful is ran.course counted in
     let same : items_of ran.trace ≡ items all = items_same ran.trace ∙ ap items ran.is in

@@ -2,6 +2,7 @@
 use Rattle.std.specs.Prelude.{◌≡◌, ℕ, ◌++◌, List, Option}
 use Rattle.zbase.specs.Faults.{IsFaultless}
 use Rattle.evaluator.specs.Exec.{Eval}
+use Rattle.packing.specs.Reachable.{Linking}
 use Rattle.schedule.specs.Counted.{AreCounted}
 use Rattle.schedule.specs.Moments.{Moment, Terms, clocked}
 use Rattle.fs_store.specs.Stores.{IsTold}
@@ -19,7 +20,7 @@ RanTo {R = R} eval terms first all core now = (m : Moment R) → MayBe eval core
 -- of faults rose with the lines that tell a fault, and that of a disk that can't fail stays; and no stop in it loses what stands.
 pub record Goes {E R S : Type 0} (takes : List ℕ → Option R) (eval : Eval R) (old : CoreView E R S) (since : ℕ) (all : List Happening) (new : CoreView E R S) (now : ℕ) : Type 0 where
   pub limit : new.store.limit ≡ old.store.limit
-  pub ran : IsTold old.store → (end : ℕ) (first : Moment R) (done : List Happening) → RanTo eval (terms_of takes eval old.store.limit end) first done old since → RanTo eval (terms_of takes eval old.store.limit end) first (done ++ all) new now
+  pub ran : IsTold old.store → (links : Linking) (end : ℕ) (first : Moment R) (done : List Happening) → RanTo eval (terms_of takes eval links old.store.limit end) first done old since → RanTo eval (terms_of takes eval links old.store.limit end) first (done ++ all) new now
   pub tells : TellsOn old.store.disk.told new.store.disk.told
   pub counted : AreCounted old.store.disk.counter.count (printed all) new.store.disk.counter.count
   pub calm : IsFaultless old.store.disk.counter → IsFaultless new.store.disk.counter × (new.store.disk.counter.count ≡ old.store.disk.counter.count)

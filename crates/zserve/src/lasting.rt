@@ -4,6 +4,7 @@ ghost use Rattle.std.specs.Option.{ForSome};
 ghost use Rattle.zdisk.specs.Crashes.{IsSynced};
 ghost use Rattle.zdisk.specs.Disk.{content};
 ghost use Rattle.http_clients.specs.Arriving.{Tells};
+ghost use Rattle.packing.specs.Reachable.{Linking};
 ghost use Rattle.schedule.specs.Items.{HasLine, IsSchedule, item_text};
 ghost use Rattle.schedule.specs.declared.item.Item2.{Item2};
 ghost use Rattle.fs_store.specs.Stores.{IsTold, StoreView};
@@ -160,15 +161,15 @@ pub fn serve<D: Disk + Drop, E: Evaluator<Request = Message>, H: Hub, C: Clock, 
         × IfSome (R.told tape.new) (λ told. IsSynced told × IsSchedule (content told) (items all))
         × Tells (H.peers hub.old) (H.peers hub.new) (RunTold plan.port plan.connections plan.clients all (C.ticks clock.old) (C.counter clock.old)
         (C.ticks clock.new) (C.counter clock.new) served.connections served.replies)
-        × (IsTold core.old.store → (may : StoreView) → Possible core.new.store may
-        → Reports (terms_of E.takes E.meaning core.old.store.limit core.old.store.end) core.old.store.disk.counter.count
+        × (IsTold core.old.store → (links : Linking) (may : StoreView) → Possible core.new.store may
+        → Reports (terms_of E.takes E.meaning links core.old.store.limit core.old.store.end) core.old.store.disk.counter.count
         core.new.store.disk.counter.count core.old.store.history all may)) }
     // Where it is refused, the rounds before are served, the tape has them, and the report has all that happened.
     ensures refused { IfErr result (λ refusal. (gone : RefusedRun E.takes E.meaning plan.port plan.connections plan.clients core.old core.new
         (C.ticks clock.old) (C.counter clock.old) (H.peers hub.old) (H.peers hub.new))
         × IfSome (R.told tape.new) (Taped (refusal ≡ ServeRefusal.Tape) gone.all gone.more)
-        × (IsTold core.old.store → (may : StoreView) → Possible core.new.store may
-        → Reports (terms_of E.takes E.meaning core.old.store.limit core.old.store.end) core.old.store.disk.counter.count
+        × (IsTold core.old.store → (links : Linking) (may : StoreView) → Possible core.new.store may
+        → Reports (terms_of E.takes E.meaning links core.old.store.limit core.old.store.end) core.old.store.disk.counter.count
         core.new.store.disk.counter.count core.old.store.history (gone.all ++ gone.more) may)) }
     // However it ends, a stop at any moment leaves an image that opens to the history that stands then, or to that and one
     // transaction more.

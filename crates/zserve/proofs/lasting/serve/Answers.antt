@@ -24,8 +24,8 @@ returns-clause-tape g c =
       gone.goes,
       tape_spells _ _ _ _ (items gone.all) c.requires.empty c.in_ok-at.ensures.grows gone.taped c.in_ok-end_tape.ensures.ended.0 c.in_ok-end_tape.ensures.ended.1,
       run_told _ _ _ c.args.plan.port c.args.plan.connections c.args.plan.clients gone.all _ _ _ _ served.0 c.in_ok-served.served.connections c.in_ok-served.served.replies c.in_default.ensures.ok gone.told served.2 served.3,
-      λ told may possible. reports {E = g.row.E.Denot} {R = Message} {S = g.row.E-State.Denot} g.E.Evaluator.takes g.E.Evaluator.meaning c.args.core.now c.serve_rounds.new.core gone.now gone.all c.served_runs_are_serial.ensures.serial c.served_runs_replay.ensures.same g.met.E.Evaluator.lawful told
-          ((rw c.store.ensures at c.is_sound-2.ensures.history) told) c.requires.rest ((rw c.store.ensures at c.is_sound-2.ensures.undecided) c.requires.fresh) gone.goes may possible,
+      λ told links may possible. reports {E = g.row.E.Denot} {R = Message} {S = g.row.E-State.Denot} g.E.Evaluator.takes g.E.Evaluator.meaning c.args.core.now c.serve_rounds.new.core gone.now gone.all c.served_runs_are_serial.ensures.serial c.served_runs_replay.ensures.same g.met.E.Evaluator.lawful told
+          ((rw c.store.ensures at c.is_sound-2.ensures.history) told) c.requires.rest ((rw c.store.ensures at c.is_sound-2.ensures.undecided) c.requires.fresh) gone.goes links may possible,
     )
 
 pub serve_rounds-requires-clause-listens : goal.serve_rounds-requires-clause-listens
