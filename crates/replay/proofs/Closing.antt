@@ -23,7 +23,7 @@ unfolding is_end
 end_of_none = refl
 
 -- a file is cut at its end
-file_cut : (bytes : List ℕ) (front : Front) → IsFile bytes front → Cut bytes front (length bytes)
+pub file_cut : (bytes : List ℕ) (front : Front) → IsFile bytes front → Cut bytes front (length bytes)
 file_cut bytes front file = ([], record { file = bytes; is_file = file; joined = sym (append-nil bytes); at = refl }, end_of_none)
 
 pub prints_its_history : (disk : Option Told) (store : StoreView) (old new : Option (List ℕ)) → disk ≡ store.disk.told → IsTold store → IfSome disk (λ told. IsSynced told × IsWhole store (content told)) → IfSome disk (λ told. Dumps (content told) old new) → Prints old new (dump_lines store.history)

@@ -13,9 +13,9 @@ use Rattle.fs_scan.specs.declared.wholes.Whole.{Whole}
 use Rattle.fs_scan.specs.Scanned.{Tells}
 use Rattle.fs_scan.specs.Wholes.{transaction_in}
 use Rattle.schedule.specs.declared.line.Line.{Line}
-use Rattle.schedule.specs.Explained.{history_head, transaction_lines}
+use Rattle.schedule.specs.Explained.{history_head, history_lines, transaction_lines}
 use Rattle.replay.specs.declared.dumping.DumpRefusal.{DumpRefusal}
-use Rattle.replay.specs.Dumped.{Dumps, of_scan}
+use Rattle.replay.specs.Dumped.{Dumps, PutsHistory, of_scan}
 use Rattle.replay.specs.Printed.{Prints}
 use Rattle.replay.specs.SecondWalk.{Left, Nexts, Second}
 use Rattle.replay.proofs.SecondWalking.{IsLeft}
@@ -67,18 +67,18 @@ printed_next (Some told) again walk next whole old now new same p step lines =
       lines = subst (Prints old new) (one_longer p.front.history p.gone x) (prints_then old now new (so_far p.front.history p.gone) (transaction_lines x) p.lines lines);
     }
 
-pub printed_last : (disk again : Option Told) (walk next : Second) (old now after : Option (List ℕ)) → again ≡ disk → IfSome disk (λ told. Printed (content told) walk old now)
-    → IfSome again (λ told. (xs : List Transaction) → Left (content told) walk xs → Nexts (content told) next xs None) → Prints now after (Line.End ∷ []) → IfSome disk (λ told. Dumps (content told) old after)
-printed_last None again walk next old now after same p step lines = tt
-printed_last (Some told) again walk next old now after same p step lines =
+pub printed_last : (disk again : Option Told) (walk next : Second) (old now : Option (List ℕ)) → again ≡ disk → IfSome disk (λ told. Printed (content told) walk old now)
+    → IfSome again (λ told. (xs : List Transaction) → Left (content told) walk xs → Nexts (content told) next xs None) → IfSome disk (λ told. PutsHistory (content told) old now)
+printed_last None again walk next old now same p step = tt
+printed_last (Some told) again walk next old now same p step =
     let none : p.left ≡ [] = subst (λ (d : Option Told). IfSome d (λ t. (xs : List Transaction) → Left (content t) walk xs → Nexts (content t) next xs None)) same step p.left p.stands in
     let gone : p.gone ≡ p.front.history.transactions = sym (p.all ∙ ap (λ (xs : List Transaction). p.gone ++ xs) none ∙ append-nil p.gone) in
-    record {
-      front = p.front;
-      end = p.end;
-      opens = p.opens;
-      printed = subst (λ (xs : List Transaction). Prints old after (so_far p.front.history xs ++ Line.End ∷ [])) gone (prints_then old now after (so_far p.front.history p.gone) (Line.End ∷ []) p.lines lines);
-    }
+    record { front = p.front; end = p.end; opens = p.opens; printed = subst (λ (xs : List Transaction). Prints old now (so_far p.front.history xs)) gone p.lines }
+
+-- a report's last line behind the history
+pub ended : (disk : Option Told) (old now after : Option (List ℕ)) → IfSome disk (λ told. PutsHistory (content told) old now) → Prints now after (Line.End ∷ []) → IfSome disk (λ told. Dumps (content told) old after)
+ended None old now after p last = tt
+ended (Some told) old now after p last = record { front = p.front; end = p.end; opens = p.opens; printed = prints_then old now after (history_lines p.front.history) (Line.End ∷ []) p.printed last }
 
 -- some transactions are left, or none
 pub still_left : (disk again : Option Told) (walk : Second) (old now : Option (List ℕ)) → again ≡ disk → IfSome disk (λ told. Printed (content told) walk old now) → IsLeft again walk

@@ -1,5 +1,5 @@
 -- What a run keeps of its disk, item by item.
-use Rattle.std.proofs.Common.{◌≡◌, ℕ, ◌+◌, ◌≤◌, List, [], ◌∷◌, ◌++◌, length, Option, Some, None, refl, sym, ap, ◌∙◌, inl, inr, subst, arith}
+use Rattle.std.proofs.Common.{◌≡◌, ℕ, ◌+◌, ◌≤◌, List, [], ◌∷◌, ◌++◌, length, refl, sym, ap, ◌∙◌, inl, inr, subst, arith}
 use Rattle.std.proofs.lemmas.List.{length-append}
 use Rattle.zbase.specs.History.{History, IsHistory, IsPrefixOf}
 use Rattle.zbase.specs.HistoryLaws.{last_grows, prefix_refl, upto_prefix, upto_stays}
@@ -8,7 +8,7 @@ use Rattle.zdisk.specs.Crashes.{IsSynced, Piles}
 use Rattle.zdisk.specs.Disk.{Held, Told, content, synced}
 use Rattle.zdisk.specs.Images.{moment}
 use Rattle.schedule.specs.declared.line.Line.{Line}
-use Rattle.replay.specs.Handed.{Acknowledges, BeginsWith, HasMoments, HeldAt, OpenedAt, OpensToHistory, acknowledged, moments, restarted_at, with_line, with_restart}
+use Rattle.replay.specs.Handed.{Acknowledges, As_given, At_pack, At_restart, Beginning, BeginsWith, HasMoments, HeldAt, OpenedAt, OpensToHistory, acknowledged, begun_anew, begun_at, moments, with_line}
 
 pub held_piles : (more hs : List Held) (k : ℕ) (held : Held) → HeldAt hs k held → HeldAt (more ++ hs) k held
 held_piles [] hs k held h = h
@@ -46,25 +46,26 @@ acknowledged-append : (ts : List ℕ) (xs ys : List Line) → acknowledged ts (x
 acknowledged-append ts [] ys = refl
 acknowledged-append ts (x ∷ xs) ys = acknowledged-append (with_line ts x) xs ys
 
-restarted-append : (r : Option ℕ) (xs ys : List Line) → restarted_at r (xs ++ ys) ≡ restarted_at (restarted_at r xs) ys
-restarted-append r [] ys = refl
-restarted-append r (x ∷ xs) ys = restarted-append (with_restart r x) xs ys
+begun-append : (r : Beginning) (xs ys : List Line) → begun_at r (xs ++ ys) ≡ begun_at (begun_at r xs) ys
+begun-append r [] ys = refl
+begun-append r (x ∷ xs) ys = begun-append (begun_anew r x) xs ys
 
-begins_piles : (old new : Told) (given : List ℕ) (p h : History) (r : Option ℕ) → Piles old new → IsPrefixOf p h → IsHistory h → BeginsWith old given p r → BeginsWith new given h r
-begins_piles old new given p h None piles grows is b = subst (λ hs. HeldAt hs 0 (record { now = given; before = [] })) (sym piles.1) (held_piles piles.0 (moments old) 0 (record { now = given; before = [] }) b)
-begins_piles old new given p h (Some t) piles grows is b =
+begins_piles : (old new : Told) (given : List ℕ) (p h : History) (r : Beginning) → Piles old new → IsPrefixOf p h → IsHistory h → BeginsWith old given p r → BeginsWith new given h r
+begins_piles old new given p h As_given piles grows is b = subst (λ hs. HeldAt hs 0 (record { now = given; before = [] })) (sym piles.1) (held_piles piles.0 (moments old) 0 (record { now = given; before = [] }) b)
+begins_piles old new given p h (At_restart t) piles grows is b =
     let longer : last p ≤ last h = last_grows grows is in
     (omega (arith, b.0, longer), opened_piles old new 0 (upto h t) piles (subst (OpenedAt old 0) (sym (upto_stays t grows is b.0)) b.1))
+begins_piles old new given p h At_pack piles grows is b = tt
 
--- lines that neither acknowledge a commit nor tell of a restart
+-- lines that neither acknowledge a commit nor tell of a restart or a pack
 abbrev pub IsQuiet : List Line → Type 0
-IsQuiet lines = ((ts : List ℕ) → acknowledged ts lines ≡ ts) × ((r : Option ℕ) → restarted_at r lines ≡ r)
+IsQuiet lines = ((ts : List ℕ) → acknowledged ts lines ≡ ts) × ((r : Beginning) → begun_at r lines ≡ r)
 
 -- a step, and any item, whose lines are quiet
 pub keeps_on : (old new : Told) (given : List ℕ) (p h : History) (lines more : List Line) → Acknowledges old given p lines → Piles old new → IsPrefixOf p h → IsHistory h → IsQuiet more → Acknowledges new given h (lines ++ more)
 keeps_on old new given p h lines more all piles grows is quiet = record {
   commits = subst (HasMoments new h 0) (sym (acknowledged-append [] lines more ∙ quiet.0 (acknowledged [] lines))) (moments_pile old new h 0 (acknowledged [] lines) piles (moments_grow old p h 0 (acknowledged [] lines) grows is all.commits));
-  first = subst (BeginsWith new given h) (sym (restarted-append None lines more ∙ quiet.1 (restarted_at None lines))) (begins_piles old new given p h (restarted_at None lines) piles grows is all.first);
+  first = subst (BeginsWith new given h) (sym (begun-append As_given lines more ∙ quiet.1 (begun_at As_given lines))) (begins_piles old new given p h (begun_at As_given lines) piles grows is all.first);
 }
 
 -- a commit, whose finish left the disk synced and opening to the history with its transaction
@@ -75,7 +76,7 @@ keeps_commit old new given p h lines rest w t bytes all piles grows is quiet at 
     let with_it : HasMoments new h 0 (acknowledged [] lines ++ t ∷ []) = subst (λ k. HasMoments new h 0 (acknowledged [] lines ++ k ∷ [])) (sym at) (moments_commit new h 0 (acknowledged [] lines) is (omega arith) is_synced opens before) in
     record {
       commits = subst (HasMoments new h 0) (sym (acknowledged-append [] lines (Line.ReplyCommit w t bytes ∷ rest) ∙ quiet.0 (acknowledged [] lines ++ t ∷ []))) with_it;
-      first = subst (BeginsWith new given h) (sym (restarted-append None lines (Line.ReplyCommit w t bytes ∷ rest) ∙ quiet.1 (restarted_at None lines))) (begins_piles old new given p h (restarted_at None lines) piles grows is all.first);
+      first = subst (BeginsWith new given h) (sym (begun-append As_given lines (Line.ReplyCommit w t bytes ∷ rest) ∙ quiet.1 (begun_at As_given lines))) (begins_piles old new given p h (begun_at As_given lines) piles grows is all.first);
     }
 
 -- A restart: the disk is the one that the last stop left, whose one image opens to the history that the opening found.
@@ -85,5 +86,12 @@ keeps_restart image given new h lines stopped n is opens piles =
     let whole : OpenedAt new 0 (upto h (last h)) = subst (OpenedAt new 0) (sym (upto_prefix (prefix_refl h) is)) (opened_piles (synced image) new 0 h piles at_first) in
     record {
       commits = subst (HasMoments new h 0) (sym (acknowledged-append [] lines (stopped ++ Line.Restart (last h) n ∷ []) ∙ acknowledged-append (acknowledged [] lines) stopped (Line.Restart (last h) n ∷ []))) tt;
-      first = subst (BeginsWith new given h) (sym (restarted-append None lines (stopped ++ Line.Restart (last h) n ∷ []) ∙ restarted-append (restarted_at None lines) stopped (Line.Restart (last h) n ∷ []))) (omega arith, whole);
+      first = subst (BeginsWith new given h) (sym (begun-append As_given lines (stopped ++ Line.Restart (last h) n ∷ []) ∙ begun-append (begun_at As_given lines) stopped (Line.Restart (last h) n ∷ []))) (omega arith, whole);
     }
+
+-- A pack: the disk is another one, of which nothing is said yet.
+pub keeps_packed : (given : List ℕ) (new : Told) (h : History) (lines printed : List Line) (t n : ℕ) → Acknowledges new given h (lines ++ (printed ++ Line.Packed t n ∷ []))
+keeps_packed given new h lines printed t n = record {
+  commits = subst (HasMoments new h 0) (sym (acknowledged-append [] lines (printed ++ Line.Packed t n ∷ []) ∙ acknowledged-append (acknowledged [] lines) printed (Line.Packed t n ∷ []))) tt;
+  first = subst (BeginsWith new given h) (sym (begun-append As_given lines (printed ++ Line.Packed t n ∷ []) ∙ begun-append (begun_at As_given lines) printed (Line.Packed t n ∷ []))) tt;
+}

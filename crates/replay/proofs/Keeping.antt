@@ -119,13 +119,13 @@ denied_quiet w (Some d) = ((λ ts. refl), (λ r. refl))
 commit_quiet : (w : ℕ) (x : Reply) → IsQuiet (shown_lines w x)
 commit_quiet w x = subst IsQuiet (append-nil (shown_lines w x)) (shown_quiet w (by_oid x.shown) [] ((λ ts. refl), (λ r. refl)))
 
-tells_piles : (old new : Option Told) → TellsOn old new → PilesWhereTold old new
+pub tells_piles : (old new : Option Told) → TellsOn old new → PilesWhereTold old new
 tells_piles None None on told e = absurd cc
 tells_piles None (Some b) on told e = absurd on
 tells_piles (Some a) None on told e = absurd on
 tells_piles (Some a) (Some b) on told e = (let same : b ≡ told = cc in (a, refl, subst (Piles a) same on))
 
-acknowledges_on : (old new : Option Told) (given : List ℕ) (p h : History) (lines more : List Line) → AcknowledgesWhereTold old given p lines → PilesWhereTold old new → IsPrefixOf p h → IsHistory h → IsQuiet more → AcknowledgesWhereTold new given h (lines ++ more)
+pub acknowledges_on : (old new : Option Told) (given : List ℕ) (p h : History) (lines more : List Line) → AcknowledgesWhereTold old given p lines → PilesWhereTold old new → IsPrefixOf p h → IsHistory h → IsQuiet more → AcknowledgesWhereTold new given h (lines ++ more)
 acknowledges_on old new given p h lines more all piles grows is quiet = λ told at. (let was = piles told at in keeps_on was.0 told given p h lines more (all was.0 was.1) was.2 grows is quiet)
 
 -- behind the last item, once the store is settled
@@ -225,10 +225,10 @@ RunLaw R = (terms : Terms R) (h0 : History) (trace : List (Place R)) (end : Mome
 
 -- The headline: whatever may stand behind the core once the schedule is over, the report that closes with it is explained,
 -- stops and faults included, and ends in its history.
-pub kept_explained : {E R S : Type 0} (eval : Eval R) (terms : Terms R) (given : List ℕ) (h0 : History) (items : List Item2) (lines : List Line) (core : CoreView E R S) (now : ℕ) → RunLaw R → IsLawful terms.eval → IsHistory h0 → Kept eval terms given h0 items lines core now
+pub kept_ended : {E R S : Type 0} (eval : Eval R) (terms : Terms R) (given : List ℕ) (h0 : History) (items : List Item2) (lines : List Line) (core : CoreView E R S) (now : ℕ) → RunLaw R → IsLawful terms.eval → IsHistory h0 → Kept eval terms given h0 items lines core now
     → (may : StoreView) → Possible core.store may
-    → (e : Explained terms h0 items (Line.Head ∷ Line.Opened (last h0) (length h0.transactions) ∷ (lines ++ closing (moment_of eval may core.slots)))) × (e.end.standing ≡ may.history) × (lines_of e.trace ≡ lines)
-kept_explained {E} {R} {S} eval terms given h0 items lines core now law lawful history kept may possible =
+    → (e : Explained terms h0 items (Line.Head ∷ Line.Opened (last h0) (length h0.transactions) ∷ (lines ++ closing (moment_of eval may core.slots)))) × (e.end ≡ clocked (moment_of eval may core.slots) now) × (lines_of e.trace ≡ lines)
+kept_ended {E} {R} {S} eval terms given h0 items lines core now law lawful history kept may possible =
     let m : Moment R = moment_of eval may core.slots in
     let end : Moment R = clocked m now in
     let ran = kept.ran m (may, possible, refl) in
@@ -238,5 +238,12 @@ kept_explained {E} {R} {S} eval terms given h0 items lines core now law lawful h
     let grouped : lines ++ lost ++ behind ++ Line.End ∷ [] ≡ lines ++ (lost ++ behind ++ Line.End ∷ []) = append_assoc (lines ++ lost) behind (Line.End ∷ []) ∙ append_assoc lines lost (behind ++ Line.End ∷ []) ∙ ap (λ xs. lines ++ xs) (sym (append_assoc lost behind (Line.End ∷ []))) in
     let first : List Line → List Line = (λ xs. Line.Head ∷ Line.Opened (last h0) (length h0.transactions) ∷ xs) in
     let all : report h0 ran.trace end ≡ first (lines ++ closing m) = ap first (ap (λ xs. xs ++ lost ++ behind ++ Line.End ∷ []) ran.all_lines ∙ grouped) in
-    let Ends : List Item2 → List Line → Type 0 = (λ xs r. (e : Explained terms h0 xs r) × (e.end.standing ≡ may.history) × (lines_of e.trace ≡ lines)) in
-    subst (Ends items) all (subst (λ xs. Ends xs (report h0 ran.trace end)) ran.all_items (explained.0, ap (λ (k : Moment R). k.standing) explained.2, ap lines_of explained.1 ∙ ran.all_lines))
+    let Ends : List Item2 → List Line → Type 0 = (λ xs r. (e : Explained terms h0 xs r) × (e.end ≡ end) × (lines_of e.trace ≡ lines)) in
+    subst (Ends items) all (subst (λ xs. Ends xs (report h0 ran.trace end)) ran.all_items (explained.0, explained.2, ap lines_of explained.1 ∙ ran.all_lines))
+
+pub kept_explained : {E R S : Type 0} (eval : Eval R) (terms : Terms R) (given : List ℕ) (h0 : History) (items : List Item2) (lines : List Line) (core : CoreView E R S) (now : ℕ) → RunLaw R → IsLawful terms.eval → IsHistory h0 → Kept eval terms given h0 items lines core now
+    → (may : StoreView) → Possible core.store may
+    → (e : Explained terms h0 items (Line.Head ∷ Line.Opened (last h0) (length h0.transactions) ∷ (lines ++ closing (moment_of eval may core.slots)))) × (e.end.standing ≡ may.history) × (lines_of e.trace ≡ lines)
+kept_explained {E} {R} {S} eval terms given h0 items lines core now law lawful history kept may possible =
+    let e = kept_ended eval terms given h0 items lines core now law lawful history kept may possible in
+    (e.0, ap (λ (k : Moment R). k.standing) e.1, e.2)

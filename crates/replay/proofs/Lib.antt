@@ -14,6 +14,12 @@ pub mod Handing
 pub mod StepQueues
 pub mod RestartSteps
 pub mod Keeping
+pub mod PackKeeping
+pub mod PackItems
+mod PackMaking
+mod NoIdle
+mod RunAlone
+mod AloneReports
 pub mod RestartMarks
 pub mod Images
 pub mod Reopening

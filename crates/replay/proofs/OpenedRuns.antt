@@ -6,6 +6,7 @@ use Rattle.zdisk.specs.Disk.{Told}
 use Rattle.schedule.specs.declared.item.Item2.{Item2}
 use Rattle.fs_record.specs.declared.damage.Damage.{Damage as Kind}
 use Rattle.evaluator.specs.Exec.{Eval}
+use Rattle.packing.specs.Reachable.{Linking}
 use Rattle.fs_store.specs.Stores.{IsTold, StoreView}
 use Rattle.txn_core.specs.Cores.{CoreView, IsAtRest}
 use Rattle.replay.specs.declared.refusal.RunRefusal.{RunRefusal}
@@ -39,5 +40,5 @@ items_no_damage (RunRefusal.BadLine n) kind place of is = cc
 items_no_damage (RunRefusal.Damaged k p) kind place of is = absurd of
 
 -- what was due is what was written
-pub flushed_replays : {R : Type 0} {takes : List ℕ → Option R} {eval : Eval R} {limit : ℕ} {bytes : List ℕ} {items : List Item2} {disk : Option Told} {arms : Arms} (begun due old new : Option (List ℕ)) → begun ≡ old → new ≡ due → Replays takes eval limit bytes items disk arms begun due → Replays takes eval limit bytes items disk arms old new
-flushed_replays {R} {takes} {eval} {limit} {bytes} {items} {disk} {arms} begun due old new first end ran = flushed (λ o w. Replays takes eval limit bytes items disk arms o w) begun due old new first end ran
+pub flushed_replays : {R : Type 0} {takes : List ℕ → Option R} {eval : Eval R} {links : Linking} {limit : ℕ} {bytes : List ℕ} {items : List Item2} {disk : Option Told} {arms : Arms} (begun due old new : Option (List ℕ)) → begun ≡ old → new ≡ due → Replays takes eval links limit bytes items disk arms begun due → Replays takes eval links limit bytes items disk arms old new
+flushed_replays {R} {takes} {eval} {links} {limit} {bytes} {items} {disk} {arms} begun due old new first end ran = flushed (λ o w. Replays takes eval links limit bytes items disk arms o w) begun due old new first end ran

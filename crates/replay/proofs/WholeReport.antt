@@ -5,6 +5,7 @@ use Rattle.zbase.specs.Faults.{Arms}
 use Rattle.zbase.specs.History.{History, IsHistory}
 use Rattle.zdisk.specs.Disk.{Told}
 use Rattle.evaluator.specs.Exec.{Eval, IsLawful}
+use Rattle.packing.specs.Reachable.{Linking}
 use Rattle.schedule.specs.declared.item.Item2.{Item2}
 use Rattle.schedule.specs.declared.line.Line.{Line}
 use Rattle.schedule.specs.Courses.{lines_of}
@@ -24,11 +25,11 @@ use Rattle.replay.specs.Replayed.{Replays}
 use Rattle.replay.proofs.Keeping.{RunLaw, acknowledges_to, kept_explained}
 use Rattle.replay.proofs.PrintSteps.{prints_then}
 
-pub whole : {E R S : Type 0} (takes : List ℕ → Option R) (eval : Eval R) (limit end : ℕ) (given : List ℕ) (h0 : History) (items : List Item2) (lines : List Line) (core : CoreView E R S) (now : ℕ) (may : StoreView) (disk : Option Told) (arms : Arms) (old mid new : Option (List ℕ))
-    → RunLaw R → IsLawful eval → IsHistory h0 → OpensTo given h0 end → Kept eval (terms_of takes eval limit end) given h0 items lines core now → Possible core.store may → IsHistory may.history → HoldsFile disk may.history → TellsOn core.store.disk.told disk → arms.hits ≡ core.store.disk.counter.arms.hits
-    → Prints old mid (opening h0 ++ lines) → Prints mid new (closing (moment_of eval may core.slots)) → Replays takes eval limit given items disk arms old new
-whole {E} {R} {S} takes eval limit end given h0 items lines core now may disk arms old mid new law lawful history opens kept possible last holds tells hits so_far closed =
-    let e = kept_explained eval (terms_of takes eval limit end) given h0 items lines core now law lawful history kept may possible in
+pub whole : {E R S : Type 0} (takes : List ℕ → Option R) (eval : Eval R) (links : Linking) (limit end : ℕ) (given : List ℕ) (h0 : History) (items : List Item2) (lines : List Line) (core : CoreView E R S) (now : ℕ) (may : StoreView) (disk : Option Told) (arms : Arms) (old mid new : Option (List ℕ))
+    → RunLaw R → IsLawful eval → IsHistory h0 → OpensTo given h0 end → Kept eval (terms_of takes eval links limit end) given h0 items lines core now → Possible core.store may → IsHistory may.history → HoldsFile disk may.history → TellsOn core.store.disk.told disk → arms.hits ≡ core.store.disk.counter.arms.hits
+    → Prints old mid (opening h0 ++ lines) → Prints mid new (closing (moment_of eval may core.slots)) → Replays takes eval links limit given items disk arms old new
+whole {E} {R} {S} takes eval links limit end given h0 items lines core now may disk arms old mid new law lawful history opens kept possible last holds tells hits so_far closed =
+    let e = kept_explained eval (terms_of takes eval links limit end) given h0 items lines core now law lawful history kept may possible in
     let said : AcknowledgesWhereTold disk given may.history lines = acknowledges_to core.store.disk.told disk given core.store.history may.history lines kept.acknowledges tells (possible_grows core.store may possible) last in
     let first : arms.hits ≡ take (faults lines) (entries items) = hits ∙ entered_whole items lines core.store.disk.counter.arms kept.entered in
     record {

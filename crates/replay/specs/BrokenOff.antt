@@ -17,6 +17,7 @@ CannotRun terms m (Item2.Step w) = w < workers → ⊥
 CannotRun terms m (Item2.Clock t) = ⊥
 CannotRun terms m (Item2.Stop n seed) = 0 < n → ⊥
 CannotRun terms m (Item2.Fail n seed) = 0 < n → ⊥
+CannotRun terms m (Item2.Pack t) = ⊥
 CannotRun terms m Item2.End = Unit {0}
 
 -- The line with this number can't be run. The sink grew by a report that the schedule's items before it may have,

@@ -21,6 +21,13 @@ pub record Dumps (bytes : List ℕ) (old new : Option (List ℕ)) : Type 0 where
   pub opens : Cut bytes front end
   pub printed : Prints old new (dump_lines front.history)
 
+-- the bytes open to a history, by whose lines alone the sink grew
+pub record PutsHistory (bytes : List ℕ) (old new : Option (List ℕ)) : Type 0 where
+  pub front : Front
+  pub end : ℕ
+  pub opens : Cut bytes front end
+  pub printed : Prints old new (history_lines front.history)
+
 -- a refusal of a part, as one of the dump
 
 abbrev pub of_scan : ScanRefusal → DumpRefusal

@@ -1,5 +1,5 @@
 -- What the disk holds that a run hands back, by the lines of its report.
-use Rattle.std.specs.Prelude.{◌≡◌, ◌⊎◌, ℕ, ◌≤◌, List, [], ◌∷◌, ◌++◌, length, Option, Some, None}
+use Rattle.std.specs.Prelude.{◌≡◌, ◌⊎◌, ℕ, ◌≤◌, List, [], ◌∷◌, ◌++◌, length, Option, Some}
 use Rattle.zbase.specs.History.{History}
 use Rattle.zbase.specs.Values.{last, upto}
 use Rattle.zdisk.specs.Crashes.{IsSynced, Piles}
@@ -29,25 +29,34 @@ OpenedAt told k h = (held : Held) × HeldAt (moments told) k held × (held.befor
 
 -- ---- what a report acknowledges
 
--- a line acknowledges a commit; a restart begins anew
+-- a line acknowledges a commit; a restart begins anew, and so does a pack, with another disk
 abbrev pub with_line : List ℕ → Line → List ℕ
 with_line ts (Line.ReplyCommit w t bytes) = ts ++ t ∷ []
 with_line ts (Line.Restart t n) = []
+with_line ts (Line.Packed t n) = []
 with_line ts _ = ts
 
--- the transactions of the commit replies that no restart follows, in order, behind these
+-- the transactions of the commit replies that neither a restart nor a pack follows, in order, behind these
 abbrev pub acknowledged : List ℕ → List Line → List ℕ
 acknowledged ts [] = ts
 acknowledged ts (l ∷ ls) = acknowledged (with_line ts l) ls
 
-abbrev pub with_restart : Option ℕ → Line → Option ℕ
-with_restart r (Line.Restart t n) = Some t
-with_restart r _ = r
+-- Where a disk's moments begin: with the bytes that were given, with what a restart found, whose last transaction is this, or
+-- with what a pack wrote.
+pub data Beginning : Type 0 where
+  As_given : Beginning
+  At_restart : (t : ℕ) → Beginning
+  At_pack : Beginning
 
--- the last transaction that the last restart found, where there is one
-abbrev pub restarted_at : Option ℕ → List Line → Option ℕ
-restarted_at r [] = r
-restarted_at r (l ∷ ls) = restarted_at (with_restart r l) ls
+abbrev pub begun_anew : Beginning → Line → Beginning
+begun_anew b (Line.Restart t n) = At_restart t
+begun_anew b (Line.Packed t n) = At_pack
+begun_anew b _ = b
+
+-- behind these lines: by the last restart or pack, where there is one
+abbrev pub begun_at : Beginning → List Line → Beginning
+begun_at b [] = b
+begun_at b (l ∷ ls) = begun_at (begun_anew b l) ls
 
 -- for each of the transactions the disk has a moment at which its one image opened to the history up to it, and these
 -- moments come one after another
@@ -55,16 +64,18 @@ abbrev pub HasMoments : Told → History → ℕ → List ℕ → Type 0
 HasMoments told h from [] = Unit {0}
 HasMoments told h from (t ∷ ts) = (k : ℕ) × (from ≤ k) × (k ≤ moment told) × (t ≤ last h) × OpenedAt told k (upto h t) × HasMoments told h k ts
 
--- at its first moment the disk's one image was the file that was given, or opened to what the last restart found
-abbrev pub BeginsWith : Told → List ℕ → History → Option ℕ → Type 0
-BeginsWith told given h None = HeldAt (moments told) 0 (record { now = given; before = [] })
-BeginsWith told given h (Some t) = (t ≤ last h) × OpenedAt told 0 (upto h t)
+-- at its first moment the disk's one image was the file that was given, or opened to what the last restart found; of a disk to
+-- which a pack wrote nothing is said
+abbrev pub BeginsWith : Told → List ℕ → History → Beginning → Type 0
+BeginsWith told given h As_given = HeldAt (moments told) 0 (record { now = given; before = [] })
+BeginsWith told given h (At_restart t) = (t ≤ last h) × OpenedAt told 0 (upto h t)
+BeginsWith told given h At_pack = Unit {0}
 
 -- What a report says of the disk that is handed back, its lines being these and its last history this: each commit reply
--- that no restart follows has its moment, and the first moment is the given bytes or what the last restart found.
+-- that neither a restart nor a pack follows has its moment, and the first moment is the given bytes or what the last restart found.
 pub record Acknowledges (told : Told) (given : List ℕ) (h : History) (lines : List Line) : Type 0 where
   pub commits : HasMoments told h 0 (acknowledged [] lines)
-  pub first : BeginsWith told given h (restarted_at None lines)
+  pub first : BeginsWith told given h (begun_at As_given lines)
 
 -- the same where the disk tells
 abbrev pub AcknowledgesWhereTold : Option Told → List ℕ → History → List Line → Type 0

@@ -10,4 +10,7 @@ pub mod Held
 pub mod Handed
 pub mod Restarts
 pub mod Kept
+pub mod PackSteps
+pub mod Packs
+pub mod Serials
 pub mod Replayed

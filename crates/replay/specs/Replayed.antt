@@ -10,6 +10,7 @@ use Rattle.schedule.specs.Courses.{lines_of}
 use Rattle.schedule.specs.Entries.{entries, faults}
 use Rattle.schedule.specs.Explained.{Explained}
 use Rattle.evaluator.specs.Exec.{Eval}
+use Rattle.packing.specs.Reachable.{Linking}
 use Rattle.fs_store.specs.Moments.{OpensTo}
 use Rattle.fs_store.specs.Stores.{IsTold, StoreView}
 use Rattle.replay.specs.BrokenOff.{BrokenOff}
@@ -32,12 +33,12 @@ pub record Runs (bytes : List ℕ) (limit : ℕ) (s : StoreView) : Type 0 where
 -- The bytes open to a history, over which the schedule may have the report by which the sink grew; and the disk that comes
 -- back tells, and holds what the report says: a file of the history that it prints last, a moment of each commit that it
 -- acknowledges, and the entries that it shows as hit.
-pub record Replays {R : Type 0} (takes : List ℕ → Option R) (eval : Eval R) (limit : ℕ) (bytes : List ℕ) (items : List Item2) (disk : Option Told) (arms : Arms) (old new : Option (List ℕ)) : Type 0 where
+pub record Replays {R : Type 0} (takes : List ℕ → Option R) (eval : Eval R) (links : Linking) (limit : ℕ) (bytes : List ℕ) (items : List Item2) (disk : Option Told) (arms : Arms) (old new : Option (List ℕ)) : Type 0 where
   pub history : History
   pub end : ℕ
   pub opens : OpensTo bytes history end
   pub report : List Line
-  pub explained : Explained (terms_of takes eval limit end) history items report
+  pub explained : Explained (terms_of takes eval links limit end) history items report
   pub printed : Prints old new report
   pub told : IsSome disk
   pub holds : HoldsFile disk explained.end.standing
@@ -49,8 +50,8 @@ abbrev pub AreOpened : List ℕ → Type 0
 AreOpened bytes = (history : History) × (end : ℕ) × OpensTo bytes history end
 
 -- the bytes open to a history, over which the run was broken off at the line of that number
-pub record Breaks {R : Type 0} (takes : List ℕ → Option R) (eval : Eval R) (limit : ℕ) (bytes : List ℕ) (items : List Item2) (n : ℕ) (old new : Option (List ℕ)) : Type 0 where
+pub record Breaks {R : Type 0} (takes : List ℕ → Option R) (eval : Eval R) (links : Linking) (limit : ℕ) (bytes : List ℕ) (items : List Item2) (n : ℕ) (old new : Option (List ℕ)) : Type 0 where
   pub history : History
   pub end : ℕ
   pub opens : OpensTo bytes history end
-  pub broken : BrokenOff (terms_of takes eval limit end) history items n old new
+  pub broken : BrokenOff (terms_of takes eval links limit end) history items n old new

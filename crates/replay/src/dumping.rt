@@ -4,7 +4,7 @@ ghost use Rattle.zio.specs.Sinks.{due};
 ghost use Rattle.zdisk.specs.Disk.{content};
 ghost use Rattle.fs_record.specs.declared.damage.Damage.{Damage as Kind};
 ghost use Rattle.fs_record.specs.Opening.{Damaged};
-ghost use Rattle.replay.specs.Dumped.{Dumps, of_scan, of_sink};
+ghost use Rattle.replay.specs.Dumped.{Dumps, PutsHistory, of_scan, of_sink};
 
 use crate::history_out::{put_heading, put_transaction};
 use crate::printing::put_line;
@@ -52,16 +52,17 @@ impl From<OutsideRefusal> for DumpRefusal {
     }
 }
 
-/// Writes the history to which a disk's file opens, with all of its values, as a report does; what is pending at its end
-/// is still to be flushed. A file with damage is refused before anything is written or pending. Behind the scan it goes over
+/// Writes the history to which a disk's file opens, with all of its values, as a report prints it; what is pending at its
+/// end is still to be flushed. A file with damage is refused before anything is written or pending. Behind the scan it goes over
 /// the file once, and judges nothing again. It holds one transaction at a time, and changes nothing.
-pub fn dump<D: Disk, K: Sink>(
+pub(crate) fn put_history<D: Disk, K: Sink>(
     alloc: Global,
     disk: &mut D,
     held: &mut Pending,
     out: &mut K,
 ) -> Result<(), DumpRefusal>
-    ensures ok { OnOk result (IfSome (D.told disk.old) (λ told. Dumps (content told) (due (K.written out.old) held.old) (due (K.written out.new) held.new))) }
+    ensures ok { OnOk result (IfSome (D.told disk.old)
+        (λ told. PutsHistory (content told) (due (K.written out.old) held.old) (due (K.written out.new) held.new))) }
     ensures damaged { (kind : Kind) (place : ℕ) → IsErrOf result (DumpRefusal.Damaged kind place)
         → IfSome (D.told disk.old) (λ told. Damaged (content told) place kind × ((K.written out.new ≡ K.written out.old) × (held.new ≡ held.old))) }
     ensures same { D.told disk.new ≡ D.told disk.old }
@@ -79,10 +80,25 @@ pub fn dump<D: Disk, K: Sink>(
     'each: loop {
         match walk.next(disk)? {
             Some(whole) => put_transaction(alloc, &whole, held, out)?,
-            None => {
-                put_line(alloc, &Line::End, held, out)?;
-                return Ok(());
-            }
+            None => return Ok(()),
         }
     }
+}
+
+/// Writes the history to which a disk's file opens, and a report's last line behind it.
+pub fn dump<D: Disk, K: Sink>(
+    alloc: Global,
+    disk: &mut D,
+    held: &mut Pending,
+    out: &mut K,
+) -> Result<(), DumpRefusal>
+    ensures ok { OnOk result (IfSome (D.told disk.old) (λ told. Dumps (content told) (due (K.written out.old) held.old) (due (K.written out.new) held.new))) }
+    ensures damaged { (kind : Kind) (place : ℕ) → IsErrOf result (DumpRefusal.Damaged kind place)
+        → IfSome (D.told disk.old) (λ told. Damaged (content told) place kind × ((K.written out.new ≡ K.written out.old) × (held.new ≡ held.old))) }
+    ensures same { D.told disk.new ≡ D.told disk.old }
+    ensures disk { Counts (D.counter disk.old) (D.counter disk.new) (IsErrOf result DumpRefusal.Disk) }
+    ensures sink { Counts (K.counter out.old) (K.counter out.new) (IsErrOf result DumpRefusal.Output) }
+{
+    put_history(alloc, disk, held, out)?;
+    Ok(put_line(alloc, &Line::End, held, out)?)
 }

@@ -9,18 +9,21 @@
 //! `dump` writes the history of a file, as a report does at its end.
 #![tactic(auto)]
 
+mod alone;
 mod dumping;
 mod ending;
 mod history_out;
 mod item;
 mod laws;
 mod losing;
+mod pack;
 mod printing;
 mod refusal;
 mod restarting;
 mod running;
 mod second_walk;
 
+pub use alone::serial;
 pub use dumping::{DumpRefusal, dump};
 pub use laws::replayed_requests_keep_pace;
 pub use refusal::RunRefusal;

@@ -1,4 +1,4 @@
-ghost use Rattle.std.specs.Prelude.{◌≡◌, ◌<◌, ◌≤◌, ◌∷◌, ℕ, List, [], None, false, true, IfErr, IfOk, IsErrOf, OnOk, length, map, slice_set};
+ghost use Rattle.std.specs.Prelude.{◌≡◌, ◌<◌, ◌≤◌, ◌∷◌, ℕ, List, [], None, false, true, IfErr, IfOk, IfSome, IsErrOf, OnOk, length, map};
 ghost use Rattle.zbase.specs.Faults.{Counts};
 ghost use Rattle.zbase.specs.History.{History};
 ghost use Rattle.zbase.specs.Values.{last};
@@ -8,7 +8,7 @@ ghost use Rattle.schedule.specs.Openings.{OpeningsOf};
 ghost use Rattle.schedule.specs.Stepping.{Opening, opening_line};
 ghost use Rattle.fs_store.specs.Stores.{IsTold, most_length};
 ghost use Rattle.txn_core.specs.Cores.{is_taken};
-ghost use Rattle.replay.specs.Losing.{lost_marks};
+ghost use Rattle.replay.specs.Losing.{lost_marks, with_worker};
 ghost use Rattle.replay.specs.Printed.{Prints};
 ghost use Rattle.replay.specs.Refusals.{IsOfPrinting};
 ghost use Rattle.replay.specs.Restarts.{GoesOnBy, OpensAnew, Restarts, restart_lines};
@@ -99,29 +99,41 @@ fn put_restart<K: Sink>(
     put_line(alloc, &Line::Restart(store.last(), store.len()), held, out)
 }
 
-/// Makes a core anew after a stop in a step of that worker: what the stop left of the disk is opened, no worker has a
+// Which requests a stop cut off: those that are left, and that of the worker whose step it was.
+fn cut_off(left: [bool; WORKERS], worker: Option<u32>) -> [bool; WORKERS]
+    requires { IfSome worker (λ w. w < WORKERS) }
+    ensures { result ≡ with_worker left worker }
+{
+    let mut marks = left;
+    if let Some(worker) = worker {
+        marks[worker as usize] = true;
+    }
+    marks
+}
+
+/// Makes a core anew after a stop, in a step of that worker or in a pack: what the stop left of the disk is opened, no worker has a
 /// request any more, and the lines of that are written.
 pub(crate) fn restart<E: Evaluator, K: Sink>(
     alloc: Global,
     core: Core<MemoryDisk, E>,
     limit: u64,
-    worker: u32,
+    worker: Option<u32>,
     held: &mut Pending,
     out: &mut K,
 ) -> Result<Core<MemoryDisk, E>, RunRefusal>
     requires stopped { core.store.disk.counter.arms.stopped ≡ true }
     requires told { IsTold core.store }
     requires limit { (limit ≡ core.store.limit) × (limit ≤ most_length) }
-    requires worker { worker < WORKERS }
+    requires worker { IfSome worker (λ w. w < WORKERS) }
     ensures restarted { IfOk result (λ new. (openings : List Opening) × Restarts E.meaning core new openings
         × Prints (due (K.written out.old) held.old) (due (K.written out.new) held.new)
-        (restart_lines (lost_marks (slice_set (map is_taken core.slots) worker true)) openings new.store.history)) }
+        (restart_lines (lost_marks (with_worker (map is_taken core.slots) worker)) openings new.store.history)) }
     ensures refused { IfErr result IsOfPrinting }
     ensures counts { Counts (K.counter out.old) (K.counter out.new) (IsErrOf result RunRefusal.Output) }
 {
-    let (disk, evaluator, mut lost) = core.lose();
+    let (disk, evaluator, left) = core.lose();
     // The step that was cut off had a request, which isn't printed as anything but lost.
-    lost[worker as usize] = true;
+    let lost = cut_off(left, worker);
     put_line(alloc, &Line::Stop, held, out)?;
     put_lost(alloc, lost.as_slice(), held, out)?;
     let store = reopen(alloc, disk.after_stop(), limit, held, out)?;

@@ -1,4 +1,4 @@
-ghost use Rattle.std.specs.Prelude.{◌≡◌, ◌++◌, ◌≤◌, ℕ, List, None, false, IfOk, IfErr, OnOk, IsErrOf, length};
+ghost use Rattle.std.specs.Prelude.{◌≡◌, ◌++◌, ◌≤◌, ℕ, List, false, IfOk, IfErr, OnOk, IsErrOf, length};
 ghost use Rattle.zbase.specs.Faults.{Counts};
 ghost use Rattle.fs_record.specs.declared.damage.Damage.{Damage as Kind};
 ghost use Rattle.fs_record.specs.Opening.{Damaged};
@@ -17,6 +17,7 @@ use crate::printing::put_line;
 use crate::refusal::RunRefusal;
 use evaluator::Evaluator;
 use fs_store::{OpenRefusal, Store};
+use packing::Links;
 use schedule::{Item2, Line, Schedule, runs_are_serial};
 use std::alloc::Global;
 use txn_core::Core;
@@ -24,8 +25,12 @@ use zbase::{Bytes, Tid};
 use zdisk::{Disk, MemoryDisk};
 use zio::{OutsideRefusal, Pending, Sink};
 
-// The store of the history to which the bytes open, on a disk in memory on which nothing is armed.
-fn open_bytes(alloc: Global, bytes: Bytes, limit: u64) -> Result<Store<MemoryDisk>, RunRefusal>
+/// The store of the history to which the bytes open, on a disk in memory on which nothing is armed.
+pub(crate) fn open_bytes(
+    alloc: Global,
+    bytes: Bytes,
+    limit: u64,
+) -> Result<Store<MemoryDisk>, RunRefusal>
     requires limit { limit ≤ most_length }
     requires size { length bytes ≤ most_length }
     ensures opened { IfOk result (Runs bytes limit) }
@@ -43,8 +48,8 @@ fn open_bytes(alloc: Global, bytes: Bytes, limit: u64) -> Result<Store<MemoryDis
     }
 }
 
-// Writes what opens a report.
-fn put_opening<K: Sink>(
+/// Writes what opens a report.
+pub(crate) fn put_opening<K: Sink>(
     alloc: Global,
     store: &Store<MemoryDisk>,
     held: &mut Pending,
@@ -60,11 +65,12 @@ fn put_opening<K: Sink>(
 }
 
 // Runs the items from the first on, behind what opens a report.
-fn run_items<E: Evaluator, K: Sink>(
+fn run_items<E: Evaluator, L: Links, K: Sink>(
     alloc: Global,
     core: Core<MemoryDisk, E>,
     limit: u64,
     items: &[Item2],
+    links: &L,
     held: &mut Pending,
     out: &mut K,
 ) -> Result<Core<MemoryDisk, E>, RunRefusal>
@@ -73,10 +79,10 @@ fn run_items<E: Evaluator, K: Sink>(
     requires opened { (given : List ℕ) × IsOpened E.meaning given core }
     ensures ran { IfOk result (λ new. (given : List ℕ) → IsOpened E.meaning given core
         → (now : ℕ) × (lines : List Line) × Kept E.meaning
-        (terms_of E.takes E.meaning limit core.store.end) given core.store.history items.now lines new now
+        (terms_of E.takes E.meaning L.linked limit core.store.end) given core.store.history items.now lines new now
         × Prints (due (K.written out.old) held.old) (due (K.written out.new) held.new) (opening core.store.history ++ lines)) }
     ensures bad_line { (n : ℕ) → IsErrOf result (RunRefusal.BadLine n)
-        → BrokenOff (terms_of E.takes E.meaning limit core.store.end) core.store.history items.now n (due (K.written out.old) held.old)
+        → BrokenOff (terms_of E.takes E.meaning L.linked limit core.store.end) core.store.history items.now n (due (K.written out.old) held.old)
         (due (K.written out.new) held.new) }
     ensures refused { IfErr result IsOfItems }
     ensures counts { Counts (K.counter out.old) (K.counter out.new) (IsErrOf result RunRefusal.Output) }
@@ -95,7 +101,7 @@ fn run_items<E: Evaluator, K: Sink>(
     };
     let mut number: u64 = 2;
     for item in items {
-        run = run_item(alloc, run, number, item, held, out)?;
+        run = run_item(alloc, run, number, item, links, held, out)?;
         number = number.saturating_add(1);
     }
     let Run {
@@ -107,22 +113,23 @@ fn run_items<E: Evaluator, K: Sink>(
 }
 
 // Runs a schedule over the store of some bytes and closes the report. What is pending at the end is still to be flushed.
-fn run_over<E: Evaluator, K: Sink>(
+fn run_over<E: Evaluator, L: Links, K: Sink>(
     alloc: Global,
     store: Store<MemoryDisk>,
     limit: u64,
     items: &[Item2],
     evaluator: E,
+    links: &L,
     held: &mut Pending,
     out: &mut K,
 ) -> Result<MemoryDisk, RunRefusal>
     requires limit { limit ≤ most_length }
     requires opened { (bytes : List ℕ) × Runs bytes limit store }
     ensures replays { IfOk result (λ disk. (bytes : List ℕ) → Runs bytes limit store
-        → Replays E.takes E.meaning limit bytes items.now (⟦<MemoryDisk as Disk>⟧.told disk) (⟦<MemoryDisk as Disk>⟧.counter disk).arms
+        → Replays E.takes E.meaning L.linked limit bytes items.now (⟦<MemoryDisk as Disk>⟧.told disk) (⟦<MemoryDisk as Disk>⟧.counter disk).arms
         (due (K.written out.old) held.old) (due (K.written out.new) held.new)) }
     ensures bad_line { (n : ℕ) → IsErrOf result (RunRefusal.BadLine n) → (bytes : List ℕ) → Runs bytes limit store
-        → Breaks E.takes E.meaning limit bytes items.now n (due (K.written out.old) held.old) (due (K.written out.new) held.new) }
+        → Breaks E.takes E.meaning L.linked limit bytes items.now n (due (K.written out.old) held.old) (due (K.written out.new) held.new) }
     ensures refused { IfErr result IsOfItems }
     ensures counts { Counts (K.counter out.old) (K.counter out.new) (IsErrOf result RunRefusal.Output) }
 {
@@ -131,7 +138,7 @@ fn run_over<E: Evaluator, K: Sink>(
     let Ok(core) = Core::new(alloc, store, evaluator) else {
         return Err(RunRefusal::Memory);
     };
-    let core = run_items(alloc, core, limit, items, held, out)?;
+    let core = run_items(alloc, core, limit, items, links, held, out)?;
     end_run(alloc, core, held, out)
 }
 
@@ -142,22 +149,23 @@ fn run_over<E: Evaluator, K: Sink>(
 ///
 /// The report is one that the schedule may have over the history to which the bytes open. Where an item can't be run, the items
 /// before it are run and printed.
-pub fn replay<E: Evaluator, K: Sink>(
+pub fn replay<E: Evaluator, L: Links, K: Sink>(
     alloc: Global,
     bytes: Bytes,
     limit: u64,
     schedule: &Schedule,
     evaluator: E,
+    links: &L,
     out: &mut K,
 ) -> Result<MemoryDisk, RunRefusal>
     requires limit { limit ≤ most_length }
     requires size { length bytes ≤ most_length }
-    ensures replays { IfOk result (λ disk. Replays E.takes E.meaning limit bytes schedule.now (⟦<MemoryDisk as Disk>⟧.told disk)
+    ensures replays { IfOk result (λ disk. Replays E.takes E.meaning L.linked limit bytes schedule.now (⟦<MemoryDisk as Disk>⟧.told disk)
         (⟦<MemoryDisk as Disk>⟧.counter disk).arms (K.written out.old) (K.written out.new)) }
     ensures damaged { (kind : Kind) (place : ℕ) → IsErrOf result (RunRefusal.Damaged kind place)
         → Damaged bytes place kind × (K.written out.new ≡ K.written out.old) }
     ensures bad_line { (n : ℕ) → IsErrOf result (RunRefusal.BadLine n)
-        → Breaks E.takes E.meaning limit bytes schedule.now n (K.written out.old) (K.written out.new) }
+        → Breaks E.takes E.meaning L.linked limit bytes schedule.now n (K.written out.old) (K.written out.new) }
     ensures output { IsErrOf result RunRefusal.Output → AreOpened bytes }
     ensures counts { Counts (K.counter out.old) (K.counter out.new) (IsErrOf result RunRefusal.Output) }
 {
@@ -166,7 +174,7 @@ pub fn replay<E: Evaluator, K: Sink>(
         return Err(RunRefusal::Memory);
     };
     let items = schedule.as_slice();
-    match run_over(alloc, store, limit, items, evaluator, &mut held, out) {
+    match run_over(alloc, store, limit, items, evaluator, links, &mut held, out) {
         Ok(disk) => {
             held.flush(out)?;
             Ok(disk)

@@ -14,6 +14,6 @@ pub returns-clause-given : goal.returns-clause-given
 returns-clause-given g c =
     let takes : g.E.Evaluator.takes c.args.bytes.now ≡ Some c.in-Some.request = ap g.E.Evaluator.takes (sym c.as_slice.ensures) ∙ sym c.in_ok-request.ensures ∙ c.in-Some.is in
     elim c.match-give.branch [
-      | in-Ok w ↦ rw w.result-is (λ yes now limit end. w.in-Ok.ensures.given (terms_of g.E.Evaluator.takes g.E.Evaluator.meaning limit end) now c.args.bytes.now takes)
+      | in-Ok w ↦ rw w.result-is (λ yes links now limit end. w.in-Ok.ensures.given (terms_of g.E.Evaluator.takes g.E.Evaluator.meaning links limit end) now c.args.bytes.now takes)
       | in-Err w ↦ rw w.result-is (λ yes. absurd cc)
     ]

@@ -13,7 +13,7 @@ returns-then-stopped-clause-ok g c =
     let old = c.args.run.core in
     let mid = c.step-line.new.self in
     let r = c.in_ok-core.ensures.restarted in
-    stopped_goes_on g.E.Evaluator.takes g.E.Evaluator.meaning c.args.run.limit c.args.worker c.args.run.clock old mid c.in_ok-core.core c.step-line.result r.0 _ _ c.requires.limit.0 c.step-line.ensures.step c.step-line.ensures.counts c.stopped-running.ensures.calm
+    λ links. stopped_goes_on g.E.Evaluator.takes g.E.Evaluator.meaning links c.args.run.limit c.args.worker c.args.run.clock old mid c.in_ok-core.core c.step-line.result r.0 _ _ c.requires.limit.0 c.step-line.ensures.step c.step-line.ensures.counts c.stopped-running.ensures.calm
     (sym c.stopped.ensures.value ∙ c.if-stopped.true) c.step-line.ensures.left (c.is_sound-2.ensures.workers ∙ sym c.is_sound.ensures.workers) c.step-line.ensures.others r.1 r.2
 
 pub returns-in-Ok-clause-ok : goal.returns-in-Ok-clause-ok
@@ -21,7 +21,7 @@ returns-in-Ok-clause-ok g c =
     let old = c.args.run.core in
     let new = c.step-line.new.self in
     let sound = rw c.store.ensures at c.is_sound-3.ensures in
-    step_goes_on g.E.Evaluator.takes g.E.Evaluator.meaning c.args.run.limit c.args.worker c.args.run.clock old new c.step-line.result _ _ c.requires.limit.0 c.step-line.ensures.step
+    λ links. step_goes_on g.E.Evaluator.takes g.E.Evaluator.meaning links c.args.run.limit c.args.worker c.args.run.clock old new c.step-line.result _ _ c.requires.limit.0 c.step-line.ensures.step
     c.step-line.ensures.tells c.step-line.ensures.counts c.stopped-running.ensures.calm c.step-line.ensures.twice c.stopped.ensures.waits (sym c.stopped.ensures.value ∙ c.if-stopped.false) sound.history (λ commit. holds_told new.store (sound.image (c.step-line.ensures.fresh commit))) c.in-Ok.ensures.ok
 
 pub restart-requires-clause-told : goal.restart-requires-clause-told

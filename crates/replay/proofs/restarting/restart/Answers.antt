@@ -49,7 +49,7 @@ returns-in-Ok-clause-restarted g c =
     let openings = c.in_ok-store.ensures.opened in
     let lost = lost_arms core.store.disk.counter _ is_left.fault c.requires.stopped is_left.counts in
     let opened = subst (λ a. OpeningsOf a openings.0 store.disk.counter.arms) (ap (λ k. k.arms) c.after_stop.ensures.counter ∙ lost.1) openings.1 in
-    let marks = rw (c.as_slice.ensures, c.lose-disk.ensures.taken) at c.in_ok-put_lost.ensures.ok in (
+    let marks = rw (c.as_slice.ensures, c.cut_off-lost.ensures, c.lose-disk.ensures.taken) at c.in_ok-put_lost.ensures.ok in (
       openings.0,
       restarts g.E.Evaluator.meaning core c.in-Ok.core store openings.0 _ left c.in-Ok.ensures.store c.in-Ok.ensures.rest c.in_ok-store.ensures.running fresh.3 (c.is_sound.ensures.undecided fresh.1) (c.is_sound.ensures.history fresh.3) (fresh.2 ∙ c.requires.limit.0) opened found,
       restart_prints _ _ _ _ _ _ openings.0 store.history c.in-Ok.core.store.history _ _ (ap (λ s. s.history) c.in-Ok.ensures.store) refl refl c.in_ok-put_line.ensures.ok marks openings.2 c.in_ok-put_restart.ensures.ok,
@@ -67,3 +67,6 @@ pub returns-in_err-put_restart-clause-refused : goal.returns-in_err-put_restart-
 returns-in_err-put_restart-clause-refused g c =
     let p = err_from_is_err_and c.from_residual-in_err-put_restart.result c.from_residual-in_err-put_restart.ensures.1 in
     subst (λ r. IfErr r IsOfPrinting) (sym p.1) (of_printing _ c.in_err-put_restart.field-0.0 p.2)
+
+pub after_stop-requires : goal.after_stop-requires
+after_stop-requires g c = record { stopped = (lost_arms c.args.core.store.disk.counter _ c.lose-disk.ensures.left.fault c.requires.stopped c.lose-disk.ensures.left.counts).0 }

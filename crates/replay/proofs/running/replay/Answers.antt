@@ -9,5 +9,5 @@ returns-in-Ok-run_over-clause-replays g c =
     flushed_replays _ _ _ _ (none_due _ _ c.in-Ok.ensures) c.in_ok-flush-in-Ok-run_over.ensures.ok.1 ran
 
 pub returns-in-Err-BadLine-clause-bad_line : goal.returns-in-Err-BadLine-clause-bad_line
-returns-in-Err-BadLine-clause-bad_line g c n is = flushed (λ o w. Breaks g.E.Evaluator.takes g.E.Evaluator.meaning c.args.limit c.args.bytes c.args.schedule.now n o w) _ _ _ _ (none_due _ _ c.in-Ok.ensures) c.in_ok-flush-in-Err-BadLine.ensures.ok.1
+returns-in-Err-BadLine-clause-bad_line g c n is = flushed (λ o w. Breaks g.E.Evaluator.takes g.E.Evaluator.meaning g.L.Links.linked c.args.limit c.args.bytes c.args.schedule.now n o w) _ _ _ _ (none_due _ _ c.in-Ok.ensures) c.in_ok-flush-in-Err-BadLine.ensures.ok.1
     (rw c.as_slice-items.ensures at (c.in-Err-BadLine.ensures.bad_line n (rw c.in-Err-BadLine.field-0-is is) c.args.bytes c.in_ok-store.ensures.opened))

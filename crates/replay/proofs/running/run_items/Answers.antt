@@ -21,7 +21,7 @@ pub loop-item-init : goal.loop-item-init
 loop-item-init g c = record {
   told = c.requires.opened.1.told;
   limit = (refl, sym c.requires.limit.0);
-  ran = λ given is. ([], kept_first g.E.Evaluator.meaning (terms_of g.E.Evaluator.takes g.E.Evaluator.meaning c.args.limit c.args.core.store.end) given c.args.core is refl, rw c.store-2.ensures at c.in-Ok.ensures.ok);
+  ran = λ given is. ([], kept_first g.E.Evaluator.meaning (terms_of g.E.Evaluator.takes g.E.Evaluator.meaning g.L.Links.linked c.args.limit c.args.core.store.end) given c.args.core is refl, rw c.store-2.ensures at c.in-Ok.ensures.ok);
   number = refl;
   counts = counts_as c.in-Ok.ensures.counts (λ e. cc) (λ none. absurd none);
 }
@@ -32,7 +32,7 @@ loop-item-preserved g c =
     let items = c.args.items.now in
     let i = c.loop-item.item-index in
     let item = c.item-item.result in
-    let terms = terms_of g.E.Evaluator.takes g.E.Evaluator.meaning c.args.limit first.store.end in
+    let terms = terms_of g.E.Evaluator.takes g.E.Evaluator.meaning g.L.Links.linked c.args.limit first.store.end in
     let more : take i items ++ item ∷ [] ≡ take (i + 1) items = sym (take_more items i item c.loop-item-test.true ∙ ap (λ x. take i items ++ x ∷ []) (sym c.item-item.is)) in
     let opened = c.requires.opened in
     let before = c.loop-item.invariant.ran opened.0 opened.1 in
@@ -56,7 +56,7 @@ pub returns-in_err-run-clause-bad_line : goal.returns-in_err-run-clause-bad_line
 returns-in_err-run-clause-bad_line g c n is =
     let p = err_from_is_err_and c.from_residual.result c.from_residual.ensures.1 in
     let first = c.args.core in
-    let terms = terms_of g.E.Evaluator.takes g.E.Evaluator.meaning c.args.limit first.store.end in
+    let terms = terms_of g.E.Evaluator.takes g.E.Evaluator.meaning g.L.Links.linked c.args.limit first.store.end in
     let opened = c.requires.opened in
     let ran = c.loop-item.invariant.ran opened.0 opened.1 in
     let bad = rw c.loop-item.invariant.limit.0 at (c.in_err-run.ensures.bad_line n first.store.end (handed_line _ c.in_err-run.field-0.0 c.from_residual.result n p.1 p.2 is)) in
@@ -76,3 +76,6 @@ returns-clause-ran g c = λ given is.
 
 pub returns-clause-counts : goal.returns-clause-counts
 returns-clause-counts g c = counts_as c.loop-item.invariant.counts (λ none. absurd none) (λ e. cc)
+
+pub run_item-requires-clause-running : goal.run_item-requires-clause-running
+run_item-requires-clause-running g c = (c.loop-item.invariant.ran c.requires.opened.0 c.requires.opened.1).1.running

@@ -12,7 +12,7 @@ abbrev pub invariant-loop-item : goal.invariant-loop-item
 invariant-loop-item g l = record {
   told : IsTold l.run.core.store;
   limit : (l.run.limit ≡ l.limit) × (l.run.core.store.limit ≡ l.limit);
-  ran : (given : List ℕ) → IsOpened g.E.Evaluator.meaning given l.fn.core → (lines : List Line) × Kept g.E.Evaluator.meaning (terms_of g.E.Evaluator.takes g.E.Evaluator.meaning l.limit l.fn.core.store.end) given l.fn.core.store.history (take l.item-index l.items) lines l.run.core l.run.clock × Prints (due (g.K.Sink.written l.fn.out) l.fn.held) (due (g.K.Sink.written l.out) l.held) (opening l.fn.core.store.history ++ lines);
+  ran : (given : List ℕ) → IsOpened g.E.Evaluator.meaning given l.fn.core → (lines : List Line) × Kept g.E.Evaluator.meaning (terms_of g.E.Evaluator.takes g.E.Evaluator.meaning g.L.Links.linked l.limit l.fn.core.store.end) given l.fn.core.store.history (take l.item-index l.items) lines l.run.core l.run.clock × Prints (due (g.K.Sink.written l.fn.out) l.fn.held) (due (g.K.Sink.written l.out) l.held) (opening l.fn.core.store.history ++ lines);
   number : l.number ≡ l.item-index + 2;
   counts : Counts (g.K.Sink.counter l.fn.out) (g.K.Sink.counter l.out) ⊥;
 }

@@ -24,7 +24,7 @@ returns-clause-replays g c =
     (λ disk closed tells hits bytes runs.
     let opened = core_opened g.E.Evaluator.meaning bytes c.args.limit c.args.store first runs (c.is_sound.ensures.undecided runs.fresh) c.in-Ok.ensures.store c.in-Ok.ensures.rest in
     let ran = c.in_ok-core.ensures.ran bytes opened in
-    whole g.E.Evaluator.takes g.E.Evaluator.meaning c.args.limit first.store.end bytes first.store.history c.args.items.now ran.1 c.in_ok-core.core ran.0 closed.0 _ _ _ _ _
+    whole g.E.Evaluator.takes g.E.Evaluator.meaning g.L.Links.linked c.args.limit first.store.end bytes first.store.history c.args.items.now ran.1 c.in_ok-core.core ran.0 closed.0 _ _ _ _ _
     c.runs_are_serial.ensures g.met.E.Evaluator.lawful (subst (λ (s : StoreView). IsHistory s.history) (sym c.in-Ok.ensures.store) (c.is_sound.ensures.history runs.told)) (subst (λ (s : StoreView). OpensTo bytes s.history s.end) (sym c.in-Ok.ensures.store) runs.opens)
     ran.2 closed.1 closed.2 closed.3 tells hits ran.3 closed.4)
     c.end_run.ensures.closed c.end_run.ensures.tells c.end_run.ensures.hits

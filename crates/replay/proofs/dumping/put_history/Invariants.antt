@@ -3,7 +3,7 @@ use Rattle.zio.specs.Sinks.{due}
 use Rattle.zbase.specs.Faults.{Counts}
 use Rattle.zdisk.specs.Disk.{content}
 use Rattle.replay.proofs.DumpSteps.{Printed}
-use Rattle.replay.proofs.dumping.dump.Given as goal
+use Rattle.replay.proofs.dumping.put_history.Given as goal
 
 -- the history's head and the transactions so far are printed, and no fault came
 abbrev pub invariant-each : goal.invariant-each
