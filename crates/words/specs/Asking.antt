@@ -51,6 +51,8 @@ pub data Asked : Type 0 where
   Backup : (file repo : Text) → (full : Bool) → Asked
   Restore : (repo out : Text) → Asked
   Pack : (file : Text) → (before : ℕ) → Asked
+  Serial : (file : Text) → (limit : ℕ) → Asked
+  Gen : (number : ℕ) → Asked
 
 abbrev pub init_of : List Row → Option Asked
 init_of rows = option_and_then (λ file. option_and_then (λ name. option_map (λ password. Init file name password)
@@ -66,6 +68,9 @@ limit_of rows = limit_in (first_of (codes "limit") rows)
 
 abbrev pub replay_of : List Row → Option Asked
 replay_of rows = option_and_then (λ file. option_map (Replay file) (limit_of rows)) (first_of (codes "FILE") rows)
+
+abbrev pub serial_of : List Row → Option Asked
+serial_of rows = option_and_then (λ file. option_map (Serial file) (limit_of rows)) (first_of (codes "FILE") rows)
 
 -- a port has 16 bits, and a number of connections 64
 abbrev pub port_of : List Row → Option ℕ
@@ -122,6 +127,13 @@ pack_tid rows = option_and_then tid_of (first_of (codes "TID") rows)
 abbrev pub pack_of : List Row → Option Asked
 pack_of rows = option_and_then (λ file. option_map (Pack file) (pack_tid rows)) (first_of (codes "FILE") rows)
 
+-- the number has 64 bits
+abbrev pub drawn_number : List Row → Option ℕ
+drawn_number rows = option_and_then (number_of greatest_number) (first_of (codes "N") rows)
+
+abbrev pub gen_of : List Row → Option Asked
+gen_of rows = option_map Gen (drawn_number rows)
+
 abbrev pub by_name : Text → List Row → Option Asked
 by_name name rows =
     if bytes_eq name (codes "init") then init_of rows
@@ -131,7 +143,9 @@ by_name name rows =
     else (if bytes_eq name (codes "dump") then dump_of rows
     else (if bytes_eq name (codes "backup") then backup_of rows
     else (if bytes_eq name (codes "restore") then restore_of rows
-    else (if bytes_eq name (codes "pack") then pack_of rows else None)))))))
+    else (if bytes_eq name (codes "pack") then pack_of rows
+    else (if bytes_eq name (codes "serial") then serial_of rows
+    else (if bytes_eq name (codes "gen") then gen_of rows else None)))))))))
 
 unfoldable pub by_subcommand : Option (Text × List Row) → Option Asked
 by_subcommand found = option_and_then (λ p. by_name p.0 p.1) found

@@ -26,8 +26,9 @@ over_file name = with_rule (new_app name) (positional (codes "FILE"))
 abbrev pub init : App
 init = with_rule (with_rule (over_file (codes "init")) (positional (codes "NAME"))) (positional (codes "PASSWORD"))
 
-abbrev pub replay : App
-replay = with_rule (over_file (codes "replay")) (option (codes "limit"))
+-- a subcommand that runs a schedule over a file
+abbrev pub over_schedule : Text → App
+over_schedule name = with_rule (over_file name) (option (codes "limit"))
 
 abbrev pub serve : App
 serve = with_rule (with_rule (with_rule (with_rule (over_file (codes "serve")) (needed (codes "port"))) (needed (codes "connections"))) (option (codes "clients"))) (needed (codes "record"))
@@ -41,6 +42,9 @@ restore = with_rule (with_rule (new_app (codes "restore")) (positional (codes "R
 abbrev pub pack : App
 pack = with_rule (over_file (codes "pack")) (positional (codes "TID"))
 
+abbrev pub drawn : App
+drawn = with_rule (new_app (codes "gen")) (positional (codes "N"))
+
 -- no help words, no version words, and no word for the program
 abbrev pub bare : App
 bare = record (new_app (codes "zope")) {
@@ -49,7 +53,7 @@ bare = record (new_app (codes "zope")) {
 
 -- the commands over a site, and those over a repository, too
 abbrev pub over_sites : App
-over_sites = with_subcommand (with_subcommand (with_subcommand (with_subcommand (with_subcommand bare init.top) replay.top) serve.top) (over_file (codes "check")).top) (over_file (codes "dump")).top
+over_sites = with_subcommand (with_subcommand (with_subcommand (with_subcommand (with_subcommand bare init.top) (over_schedule (codes "replay")).top) serve.top) (over_file (codes "check")).top) (over_file (codes "dump")).top
 
 abbrev pub zope : App
-zope = with_subcommand (with_subcommand (with_subcommand over_sites backup.top) restore.top) pack.top
+zope = with_subcommand (with_subcommand (with_subcommand (with_subcommand (with_subcommand over_sites backup.top) restore.top) pack.top) (over_schedule (codes "serial")).top) drawn.top

@@ -2,7 +2,7 @@
 use Rattle.std.specs.Prelude.{◌≡◌, [], ◌∷◌, Some, None, codes, false, refl, true}
 use Rattle.clap.proofs.OnLiterals.{clap_on_literals}
 use Rattle.zbase.specs.Hex.{hex16_text, hex_digits}
-use Rattle.words.specs.Asking.{Init, Replay, Serve, Backup, Restore, Pack, asked_of, by_subcommand}
+use Rattle.words.specs.Asking.{Init, Replay, Serve, Backup, Restore, Pack, Serial, Gen, asked_of, by_subcommand}
 
 init_is : asked_of (codes "init" ∷ codes "f" ∷ codes "admin" ∷ codes "secret" ∷ []) ≡ Some (Init (codes "f") (codes "admin") (codes "secret"))
 unfolding clap_on_literals by_subcommand
@@ -19,6 +19,22 @@ limit_first = refl
 too_great : asked_of (codes "replay" ∷ codes "f" ∷ codes "--limit" ∷ codes "281474976710656" ∷ []) ≡ None
 unfolding clap_on_literals by_subcommand
 too_great = refl
+
+serial_is : asked_of (codes "serial" ∷ codes "f" ∷ []) ≡ Some (Serial (codes "f") 281474976710655)
+unfolding clap_on_literals by_subcommand
+serial_is = refl
+
+serial_limited : asked_of (codes "serial" ∷ codes "f" ∷ codes "--limit" ∷ codes "300" ∷ []) ≡ Some (Serial (codes "f") 300)
+unfolding clap_on_literals by_subcommand
+serial_limited = refl
+
+gen_is : asked_of (codes "gen" ∷ codes "18446744073709551615" ∷ []) ≡ Some (Gen 18446744073709551615)
+unfolding clap_on_literals by_subcommand
+gen_is = refl
+
+drawn_from_too_much : asked_of (codes "gen" ∷ codes "18446744073709551616" ∷ []) ≡ None
+unfolding clap_on_literals by_subcommand
+drawn_from_too_much = refl
 
 help_is_no_word : asked_of (codes "--help" ∷ []) ≡ None
 unfolding clap_on_literals by_subcommand

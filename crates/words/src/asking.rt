@@ -38,6 +38,11 @@ pub enum Asked<'a> {
         file: &'a str,
         limit: u64,
     },
+    /// The requests of the schedule that is read, each run alone, with a file of at most `limit` bytes.
+    Serial {
+        file: &'a str,
+        limit: u64,
+    },
     /// A server of the site in the file, on a port, for so many connections, of which `clients` may share a round; what
     /// happens is recorded in a new file of the name `record`.
     Serve {
@@ -65,6 +70,10 @@ pub enum Asked<'a> {
     Restore {
         repo: &'a str,
         out: &'a str,
+    },
+    /// The run that this number draws, over a new site.
+    Gen {
+        number: u64,
     },
     /// The file without what nothing at this transaction or later needs.
     Pack {
@@ -109,6 +118,14 @@ fn replay_of<'a>(matches: &ArgMatches<'a>) -> Option<Asked<'a>>
     let file = word_of(matches, "FILE")?;
     let limit = limit_of(matches)?;
     Some(Asked::Replay { file, limit })
+}
+
+fn serial_of<'a>(matches: &ArgMatches<'a>) -> Option<Asked<'a>>
+    ensures { option_map view result ≡ asking.serial_of (rows_of (found_of matches.now)) }
+{
+    let file = word_of(matches, "FILE")?;
+    let limit = limit_of(matches)?;
+    Some(Asked::Serial { file, limit })
 }
 
 fn port_of(matches: &ArgMatches) -> Option<u16>
@@ -227,6 +244,21 @@ fn pack_of<'a>(matches: &ArgMatches<'a>) -> Option<Asked<'a>>
     Some(Asked::Pack { file, before })
 }
 
+// The number that a run is drawn from, where it keeps its rule.
+fn drawn_number(matches: &ArgMatches) -> Option<u64>
+    ensures { result ≡ asking.drawn_number (rows_of (found_of matches.now)) }
+{
+    let text = word_of(matches, "N")?;
+    number_of(u64::MAX, text)
+}
+
+fn gen_of<'a>(matches: &ArgMatches<'a>) -> Option<Asked<'a>>
+    ensures { option_map view result ≡ asking.gen_of (rows_of (found_of matches.now)) }
+{
+    let number = drawn_number(matches)?;
+    Some(Asked::Gen { number })
+}
+
 // What the subcommand asks for that was found.
 #[tactic(auto, unfolding(crate::specs::Asking::by_subcommand))]
 fn asked_of<'a>(matches: &ArgMatches<'a>) -> Option<Asked<'a>>
@@ -249,6 +281,10 @@ fn asked_of<'a>(matches: &ArgMatches<'a>) -> Option<Asked<'a>>
         restore_of(within)
     } else if name == "pack" {
         pack_of(within)
+    } else if name == "serial" {
+        serial_of(within)
+    } else if name == "gen" {
+        gen_of(within)
     } else {
         None
     }

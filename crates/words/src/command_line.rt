@@ -56,13 +56,12 @@ fn init<'a>(alloc: Global) -> Result<Command<'a>, AllocError>
         .arg(positional(alloc, "PASSWORD"))
 }
 
-fn replay<'a>(alloc: Global) -> Result<Command<'a>, AllocError>
-    ensures app { IfOk result (λ c. app_of c ≡ lines.replay) }
+// A subcommand that runs a schedule over a file.
+fn over_schedule<'a>(alloc: Global, name: &'a str) -> Result<Command<'a>, AllocError>
+    ensures app { IfOk result (λ c. app_of c ≡ lines.over_schedule name.entry.now) }
     ensures globals { IfOk result (λ c. (fields_of c).has_globals ≡ false) }
 {
-    Command::new(alloc, "replay")
-        .arg(positional(alloc, "FILE"))?
-        .arg(option(alloc, "limit"))
+    over_file(alloc, name)?.arg(option(alloc, "limit"))
 }
 
 fn serve<'a>(alloc: Global) -> Result<Command<'a>, AllocError>
@@ -101,6 +100,13 @@ fn pack<'a>(alloc: Global) -> Result<Command<'a>, AllocError>
     over_file(alloc, "pack")?.arg(positional(alloc, "TID"))
 }
 
+fn drawn<'a>(alloc: Global) -> Result<Command<'a>, AllocError>
+    ensures app { IfOk result (λ c. app_of c ≡ lines.drawn) }
+    ensures globals { IfOk result (λ c. (fields_of c).has_globals ≡ false) }
+{
+    Command::new(alloc, "gen").arg(positional(alloc, "N"))
+}
+
 // The program's words, none of which is its name.
 fn bare<'a>(alloc: Global) -> Command<'a>
     ensures { app_of result ≡ lines.bare }
@@ -119,11 +125,13 @@ pub(crate) fn zope<'a>(alloc: Global) -> Result<Command<'a>, AllocError>
 {
     bare(alloc)
         .subcommand(init(alloc)?)?
-        .subcommand(replay(alloc)?)?
+        .subcommand(over_schedule(alloc, "replay")?)?
         .subcommand(serve(alloc)?)?
         .subcommand(over_file(alloc, "check")?)?
         .subcommand(over_file(alloc, "dump")?)?
         .subcommand(backup(alloc)?)?
         .subcommand(restore(alloc)?)?
-        .subcommand(pack(alloc)?)
+        .subcommand(pack(alloc)?)?
+        .subcommand(over_schedule(alloc, "serial")?)?
+        .subcommand(drawn(alloc)?)
 }

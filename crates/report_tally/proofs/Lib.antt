@@ -1,0 +1,3 @@
+mod RowParts
+mod ReadLines
+mod Tame
