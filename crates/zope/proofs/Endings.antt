@@ -9,7 +9,7 @@ use Rattle.backups.specs.declared.refusal.BackupRefusal.TheVariants as backup
 use Rattle.backups.specs.declared.refusal.RestoreRefusal.{RestoreRefusal}
 use Rattle.backups.specs.declared.refusal.RestoreRefusal.TheVariants as restore
 use Rattle.file_server.specs.declared.refusal.FileRefusal.{FileRefusal}
-use Rattle.words.specs.Asking.{Asked, Backup, Check, Dump, Init, Pack, Replay, Restore, Serve}
+use Rattle.words.specs.Asking.{Asked, Backup, Check, Dump, Gen, Init, Pack, Replay, Restore, Serial, Serve}
 use Rattle.zope.specs.BackupCauses.{of_backup}
 use Rattle.zope.specs.Causes.{Cause, CauseOf, Names, NoCause, last_line}
 use Rattle.zope.specs.Ends.{Ends, status_of}
@@ -78,6 +78,11 @@ sink_of (Restore repo name) old mid (inl refused) = absurd (not_restores refused
 sink_of (Restore repo name) old mid (inr print) = print.printed.0
 sink_of (Pack file before) old mid (inl refused) = absurd (not_packs refused.0.refusal refused.0.is)
 sink_of (Pack file before) old mid (inr print) = print.printed.0
+sink_of (Serial file limit) old mid (inl input) = absurd input.0
+sink_of (Serial file limit) old mid (inr (inl cause)) = absurd cause.2
+sink_of (Serial file limit) old mid (inr (inr run)) = run.4.0
+sink_of (Gen number) old mid (inl run) = absurd run.0
+sink_of (Gen number) old mid (inr print) = print.printed.0
 
 -- a refusal for the sink has it that the sink failed
 sink_cause : (words : List (List ℕ)) (old mid : OutsideView) → Cause words old mid Refusal.Output → SinkFailed old mid

@@ -9,6 +9,7 @@ pub mod Stamping
 pub mod Commands
 pub mod NoCauses
 pub mod Endings
+pub mod Drawing
 pub mod GivingUp
 pub mod Showing
 pub mod Leaving

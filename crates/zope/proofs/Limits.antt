@@ -7,7 +7,7 @@ use Rattle.std.proofs.lemmas.Bool.Decides.{nat_tests}
 use Rattle.clap.specs.Words.{Row, Text, first_of, subcommand_of}
 use Rattle.fs_store.specs.Stores.{most_length}
 use Rattle.words.specs.CommandLine.{zope}
-use Rattle.words.specs.Asking.{Asked, Backup, Check, Dump, Init, Pack, Replay, Restore, Serve, above_zero, asked_of, backup_in, backup_of, by_name, by_subcommand, check_of, clients_in, clients_of, connections_of, dump_of, init_of, is_given, is_index_of, limit_in, limit_of, number_of, pack_of, pack_tid, port_of, replay_of, repo_of, restore_of, serve_of}
+use Rattle.words.specs.Asking.{Asked, Backup, Check, Dump, Gen, Init, Pack, Replay, Restore, Serial, Serve, above_zero, asked_of, backup_in, backup_of, by_name, by_subcommand, check_of, clients_in, clients_of, connections_of, drawn_number, dump_of, gen_of, init_of, is_given, is_index_of, limit_in, limit_of, number_of, pack_of, pack_tid, port_of, replay_of, repo_of, restore_of, serial_of, serve_of}
 
 abbrev IsWithin : Asked → Type 0
 IsWithin (Init file name password) = Unit {0}
@@ -18,6 +18,8 @@ IsWithin (Dump file) = Unit {0}
 IsWithin (Backup file repo full) = Unit {0}
 IsWithin (Restore repo name) = Unit {0}
 IsWithin (Pack file before) = Unit {0}
+IsWithin (Serial file limit) = limit ≤ most_length
+IsWithin (Gen number) = Unit {0}
 
 Within : Option Asked → Type 0
 Within o = IfSome o IsWithin
@@ -55,6 +57,17 @@ unfolding Within
 replays None l most = tt
 replays (Some file) None most = tt
 replays (Some file) (Some limit) most = most
+
+serials : (f : Option Text) (l : Option ℕ) → IfSome l (λ n. n ≤ most_length) → Within (option_and_then (λ file. option_map (Serial file) l) f)
+unfolding Within
+serials None l most = tt
+serials (Some file) None most = tt
+serials (Some file) (Some limit) most = most
+
+draws : (n : Option ℕ) → Within (option_map Gen n)
+unfolding Within
+draws None = tt
+draws (Some number) = tt
 
 above : (o : Option ℕ) → IfSome o (λ n. n ≤ 16) → IfSome (option_and_then above_zero o) (λ n. (1 ≤ n) × (n ≤ 16))
 above None most = tt
@@ -119,7 +132,9 @@ named name rows =
     (either _ (dump_of rows) _ (dumps (first_of (codes "FILE") rows))
     (either _ (backup_of rows) _ (backups rows (first_of (codes "FILE") rows) (repo_of rows))
     (either _ (restore_of rows) _ (restores (repo_of rows) (first_of (codes "OUT") rows))
-    (either _ (pack_of rows) None (packs (first_of (codes "FILE") rows) (pack_tid rows)) none)))))))
+    (either _ (pack_of rows) _ (packs (first_of (codes "FILE") rows) (pack_tid rows))
+    (either _ (serial_of rows) _ (serials (first_of (codes "FILE") rows) (limit_of rows) (limited (first_of (codes "limit") rows)))
+    (either _ (gen_of rows) None (draws (drawn_number rows)) none)))))))))
 
 found : (o : Option (Text × List Row)) → Within (by_subcommand o)
 unfolding by_subcommand
@@ -140,3 +155,10 @@ within_replay name limit within = within
 
 pub limit_within : (words : List Text) (name : Text) (limit : ℕ) → asked_of words ≡ Some (Replay name limit) → limit ≤ most_length
 limit_within words name limit asks = within_replay name limit (subst Within asks (either _ (by_subcommand (subcommand_of zope words)) None (found (subcommand_of zope words)) none))
+
+within_serial : (name : Text) (limit : ℕ) → Within (Some (Serial name limit)) → limit ≤ most_length
+unfolding Within
+within_serial name limit within = within
+
+pub serial_within : (words : List Text) (name : Text) (limit : ℕ) → asked_of words ≡ Some (Serial name limit) → limit ≤ most_length
+serial_within words name limit asks = within_serial name limit (subst Within asks (either _ (by_subcommand (subcommand_of zope words)) None (found (subcommand_of zope words)) none))

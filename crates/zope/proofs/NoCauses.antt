@@ -33,16 +33,17 @@ use Rattle.file_server.specs.Shelved.{IsThere}
 use Rattle.file_server.specs.declared.refusal.FileRefusal.{FileRefusal}
 use Rattle.zope.specs.Causes.{Cause, CauseOf, NoCause, NoCauseOf, WordsCause}
 use Rattle.zope.specs.MakeCauses.{LegibleCause, MakeCause, NewCause, NoMakeCause}
-use Rattle.words.specs.Asking.{Asked, Backup, Check, Dump, Init, Pack, Replay, Restore, Serve, asked_of}
+use Rattle.words.specs.Asking.{Asked, Backup, Check, Dump, Gen, Init, Pack, Replay, Restore, Serial, Serve, asked_of}
 use Rattle.zope.specs.Outside.{DiskFailed, HubFailed, OutsideView, ShelfFailed, SinkFailed, SourceFailed, told}
 use Rattle.zope.specs.ServeCauses.{NoServeCause, of_served}
 use Rattle.zope.specs.BackupCauses.{BackupCause, NoBackupCause, of_backup}
 use Rattle.zope.specs.PackCauses.{NoPackCause, PackCause, of_pack}
 use Rattle.zope.specs.RestoreCauses.{NoRestoreCause, RestoreCause, of_restore}
 use Rattle.zope.specs.CheckCauses.{CheckCause, PrintCause, ScanCause}
+use Rattle.zope.specs.Drawn.{DrawnCause, NoDrawnCause, RunCause as DrawnRunCause}
 use Rattle.zope.specs.DumpCauses.{DumpCause}
 use Rattle.zope.specs.Given.{IfKept, IsSound, most_file, most_input}
-use Rattle.zope.specs.ReplayCauses.{Broke, FileCause, InputCause, NoReplayCause, ReplayCause, RunCause}
+use Rattle.zope.specs.ReplayCauses.{Breaking, Broke, BrokeAlone, FileCause, InputCause, NoReplayCause, ReplayCause, RunCause}
 use Rattle.zope.specs.Shelved.{HasFile, IsLength, IsMissing, IsPresent}
 use Rattle.zope.specs.Words.{IsCommand}
 
@@ -129,27 +130,27 @@ of_file files entries name bytes failed shelf there fits calm Refusal.PackExists
 of_file files entries name bytes failed shelf there fits calm (Refusal.Full need most) cause = absurd cause
 of_file files entries name bytes failed shelf there fits calm Refusal.NamesSpent cause = absurd cause
 
-of_run : (limit : ℕ) (bytes : List ℕ) (items : List Item2) (failed : Type 0) (old new : Option (List ℕ)) (front : Front) (end : ℕ) → Cut bytes front end → NotDamaged → ((n : ℕ) → Broke limit bytes items old new n → ⊥) → (failed → ⊥) → (e : Refusal) → RunCause limit bytes items failed old new e → e ≡ Refusal.Memory
-of_run limit bytes items failed old new front end opens law runs calm Refusal.Memory cause = refl
-of_run limit bytes items failed old new front end opens law runs calm Refusal.Output cause = absurd (calm cause.0)
-of_run limit bytes items failed old new front end opens law runs calm (Refusal.BadLine n) cause = absurd (runs n cause)
-of_run limit bytes items failed old new front end opens law runs calm (Refusal.Damaged kind place) cause = absurd (law bytes front end place kind opens cause.0)
-of_run limit bytes items failed old new front end opens law runs calm Refusal.Usage cause = absurd cause
-of_run limit bytes items failed old new front end opens law runs calm Refusal.NotLegible cause = absurd cause
-of_run limit bytes items failed old new front end opens law runs calm Refusal.Exists cause = absurd cause
-of_run limit bytes items failed old new front end opens law runs calm Refusal.Disk cause = absurd cause
-of_run limit bytes items failed old new front end opens law runs calm Refusal.Input cause = absurd cause
-of_run limit bytes items failed old new front end opens law runs calm Refusal.Missing cause = absurd cause
-of_run limit bytes items failed old new front end opens law runs calm Refusal.InputTooLarge cause = absurd cause
-of_run limit bytes items failed old new front end opens law runs calm (Refusal.FileTooLarge n) cause = absurd cause
-of_run limit bytes items failed old new front end opens law runs calm (Refusal.TooLong n) cause = absurd cause
-of_run limit bytes items failed old new front end opens law runs calm Refusal.MissingIndex cause = absurd cause
-of_run limit bytes items failed old new front end opens law runs calm (Refusal.BadIndex n) cause = absurd cause
-of_run limit bytes items failed old new front end opens law runs calm (Refusal.BadPiece piece) cause = absurd cause
-of_run limit bytes items failed old new front end opens law runs calm (Refusal.Unreadable oid) cause = absurd cause
-of_run limit bytes items failed old new front end opens law runs calm Refusal.PackExists cause = absurd cause
-of_run limit bytes items failed old new front end opens law runs calm (Refusal.Full need most) cause = absurd cause
-of_run limit bytes items failed old new front end opens law runs calm Refusal.NamesSpent cause = absurd cause
+of_run : (broke : Breaking) (limit : ℕ) (bytes : List ℕ) (items : List Item2) (failed : Type 0) (old new : Option (List ℕ)) (front : Front) (end : ℕ) → Cut bytes front end → NotDamaged → ((n : ℕ) → broke limit bytes items old new n → ⊥) → (failed → ⊥) → (e : Refusal) → RunCause broke limit bytes items failed old new e → e ≡ Refusal.Memory
+of_run broke limit bytes items failed old new front end opens law runs calm Refusal.Memory cause = refl
+of_run broke limit bytes items failed old new front end opens law runs calm Refusal.Output cause = absurd (calm cause.0)
+of_run broke limit bytes items failed old new front end opens law runs calm (Refusal.BadLine n) cause = absurd (runs n cause)
+of_run broke limit bytes items failed old new front end opens law runs calm (Refusal.Damaged kind place) cause = absurd (law bytes front end place kind opens cause.0)
+of_run broke limit bytes items failed old new front end opens law runs calm Refusal.Usage cause = absurd cause
+of_run broke limit bytes items failed old new front end opens law runs calm Refusal.NotLegible cause = absurd cause
+of_run broke limit bytes items failed old new front end opens law runs calm Refusal.Exists cause = absurd cause
+of_run broke limit bytes items failed old new front end opens law runs calm Refusal.Disk cause = absurd cause
+of_run broke limit bytes items failed old new front end opens law runs calm Refusal.Input cause = absurd cause
+of_run broke limit bytes items failed old new front end opens law runs calm Refusal.Missing cause = absurd cause
+of_run broke limit bytes items failed old new front end opens law runs calm Refusal.InputTooLarge cause = absurd cause
+of_run broke limit bytes items failed old new front end opens law runs calm (Refusal.FileTooLarge n) cause = absurd cause
+of_run broke limit bytes items failed old new front end opens law runs calm (Refusal.TooLong n) cause = absurd cause
+of_run broke limit bytes items failed old new front end opens law runs calm Refusal.MissingIndex cause = absurd cause
+of_run broke limit bytes items failed old new front end opens law runs calm (Refusal.BadIndex n) cause = absurd cause
+of_run broke limit bytes items failed old new front end opens law runs calm (Refusal.BadPiece piece) cause = absurd cause
+of_run broke limit bytes items failed old new front end opens law runs calm (Refusal.Unreadable oid) cause = absurd cause
+of_run broke limit bytes items failed old new front end opens law runs calm Refusal.PackExists cause = absurd cause
+of_run broke limit bytes items failed old new front end opens law runs calm (Refusal.Full need most) cause = absurd cause
+of_run broke limit bytes items failed old new front end opens law runs calm Refusal.NamesSpent cause = absurd cause
 
 kept_same : (files : Option (List Entry)) (entries : List Entry) (name bytes : List ℕ) (P : List ℕ → Type 0) → files ≡ Some entries → file_at entries name ≡ Some bytes → IfKept files name P → P bytes
 kept_same files entries name bytes P shelf there kept =
@@ -204,16 +205,16 @@ of_print failed text old new calm (Refusal.Full need most) cause = absurd cause
 of_print failed text old new calm Refusal.NamesSpent cause = absurd cause
 
 -- the sink of the whole run has failed where that of the command has
-replay_memory : (name : List ℕ) (limit : ℕ) (files : Option (List Entry)) (input : Option (List ℕ)) (source sink more disk : Type 0) (old new : Option (List ℕ)) (e : Refusal) → OneSchedule → NotBoth → NotDamaged → (sink → more) → ReplayCause name limit files input source sink disk old new e → NoReplayCause name limit files input source more disk → e ≡ Refusal.Memory
-replay_memory name limit files input source sink more disk old new e one both law wider (inl c) meets = of_input input meets.text source meets.items meets.given meets.within meets.spells both meets.source_calm e c.0
-replay_memory name limit files input source sink more disk old new e one both law wider (inr (inl c)) meets = of_file files meets.entries name meets.bytes disk meets.shelf meets.there meets.fits meets.disk_calm e c.2
-replay_memory name limit files input source sink more disk old new e one both law wider (inr (inr c)) meets =
+replay_memory : (broke : Breaking) (name : List ℕ) (limit : ℕ) (files : Option (List Entry)) (input : Option (List ℕ)) (source sink more disk : Type 0) (old new : Option (List ℕ)) (e : Refusal) → OneSchedule → NotBoth → NotDamaged → (sink → more) → ReplayCause broke name limit files input source sink disk old new e → NoReplayCause broke name limit files input source more disk → e ≡ Refusal.Memory
+replay_memory broke name limit files input source sink more disk old new e one both law wider (inl c) meets = of_input input meets.text source meets.items meets.given meets.within meets.spells both meets.source_calm e c.0
+replay_memory broke name limit files input source sink more disk old new e one both law wider (inr (inl c)) meets = of_file files meets.entries name meets.bytes disk meets.shelf meets.there meets.fits meets.disk_calm e c.2
+replay_memory broke name limit files input source sink more disk old new e one both law wider (inr (inr c)) meets =
     let spelled : IsSchedule meets.text c.0 = subst (λ i. IfSome i (λ t. IsSchedule t c.0)) meets.given c.1.spells in
     let same : c.0 ≡ meets.items = one meets.text c.0 meets.items spelled meets.spells in
     let bytes = has_same files meets.entries name meets.bytes c.2 meets.shelf meets.there c.3.has in
-    let Of : List ℕ → List Item2 → Type 0 = λ bs items. RunCause limit bs items sink old new e in
+    let Of : List ℕ → List Item2 → Type 0 = λ bs items. RunCause broke limit bs items sink old new e in
     let cause : Of meets.bytes meets.items = subst (λ (b : List ℕ). Of b meets.items) (sym bytes) (subst (λ (items : List Item2). Of c.2 items) same c.4) in
-    of_run limit meets.bytes meets.items sink old new meets.front meets.end meets.opens law (λ n broke. meets.runs n old new broke) (λ rose. meets.sink_calm (wider rose)) e cause
+    of_run broke limit meets.bytes meets.items sink old new meets.front meets.end meets.opens law (λ n broke. meets.runs n old new broke) (λ rose. meets.sink_calm (wider rose)) e cause
 
 check_memory : (name : List ℕ) (files : Option (List Entry)) (sink more disk : Type 0) (old new : Option (List ℕ)) (e : Refusal) → NotDamaged → (sink → more) → CheckCause name files sink disk old new e → IsSound name files more disk → e ≡ Refusal.Memory
 check_memory name files sink more disk old new e law wider (inl c) meets = of_scan files meets.entries name meets.bytes meets.front meets.end disk meets.shelf meets.there meets.fits meets.opens law meets.disk_calm e c.0
@@ -406,6 +407,34 @@ pack_memory : (file : List ℕ) (t : ℕ) (files now : Option (List Entry)) (sin
 pack_memory file t files now sink more disk old new e law wider (inl c) meets = c.0.is ∙ of_unpacked file t files more disk law meets c.0.refusal c.0.cause
 pack_memory file t files now sink more disk old new e law wider (inr c) meets = of_print sink _ old new (λ rose. meets.sink_calm (wider rose)) e c.printed
 
+-- ---- a drawn run
+
+of_drawn : (number : ℕ) (sink : Type 0) → NoDrawnCause number sink → (e : Refusal) → DrawnRunCause number e → e ≡ Refusal.Memory
+of_drawn number sink meets Refusal.Memory cause = refl
+of_drawn number sink meets (Refusal.BadLine n) cause = absurd (meets.runs n cause.0 cause.1 cause.2)
+of_drawn number sink meets Refusal.Usage cause = absurd cause
+of_drawn number sink meets Refusal.NotLegible cause = absurd cause
+of_drawn number sink meets (Refusal.Damaged kind place) cause = absurd cause
+of_drawn number sink meets Refusal.Disk cause = absurd cause
+of_drawn number sink meets Refusal.Input cause = absurd cause
+of_drawn number sink meets Refusal.Output cause = absurd cause
+of_drawn number sink meets Refusal.Missing cause = absurd cause
+of_drawn number sink meets Refusal.Exists cause = absurd cause
+of_drawn number sink meets Refusal.InputTooLarge cause = absurd cause
+of_drawn number sink meets (Refusal.FileTooLarge n) cause = absurd cause
+of_drawn number sink meets (Refusal.TooLong n) cause = absurd cause
+of_drawn number sink meets (Refusal.Unreadable oid) cause = absurd cause
+of_drawn number sink meets Refusal.PackExists cause = absurd cause
+of_drawn number sink meets (Refusal.Full need most) cause = absurd cause
+of_drawn number sink meets Refusal.MissingIndex cause = absurd cause
+of_drawn number sink meets (Refusal.BadIndex n) cause = absurd cause
+of_drawn number sink meets (Refusal.BadPiece piece) cause = absurd cause
+of_drawn number sink meets Refusal.NamesSpent cause = absurd cause
+
+drawn_memory : (number : ℕ) (sink more : Type 0) (old new : Option (List ℕ)) (e : Refusal) → (sink → more) → DrawnCause number sink old new e → NoDrawnCause number more → e ≡ Refusal.Memory
+drawn_memory number sink more old new e wider (inl c) meets = of_drawn number more meets e c.0
+drawn_memory number sink more old new e wider (inr c) meets = of_print sink _ old new (λ rose. meets.sink_calm (wider rose)) e c.printed
+
 -- ---- words ask for one thing
 
 asks_one : (o : Option Asked) (a b : Asked) → o ≡ Some a → o ≡ Some b → a ≡ b
@@ -419,7 +448,7 @@ of_command : (asked : Asked) (old mid : OutsideView) (line : Option (List ℕ)) 
 of_command (Init file name password) old mid line sink e laws later cause meets =
     make_memory file name password old.files (SinkFailed old mid) (Rose old.sink sink) (DiskFailed old mid) old.written mid.written e (rose_after old.sink mid.sink sink later) cause meets
 of_command (Replay file limit) old mid line sink e laws later cause meets =
-    replay_memory file limit old.files old.input (SourceFailed old mid) (SinkFailed old mid) (Rose old.sink sink) (DiskFailed old mid) old.written mid.written e laws.schedule laws.line laws.opening (rose_after old.sink mid.sink sink later) cause meets
+    replay_memory Broke file limit old.files old.input (SourceFailed old mid) (SinkFailed old mid) (Rose old.sink sink) (DiskFailed old mid) old.written mid.written e laws.schedule laws.line laws.opening (rose_after old.sink mid.sink sink later) cause meets
 of_command (Serve file port connections clients record_) old mid line sink e laws later (inl c) meets =
     c.0.is ∙ of_served_file old.files file record_ (HubFailed old mid) (Rose old.sink sink) (ShelfFailed old mid) (old.sound_disks → ⊥) meets laws.opening c.0.refusal c.0.cause
 of_command (Serve file port connections clients record_) old mid line sink e laws later (inr c) meets =
@@ -434,6 +463,10 @@ of_command (Restore repo name) old mid line sink e laws later cause meets =
     restore_memory repo name old.files mid.files (SinkFailed old mid) (Rose old.sink sink) (DiskFailed old mid) old.written mid.written e laws.index laws.row (rose_after old.sink mid.sink sink later) cause meets
 of_command (Pack file before) old mid line sink e laws later cause meets =
     pack_memory file before old.files mid.files (SinkFailed old mid) (Rose old.sink sink) (DiskFailed old mid) old.written mid.written e laws.opening (rose_after old.sink mid.sink sink later) cause meets
+of_command (Serial file limit) old mid line sink e laws later cause meets =
+    replay_memory BrokeAlone file limit old.files old.input (SourceFailed old mid) (SinkFailed old mid) (Rose old.sink sink) (DiskFailed old mid) old.written mid.written e laws.schedule laws.line laws.opening (rose_after old.sink mid.sink sink later) cause meets
+of_command (Gen number) old mid line sink e laws later cause meets =
+    drawn_memory number (SinkFailed old mid) (Rose old.sink sink) old.written mid.written e (rose_after old.sink mid.sink sink later) cause meets
 
 pub only_memory : (words : List (List ℕ)) (old mid : OutsideView) (line : Option (List ℕ)) (sink : Counter) (e : Refusal) → Laws → mid.sink.count ≤ sink.count → Cause words old mid e → NoCause words old (told mid line sink) → e ≡ Refusal.Memory
 only_memory words old mid line sink e laws later (inl c) meets = of_words words e (meets.0, meets.1) c.0
@@ -449,6 +482,8 @@ calm_sink (Dump file) old new meets = meets.sink_calm
 calm_sink (Backup file repo full) old new meets = meets.sink_calm
 calm_sink (Restore repo name) old new meets = meets.sink_calm
 calm_sink (Pack file before) old new meets = meets.sink_calm
+calm_sink (Serial file limit) old new meets = meets.sink_calm
+calm_sink (Gen number) old new meets = meets.sink_calm
 
 pub sink_is_calm : (words : List (List ℕ)) (old new : OutsideView) → NoCause words old new → SinkFailed old new → ⊥
 sink_is_calm words old new meets = calm_sink meets.0 old new meets.2

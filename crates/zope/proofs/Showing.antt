@@ -15,7 +15,8 @@ use Rattle.http_in.specs.Messages.{one_message}
 use Rattle.schedule.specs.declared.line.Line.{Line}
 use Rattle.schedule.specs.Courses.{Place, request_of, worker_of}
 use Rattle.schedule.specs.Moments.{Moment, doing}
-use Rattle.schedule.specs.Right.{AreRight, RightGrowth, RightReply}
+use Rattle.packing.specs.Reachable.{Linking}
+use Rattle.schedule.specs.Right.{AreRight, RightGrowth, RightReply, history_after}
 use Rattle.publisher.specs.Access.{ChangesAreGranted, PagesShowRightly, RefusalsAreDenied, RefusalsAreNamed}
 use Rattle.publisher.specs.Comes.{history_tells}
 use Rattle.publisher.specs.Replies.{message_reply}
@@ -45,17 +46,17 @@ module _ (shows : PagesShowRightly) (names : RefusalsAreNamed) (denies : Refusal
   )
   rightly h (Refused cause) x e = subst (λ (y : Reply). AnswersRightly h (Refused cause) y) (answer_is (message_reply cause) x e) (silent h cause)
 
-  at : (limit end : ℕ) (h : History) (q : Option Message) (all : List Line) (w t : ℕ) (bytes : List ℕ) (lines : List Line) → RightReply (terms_of one_message site limit end) h q all → all ≡ Line.ReplyRead w t bytes ∷ lines → TellsRightly h w t bytes lines
-  at limit end h q all w t bytes lines right e =
-      let (message, of_worker, x, read, written, told) = subst (RightReply (terms_of one_message site limit end) h q) e right in
+  at : (links : Linking) (limit end : ℕ) (h : History) (q : Option Message) (all : List Line) (w t : ℕ) (bytes : List ℕ) (lines : List Line) → RightReply (terms_of one_message site links limit end) h q all → all ≡ Line.ReplyRead w t bytes ∷ lines → TellsRightly h w t bytes lines
+  at links limit end h q all w t bytes lines right e =
+      let (message, of_worker, x, read, written, told) = subst (RightReply (terms_of one_message site links limit end) h q) e right in
       record { message = message; reply = x; read = read; written = written; told = told; rightly = rightly (upto h t) message x read }
 
   -- at every place
-  pub all_rightly : (limit end : ℕ) (places : List (Place Message)) (last : Moment Message) → AreRight (terms_of one_message site limit end) places last → AllShowRightly last.standing places
-  all_rightly limit end [] last right = tt
-  all_rightly limit end (p ∷ places) last right = (
-    λ w t bytes lines e. at limit end last.standing (request_of (doing p.before (worker_of p.item))) p.lines w t bytes lines right.0.reply e,
-    all_rightly limit end places last right.1,
+  pub all_rightly : (links : Linking) (limit end : ℕ) (places : List (Place Message)) (last : Moment Message) → AreRight (terms_of one_message site links limit end) places last → AllShowRightly places last
+  all_rightly links limit end [] last right = tt
+  all_rightly links limit end (p ∷ places) last right = (
+    λ w t bytes lines e. at links limit end (history_after places last) (request_of (doing p.before (worker_of p.item))) p.lines w t bytes lines right.0.reply e,
+    all_rightly links limit end places last right.1,
   )
 
 module _ (grants : ChangesAreGranted) where
@@ -63,17 +64,17 @@ module _ (grants : ChangesAreGranted) where
   changes_rightly h (Whole q) x d e = grants (λ ask. Some (fact h ask)) q x d (history_tells h) e
   changes_rightly h (Refused cause) x d e = absurd (let bad = e in cc)
 
-  grows : (limit end : ℕ) (h : History) (q : Option Message) (old new : History) → RightGrowth (terms_of one_message site limit end) h q old new → (new ≡ old) ⊎ ((t : Transaction) × (new ≡ added old t) × IsGranted h t)
-  grows limit end h q old new (inl same) = inl same
-  grows limit end h q old new (inr (message, of_worker, x, t, made, grown)) = inr (
+  grows : (links : Linking) (limit end : ℕ) (h : History) (q : Option Message) (old new : History) → RightGrowth (terms_of one_message site links limit end) h q old new → (new ≡ old) ⊎ ((t : Transaction) × (new ≡ added old t) × IsGranted h t)
+  grows links limit end h q old new (inl same) = inl same
+  grows links limit end h q old new (inr (message, of_worker, x, t, made, grown)) = inr (
     t,
     grown,
     record { message = message; reply = x; draft = made.draft; change = made.change; stands = made.stands; granted = changes_rightly (before h t.tid) message x made.draft made.change },
   )
 
-  pub all_grow : (limit end : ℕ) (places : List (Place Message)) (last : Moment Message) → AreRight (terms_of one_message site limit end) places last → AllGrowRightly last.standing places
-  all_grow limit end [] last right = tt
-  all_grow limit end (p ∷ places) last right = (
-    grows limit end last.standing (request_of (doing p.before (worker_of p.item))) p.before.standing p.after.standing right.0.growth,
-    all_grow limit end places last right.1,
+  pub all_grow : (links : Linking) (limit end : ℕ) (places : List (Place Message)) (last : Moment Message) → AreRight (terms_of one_message site links limit end) places last → AllGrowRightly places last
+  all_grow links limit end [] last right = tt
+  all_grow links limit end (p ∷ places) last right = (
+    λ goes_on. grows links limit end (history_after places last) (request_of (doing p.before (worker_of p.item))) p.before.standing p.after.standing (right.0.growth goes_on),
+    all_grow links limit end places last right.1,
   )

@@ -1,8 +1,7 @@
 -- To whom a report shows what, and who may change what.
 --
 -- Zope Developer's Guide, "Security".
-use Rattle.std.specs.Prelude.{ℕ, ◌≡◌, ◌⊎◌, List, [], ◌∷◌, ◌++◌, Some, None}
-use Rattle.std.specs.List.{AllByRecursion}
+use Rattle.std.specs.Prelude.{ℕ, ◌≡◌, ◌⊎◌, false, List, [], ◌∷◌, ◌++◌, Some, None}
 use Rattle.zbase.specs.History.{History, Transaction, added}
 use Rattle.zbase.specs.Values.{before, transaction, upto}
 use Rattle.evaluator.specs.declared.draft.Draft.{Draft}
@@ -19,6 +18,8 @@ use Rattle.http_out.specs.Replies.{answer}
 use Rattle.schedule.specs.declared.line.Line.{Line}
 use Rattle.schedule.specs.Causes.{denied_line, shown_lines}
 use Rattle.schedule.specs.Courses.{Place}
+use Rattle.schedule.specs.Moments.{Moment}
+use Rattle.schedule.specs.Right.{ends_section, history_after}
 use Rattle.publisher.specs.Access.{DeniesRightly, IsGrantedChange, ListsRightly, ShowsRightly, objects_in}
 use Rattle.publisher.specs.Site.{site}
 
@@ -62,14 +63,19 @@ pub record IsGranted (h : History) (t : Transaction) : Type 0 where
   pub stands : transaction h t.tid ≡ Some (settle (before h t.tid) draft t.tid)
   pub granted : ChangesRightly (before h t.tid) message draft
 
--- at a place of a run the history grows by nothing, or by a transaction whose change was granted
+-- At a place of a run the history grows by nothing, or by a transaction whose change was granted. A pack that is done ends a section of
+-- the report: the history that it leaves begins the next one.
 abbrev pub GrowsRightlyAt : History → Place Message → Type 0
-GrowsRightlyAt h p = (p.after.standing ≡ p.before.standing) ⊎ ((t : Transaction) × (p.after.standing ≡ added p.before.standing t) × IsGranted h t)
+GrowsRightlyAt h p =
+    ends_section p.item p.lines ≡ false
+    → (p.after.standing ≡ p.before.standing) ⊎ ((t : Transaction) × (p.after.standing ≡ added p.before.standing t) × IsGranted h t)
 
--- ---- all places of a run
+-- ---- all places of a run, each by the history that its section ends with: that which the next pack prints, or else the report's last one
 
-abbrev pub AllShowRightly : History → List (Place Message) → Type 0
-AllShowRightly h places = AllByRecursion (ShowsRightlyAt h) places
+abbrev pub AllShowRightly : List (Place Message) → Moment Message → Type 0
+AllShowRightly [] end = Unit {0}
+AllShowRightly (p ∷ places) end = ShowsRightlyAt (history_after places end) p × AllShowRightly places end
 
-abbrev pub AllGrowRightly : History → List (Place Message) → Type 0
-AllGrowRightly h places = AllByRecursion (GrowsRightlyAt h) places
+abbrev pub AllGrowRightly : List (Place Message) → Moment Message → Type 0
+AllGrowRightly [] end = Unit {0}
+AllGrowRightly (p ∷ places) end = GrowsRightlyAt (history_after places end) p × AllGrowRightly places end

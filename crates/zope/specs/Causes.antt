@@ -5,18 +5,19 @@ use Rattle.zbase.specs.Faults.{Counter}
 use Rattle.zbase.specs.Hex.{hex16_text}
 use Rattle.zio.specs.Shelves.{Entry}
 use Rattle.fs_record.specs.Damages.{kind_number}
-use Rattle.words.specs.Asking.{Asked, Backup, Check, Dump, Init, Pack, Replay, Restore, Serve, asked_of}
+use Rattle.words.specs.Asking.{Asked, Backup, Check, Dump, Gen, Init, Pack, Replay, Restore, Serial, Serve, asked_of}
 use Rattle.zope.specs.declared.refusal.Refusal.{Refusal}
 use Rattle.zope.specs.BackupCauses.{BackupCause, FileBackedUp, LeavesBackup, NoBackupCause}
 use Rattle.zope.specs.CheckCauses.{CheckCause}
+use Rattle.zope.specs.Drawn.{Drawn, DrawnCause, NoDrawnCause}
 use Rattle.zope.specs.DumpCauses.{DumpCause, Dumped}
 use Rattle.zope.specs.Given.{IsSound, most_input}
 use Rattle.zope.specs.MakeCauses.{LeavesNew, Made, MakeCause, NoMakeCause}
 use Rattle.zope.specs.Numbers.{NumbersPrinted}
 use Rattle.zope.specs.PackCauses.{FilePacked, LeavesPacked, NoPackCause, PackCause}
 use Rattle.zope.specs.Outside.{DiskFailed, HubFailed, OutsideView, ShelfFailed, SinkFailed, SourceFailed, told}
-use Rattle.zope.specs.ReplayCauses.{NoReplayCause, ReplayCause}
-use Rattle.zope.specs.Replayed.{Replayed}
+use Rattle.zope.specs.ReplayCauses.{Broke, BrokeAlone, NoReplayCause, ReplayCause}
+use Rattle.zope.specs.Replayed.{RanAlone, Replayed}
 use Rattle.zope.specs.RestoreCauses.{FileRestored, LeavesRestored, NoRestoreCause, RestoreCause}
 use Rattle.zope.specs.ServeCauses.{LeavesServed, NoServeCause, ServeCause, SiteServed}
 use Rattle.zope.specs.Words.{IsCommand, IsNamed}
@@ -32,6 +33,8 @@ DidAs (Dump file) old new = Dumped file old.files old.written new.written
 DidAs (Backup file repo full) old new = FileBackedUp file repo full old.files new.files new.lasts old.written new.written
 DidAs (Restore repo name) old new = FileRestored repo name old.files new.files old.written new.written
 DidAs (Pack file before) old new = FilePacked file before old.files new.files new.lasts old.written new.written
+DidAs (Serial file limit) old new = RanAlone file limit old.files old.input old.written new.written
+DidAs (Gen number) old new = Drawn number old.written new.written
 
 abbrev pub Did : List (List ℕ) → OutsideView → OutsideView → Type 0
 Did words old new = (asked : Asked) × (asked_of words ≡ Some asked) × DidAs asked old new
@@ -59,7 +62,7 @@ WordsCause words _ = ⊥
 -- the cause of a refusal of a command
 abbrev pub CauseOf : Asked → OutsideView → OutsideView → Refusal → Type 0
 CauseOf (Init file name password) old new e = MakeCause file name password old.files (SinkFailed old new) (DiskFailed old new) old.written new.written e
-CauseOf (Replay file limit) old new e = ReplayCause file limit old.files old.input (SourceFailed old new) (SinkFailed old new) (DiskFailed old new) old.written new.written e
+CauseOf (Replay file limit) old new e = ReplayCause Broke file limit old.files old.input (SourceFailed old new) (SinkFailed old new) (DiskFailed old new) old.written new.written e
 CauseOf (Serve file port connections clients record_) old new e =
     ServeCause old.sound_disks file record_ port connections clients old.files new.files old.ticks old.clock new.ticks new.clock old.peers new.peers (HubFailed old new) (SinkFailed old new) (ShelfFailed old new) old.written new.written e
 CauseOf (Check file) old new e = CheckCause file old.files (SinkFailed old new) (DiskFailed old new) old.written new.written e
@@ -70,6 +73,9 @@ CauseOf (Restore repo name) old new e =
     RestoreCause repo name old.files new.files (SinkFailed old new) (DiskFailed old new) old.written new.written e
 CauseOf (Pack file before) old new e =
     PackCause file before old.files new.files (SinkFailed old new) (DiskFailed old new) old.written new.written e
+CauseOf (Serial file limit) old new e =
+    ReplayCause BrokeAlone file limit old.files old.input (SourceFailed old new) (SinkFailed old new) (DiskFailed old new) old.written new.written e
+CauseOf (Gen number) old new e = DrawnCause number (SinkFailed old new) old.written new.written e
 
 -- the cause of a refusal, at the moment before the last line: of the words, or of what they ask for
 abbrev pub Cause : List (List ℕ) → OutsideView → OutsideView → Refusal → Type 0
@@ -112,13 +118,15 @@ Comes words old new e = (written : Option (List ℕ)) × (sink : Counter) × (si
 -- nothing that the command looks at is a cause, and no count rose
 abbrev pub NoCauseOf : Asked → OutsideView → OutsideView → Type 0
 NoCauseOf (Init file name password) old new = NoMakeCause file name password old.files (SinkFailed old new) (DiskFailed old new)
-NoCauseOf (Replay file limit) old new = NoReplayCause file limit old.files old.input (SourceFailed old new) (SinkFailed old new) (DiskFailed old new)
+NoCauseOf (Replay file limit) old new = NoReplayCause Broke file limit old.files old.input (SourceFailed old new) (SinkFailed old new) (DiskFailed old new)
 NoCauseOf (Serve file port connections clients record_) old new = NoServeCause file record_ old.files (HubFailed old new) (SinkFailed old new) (DiskFailed old new)
 NoCauseOf (Check file) old new = IsSound file old.files (SinkFailed old new) (DiskFailed old new)
 NoCauseOf (Dump file) old new = IsSound file old.files (SinkFailed old new) (DiskFailed old new)
 NoCauseOf (Backup file repo full) old new = NoBackupCause file repo old.files (SinkFailed old new) (DiskFailed old new)
 NoCauseOf (Restore repo name) old new = NoRestoreCause repo name old.files (SinkFailed old new) (DiskFailed old new)
 NoCauseOf (Pack file before) old new = NoPackCause file before old.files (SinkFailed old new) (DiskFailed old new)
+NoCauseOf (Serial file limit) old new = NoReplayCause BrokeAlone file limit old.files old.input (SourceFailed old new) (SinkFailed old new) (DiskFailed old new)
+NoCauseOf (Gen number) old new = NoDrawnCause number (SinkFailed old new)
 
 abbrev pub NoCause : List (List ℕ) → OutsideView → OutsideView → Type 0
 NoCause words old new = (asked : Asked) × (asked_of words ≡ Some asked) × NoCauseOf asked old new

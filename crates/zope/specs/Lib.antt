@@ -5,6 +5,7 @@ pub mod Replayed
 pub mod Numbers
 pub mod ReplayCauses
 pub mod CheckCauses
+pub mod Drawn
 pub mod DumpCauses
 pub mod MakeCauses
 pub mod Outside

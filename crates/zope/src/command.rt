@@ -4,15 +4,16 @@ ghost use Rattle.words.specs.Asking.{Asked as AskedView, asked_of};
 ghost use Rattle.words.specs.Views.{view};
 ghost use Rattle.zope.specs.Causes.{Cause, Did, LeavesFiles};
 ghost use Rattle.zope.specs.Outside.{outside};
-ghost use Rattle.zope.specs.Words.{IsInit, IsReplay, IsServe, file_in, named_in, new_in};
+ghost use Rattle.zope.specs.Words.{IsInit, IsReplay, IsSerial, IsServe, file_in, named_in, new_in};
 
 use crate::backing_up::back_up_file;
 use crate::checking::check_file;
 use crate::dumping::dump_file;
+use crate::generating::generate;
 use crate::making::make_new;
 use crate::packs::pack_site;
 use crate::refusal::Refusal;
-use crate::replaying::replay_file;
+use crate::replaying::{replay_file, serial_file};
 use crate::restoring::restore_file;
 use crate::serving::serve_site;
 use file_server::FileJob;
@@ -56,12 +57,14 @@ pub fn names_of<'a>(asked: &Asked<'a>) -> Names<'a>
         Asked::Backup { file, .. } => (*file, *file),
         Asked::Restore { repo, out } => (*repo, *out),
         Asked::Pack { file, .. } => (*file, *file),
+        Asked::Serial { file, .. } => (*file, *file),
+        Asked::Gen { .. } => ("", ""),
     };
     Names { file, new }
 }
 
-/// Runs a command: `init`, `replay`, `serve`, `check`, `dump`, `backup`, `restore` or `pack`. What is said of words holds of all that
-/// ask for it.
+/// Runs a command: `init`, `replay`, `serial`, `serve`, `check`, `dump`, `backup`, `restore`, `pack` or `gen`. What is said of words holds of all
+/// that ask for it.
 pub fn run_command<F: Shelf, S: Source, K: Sink, H: Hub, C: Clock>(
     alloc: Global,
     asked: Asked<'_>,
@@ -90,7 +93,8 @@ where
         (words : List (List ℕ)) → asked_of words ≡ Some (view asked.entry) → IfErr result (Cause words old new) }
     ensures files { (words : List (List ℕ)) → asked_of words ≡ Some (view asked.entry) → LeavesFiles words (F.files files.old) (F.files files.new) }
     ensures counts { Counts (K.counter out.old) (K.counter out.new) (IsErrOf result Refusal.Output) }
-    ensures unread { (words : List (List ℕ)) → asked_of words ≡ Some (view asked.entry) → (IsReplay words → ⊥) → input.new ≡ input.old }
+    ensures unread { (words : List (List ℕ)) → asked_of words ≡ Some (view asked.entry)
+        → (IsReplay words → ⊥) → (IsSerial words → ⊥) → input.new ≡ input.old }
     ensures unasked { (words : List (List ℕ)) → asked_of words ≡ Some (view asked.entry) → (IsServe words → ⊥) → hub.new ≡ hub.old }
     ensures untimed { (words : List (List ℕ)) → asked_of words ≡ Some (view asked.entry)
         → (IsInit words → ⊥) → (IsServe words → ⊥) → clock.new ≡ clock.old }
@@ -122,5 +126,7 @@ where
         Asked::Backup { file, repo, full } => back_up_file(alloc, file, repo, full, files, out),
         Asked::Restore { repo, out: name } => restore_file(alloc, repo, name, files, out),
         Asked::Pack { file, before } => pack_site(alloc, file, before, files, out),
+        Asked::Serial { file, limit } => serial_file(alloc, file, limit, files, input, out),
+        Asked::Gen { number } => generate(alloc, number, out),
     }
 }

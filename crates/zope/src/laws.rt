@@ -1,6 +1,7 @@
 ghost use Rattle.std.specs.Prelude.{◌≡◌, ℕ, List};
 ghost use Rattle.zbase.specs.History.{History};
 ghost use Rattle.http_in.specs.Messages.{one_message};
+ghost use Rattle.packing.specs.Reachable.{Linking};
 ghost use Rattle.schedule.specs.declared.item.Item2.{Item2};
 ghost use Rattle.schedule.specs.declared.line.Line.{Line};
 ghost use Rattle.schedule.specs.Counted.{ExplainedByCount};
@@ -38,12 +39,14 @@ pub fn giving_up_is_refuted()
 /// the page saw before, and all that the page looked at before was granted or passed over so; for a call, to the user for the
 /// object called on and the permission of that call.
 /// All this by the objects of the history up to the transaction that the reply names. And each transaction by which its
-/// history grew, acknowledged or not, is the change of a call whose permission its user was granted before it.
+/// history grew, acknowledged or not, is the change of a call whose permission its user was granted before it. That history is the one
+/// that the next pack prints, or else the report's last one, whatever records lead to by which a pack goes; what a pack that is done
+/// leaves begins the next history.
 pub fn replays_keep_access()
-    ensures shown { (limit end : ℕ) (h : History) (items : List Item2) (report : List Line)
-        (it : Explained (terms_of one_message site limit end) h items report) → AllShowRightly it.end.standing it.trace }
-    ensures changed { (limit end : ℕ) (h : History) (items : List Item2) (report : List Line)
-        (it : Explained (terms_of one_message site limit end) h items report) → AllGrowRightly it.end.standing it.trace }
+    ensures shown { (links : Linking) (limit end : ℕ) (h : History) (items : List Item2) (report : List Line)
+        (it : Explained (terms_of one_message site links limit end) h items report) → AllShowRightly it.trace it.end }
+    ensures changed { (links : Linking) (limit end : ℕ) (h : History) (items : List Item2) (report : List Line)
+        (it : Explained (terms_of one_message site links limit end) h items report) → AllGrowRightly it.trace it.end }
 {
     pages_show_rightly();
     changes_are_granted();
@@ -53,10 +56,10 @@ pub fn replays_keep_access()
 /// user hangs on no contents that he may not view (`publisher`'s `contents_stay_apart`), since each reading reply in it is that
 /// of an evaluation over a part of its history.
 pub fn servers_keep_access()
-    ensures shown { (limit end old new : ℕ) (h : History) (items : List Item2) (report : List Line)
-        (it : ExplainedByCount (terms_of one_message site limit end) old new h items report) → AllShowRightly it.end.standing it.trace }
-    ensures changed { (limit end old new : ℕ) (h : History) (items : List Item2) (report : List Line)
-        (it : ExplainedByCount (terms_of one_message site limit end) old new h items report) → AllGrowRightly it.end.standing it.trace }
+    ensures shown { (links : Linking) (limit end old new : ℕ) (h : History) (items : List Item2) (report : List Line)
+        (it : ExplainedByCount (terms_of one_message site links limit end) old new h items report) → AllShowRightly it.trace it.end }
+    ensures changed { (links : Linking) (limit end old new : ℕ) (h : History) (items : List Item2) (report : List Line)
+        (it : ExplainedByCount (terms_of one_message site links limit end) old new h items report) → AllGrowRightly it.trace it.end }
 {
     pages_show_rightly();
     changes_are_granted();

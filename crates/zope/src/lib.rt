@@ -5,6 +5,7 @@ mod backing_up;
 mod checking;
 mod command;
 mod dumping;
+mod generating;
 mod inputs;
 mod last_lines;
 mod laws;

@@ -1,10 +1,10 @@
-ghost use Rattle.std.specs.Prelude.{◌≡◌, ◌<◌, ◌≤◌, ◌⊎◌, ℕ, List, map, string_bytes};
+ghost use Rattle.std.specs.Prelude.{◌≡◌, ◌<◌, ◌≤◌, ◌⊎◌, map, string_bytes};
 ghost use Rattle.std.specs.Io.KnownBytes.{append_known};
 ghost use Rattle.zbase.specs.Faults.{Rose};
 ghost use Rattle.zope.specs.Causes.{LeavesFiles, NoCause, last_line};
-ghost use Rattle.zope.specs.Ends.{Ends, IsStatus, status_of};
+ghost use Rattle.zope.specs.Ends.{Ends, status_of};
 ghost use Rattle.zope.specs.Outside.{outside};
-ghost use Rattle.zope.specs.Words.{IsCommand, IsInit, IsReplay, IsServe};
+ghost use Rattle.zope.specs.Words.{IsInit, IsReplay, IsSerial, IsServe};
 
 use crate::command::{names_of, run_command};
 use crate::last_lines::put_last_line;
@@ -85,7 +85,8 @@ pub fn run<F: Shelf, S: Source, K: Sink, H: Hub, C: Clock>(
 ) -> Status
 where
     F::D: Drop,
-    // With 0 the words' command did what it says: a replay wrote a report that explains the schedule, a server gave each connection
+    // With 0 the words' command did what it says: a replay wrote a report that explains the schedule, or that of its requests one after
+    // another, a server gave each connection
     // the reply of the report that its tape's items have, a check wrote the file's numbers, a dump its history, a new site its file,
     // a backup put what is due of the file into its repository, a restore made the file again, and a pack left of the file what is needed.
     // Each other status is that of a refusal with its cause, which the last line names.
@@ -111,10 +112,10 @@ where
     // backup's piece and index, the file that is restored, and a part of a packed file whose pack broke off; a pack that ends well puts the
     // packed file in the place of the old one.
     ensures files { LeavesFiles (map string_bytes words.now) (F.files files.old) (F.files files.new) }
-    // Only a server asks the hub, only a replay reads its input, and only a new site and a server ask the clock.
+    // Only a server asks the hub, only a replay, of all items or of requests alone, reads its input, and only a new site and a server ask the clock.
     ensures alone { ((IsServe (map string_bytes words.now) → ⊥) → hub.new ≡ hub.old)
         × ((IsInit (map string_bytes words.now) → ⊥) → (IsServe (map string_bytes words.now) → ⊥) → clock.new ≡ clock.old)
-        × ((IsReplay (map string_bytes words.now) → ⊥) → input.new ≡ input.old) }
+        × ((IsReplay (map string_bytes words.now) → ⊥) → (IsSerial (map string_bytes words.now) → ⊥) → input.new ≡ input.old) }
 {
     one_schedule();
     one_bad_line();

@@ -17,7 +17,7 @@ pub returns-in-Ok-run_command-clause-files : goal.returns-in-Ok-run_command-clau
 returns-in-Ok-run_command-clause-files g c = c.run_command.ensures.files _ c.in-Ok.ensures.ok
 
 pub returns-in-Ok-run_command-clause-alone : goal.returns-in-Ok-run_command-clause-alone
-returns-in-Ok-run_command-clause-alone g c = ((λ other. c.run_command.ensures.unasked _ c.in-Ok.ensures.ok other), (λ other more. c.run_command.ensures.untimed _ c.in-Ok.ensures.ok other more), (λ other. c.run_command.ensures.unread _ c.in-Ok.ensures.ok other))
+returns-in-Ok-run_command-clause-alone g c = ((λ other. c.run_command.ensures.unasked _ c.in-Ok.ensures.ok other), (λ other more. c.run_command.ensures.untimed _ c.in-Ok.ensures.ok other more), (λ other more. c.run_command.ensures.unread _ c.in-Ok.ensures.ok other more))
 
 pub returns-in-Err-clause-ends : goal.returns-in-Err-clause-ends
 returns-in-Err-clause-ends g c =
@@ -49,7 +49,7 @@ pub returns-in-Err-clause-files : goal.returns-in-Err-clause-files
 returns-in-Err-clause-files g c = c.run_command.ensures.files _ c.in-Ok.ensures.ok
 
 pub returns-in-Err-clause-alone : goal.returns-in-Err-clause-alone
-returns-in-Err-clause-alone g c = ((λ other. c.run_command.ensures.unasked _ c.in-Ok.ensures.ok other), (λ other more. c.run_command.ensures.untimed _ c.in-Ok.ensures.ok other more), (λ other. c.run_command.ensures.unread _ c.in-Ok.ensures.ok other))
+returns-in-Err-clause-alone g c = ((λ other. c.run_command.ensures.unasked _ c.in-Ok.ensures.ok other), (λ other more. c.run_command.ensures.untimed _ c.in-Ok.ensures.ok other more), (λ other more. c.run_command.ensures.unread _ c.in-Ok.ensures.ok other more))
 
 pub returns-in-Err-Usage-clause-ends : goal.returns-in-Err-Usage-clause-ends
 returns-in-Err-Usage-clause-ends g c =
