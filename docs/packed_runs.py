@@ -15,7 +15,7 @@ which the run goes on: with the entries that are armed, their calls counted as f
 
 `serial` runs each request to its reply where it stands, and passes over steps, stops and failures.
 
-Nothing here runs or reads the product, and no driver reads these cases yet.
+Nothing here runs or reads the product.
 """
 
 import itertools
@@ -350,8 +350,8 @@ def at_each_time(file):
 def two_times(file):
     """Two packs, at all pairs of times, with commits between them and behind them."""
     table = Table(f"{file}_twice", file)
-    for first in (T0 - 1, T0, T0 + 4, T0 + 9, T0 + 10, MOST):
-        for second in (0, T0, T0 + 4, T0 + 9, T0 + 10, T0 + 11, MOST):
+    for first in (T0 - 1, T0 + 4, T0 + 9, MOST):
+        for second in (0, T0 + 4, T0 + 10, T0 + 11, MOST):
             for between in ([], each(copy(0, 1, 2), new(1, 1)))[file == "grown" :]:
                 said = "and commits between them" if between else "one directly behind the other"
                 items = each(copy(0, 1, 1), new(0, 2)) + [pack(first)] + between + [pack(second)] + each(new(1, 2), read(0, 1))
@@ -401,9 +401,9 @@ def until_unhit(table, title, items, seeds=(1, 5), sorts=("stop", "fail"), behin
 def stops():
     """A stop and a failure at each call around a pack."""
     table = Table("around", "linked")
-    for time in (T0 - 1, T0 + 1, MOST):
+    for time in (T0 + 1, MOST):
         items = [None] + each(copy(0, 1, 1)) + [pack(time)] + each(copy(0, 1, 1), read(1, 1))
-        until_unhit(table, f"a commit, a pack at {when(time)}, a commit and a look", items, seeds=(0, 1, 5) if time == T0 + 1 else (5,))
+        until_unhit(table, f"a commit, a pack at {when(time)}, a commit and a look", items, seeds=(0, 5) if time == T0 + 1 else (5,))
     items = each(copy(0, 1, 1)) + [None] + [pack(T0 + 1)] + each(copy(0, 1, 1), read(1, 1))
     until_unhit(table, "directly before a pack", items, seeds=(77,))
     items = each(copy(0, 1, 1), new(0, 1)) + [None] + [pack(T0 + 1), pack(T0 + 2)] + each(new(0, 1)) + [pack(T0 + 3)] + each(read(0, 1))
@@ -453,7 +453,7 @@ def stale():
                 run = table.add(f"{what} failed with seed {seed}: a pack at {when(time)}", before + [pack(time)] + each(read(1, 1), log(1), copy(0, 1, 1)))
                 assert call < 3 or b"unknown 0" in b"".join(run.blocks)
             items = before + [None] + [pack(T0 + 1)] + each(read(1, 1)) + [pack(T0 + 1)]
-            if call > 2 or seed == 5:
+            if seed == (0, 5, 1, 5)[call - 1]:
                 until_unhit(table, f"{what} failed with seed {seed}, a pack, a look and a pack", items, seeds=(seed,))
     for seed in (0, 1, 5):
         items = [copy(0, 1, 1)] + steps(0, 3) + [("fail", 4, seed)] + steps(0, 2) + [("fail", 2, 0), pack(T0 + 1), pack(T0 + 1)] + each(copy(1, 1, 1))

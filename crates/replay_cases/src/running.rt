@@ -1,17 +1,18 @@
+use case_links::ByteLinks;
 use cases::{Case, CasesRefusal, Part, Runner, add_bytes, add_line};
 use evaluator::Cells;
 use fs_record::MAX_LENGTH;
-use replay::{RunRefusal, replay};
+use replay::{RunRefusal, replay, serial};
 use schedule::{Schedule, read_schedule};
 use std::alloc::Global;
 use zbase::{Bytes, FaultPlan};
 use zdisk::{Disk, MemoryDisk};
 use zio::MemorySink;
 
-/// Replays over the evaluator of cells: of `file` with its bytes, `limit NUMBER` (100,000 where there is none), `input`
-/// with a schedule and `failing output NUMBER` come `status done`, `status line NUMBER`, `status damaged KIND PLACE`, `status
-/// output` or `status memory`, `output` with all that was written, and with `status done` the `disk` that came back, with
-/// what it reads.
+/// Replays over the evaluator of cells, whose values link to what their bytes name: of `file` with its bytes, `limit NUMBER`
+/// (100,000 where there is none), `input` with a schedule, `alone` where its requests are run one by one, and `failing output
+/// NUMBER` come `status done`, `status line NUMBER`, `status damaged KIND PLACE`, `status output` or `status memory`, `output`
+/// with all that was written, and with `status done` the `disk` that came back, with what it reads.
 #[derive(Drop)]
 pub struct CellRuns;
 
@@ -62,7 +63,11 @@ fn ran(
         return Err(CasesRefusal::Missing);
     }
     let evaluator = Cells::new(alloc);
-    Ok(replay(alloc, bytes, limit, &schedule, evaluator, sink))
+    let links = ByteLinks::new(alloc);
+    Ok(match case.part("alone") {
+        Some(_) => serial(alloc, bytes, limit, &schedule, evaluator, &links, sink),
+        None => replay(alloc, bytes, limit, &schedule, evaluator, &links, sink),
+    })
 }
 
 // The parts of what a disk reads that came back, or of why none did.
@@ -83,7 +88,7 @@ fn ended(alloc: Global, ran: Result<MemoryDisk, RunRefusal>) -> Result<Vec<Part>
 
 impl Runner for CellRuns {
     fn knows(&self, key: &str) -> bool {
-        key == "file" || key == "limit" || key == "input" || key == "failing"
+        key == "file" || key == "limit" || key == "input" || key == "alone" || key == "failing"
     }
 
     fn run(&self, alloc: Global, case: &Case) -> Result<Vec<Part>, CasesRefusal> {

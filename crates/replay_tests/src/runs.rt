@@ -1,3 +1,4 @@
+use case_links::ByteLinks;
 use evaluator::Evaluator;
 use replay::{RunRefusal, replay};
 use schedule::Schedule;
@@ -15,7 +16,9 @@ pub(crate) fn ran<E: Evaluator>(
 ) -> Result<(Option<RunRefusal>, String), Fail> {
     let file = Bytes::from_slice(alloc, b"FS21")?;
     let mut sink = MemorySink::new(alloc, FaultPlan::new(Vec::new(alloc)));
-    let refusal = replay(alloc, file, 1_000, schedule, evaluator, &mut sink).err();
+    let links = ByteLinks::new(alloc);
+    let ran = replay(alloc, file, 1_000, schedule, evaluator, &links, &mut sink);
+    let refusal = ran.err();
     let Ok(text) = str::from_utf8(sink.bytes()) else {
         return Err(Fail::from("no text"));
     };

@@ -7,6 +7,7 @@ use fs_record::MAX_LENGTH;
 use publisher::Site;
 use replay::replay;
 use schedule::{Schedule, read_schedule};
+use site_links::SiteLinks;
 use std::alloc::Global;
 use zbase::{Bytes, FaultPlan};
 use zio::MemorySink;
@@ -36,7 +37,8 @@ fn replay_over(
     }
     let mut sink = MemorySink::new(alloc, FaultPlan::none(alloc));
     let site = Site::new(alloc);
-    let Ok(disk) = replay(alloc, file, limit, schedule, site, &mut sink) else {
+    let links = SiteLinks::new(alloc);
+    let Ok(disk) = replay(alloc, file, limit, schedule, site, &links, &mut sink) else {
         return Ok(None);
     };
     let mut disk = disk;

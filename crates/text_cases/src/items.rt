@@ -31,6 +31,7 @@ pub fn item_of(alloc: Global, part: &Part) -> Result<Item2, CasesRefusal> {
         ("clock", [stamp]) => Item2::Clock(Tid(*stamp)),
         ("stop", [call, seed]) => Item2::Stop(*call, *seed),
         ("fail", [call, seed]) => Item2::Fail(*call, *seed),
+        ("pack", [before]) => Item2::Pack(Tid(*before)),
         ("end", []) => Item2::End,
         _ => return Err(CasesRefusal::BadPart(part.line)),
     };
@@ -56,6 +57,10 @@ fn put_shown(alloc: Global, item: &Item2, out: &mut Bytes) -> Result<(), Memory>
         }
         Item2::Stop(call, seed) => format!(in alloc; "stop {call} {seed}")?,
         Item2::Fail(call, seed) => format!(in alloc; "fail {call} {seed}")?,
+        Item2::Pack(before) => {
+            let before = before.0;
+            format!(in alloc; "pack {before:016x}")?
+        }
         Item2::End => String::from_str(alloc, "end")?,
     };
     out.append(text.as_bytes())?;

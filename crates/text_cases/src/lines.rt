@@ -66,6 +66,12 @@ fn plain_line(kind: &str, numbers: &[u64]) -> Option<Line> {
         ("history", [count]) => Line::History(*count),
         ("floor", [tid]) => Line::Floor(Tid(*tid)),
         ("record-none", [oid]) => Line::RecordRow(Oid(*oid), None),
+        ("packed", [floor, count]) => Line::Packed(Tid(*floor), *count),
+        ("pack-busy", []) => Line::PackBusy,
+        ("pack-unreadable", [oid]) => Line::PackUnreadable(Oid(*oid)),
+        ("pack-full", [need, limit]) => Line::PackFull(*need, *limit),
+        ("pack-memory", []) => Line::PackMemory,
+        ("packfault", []) => Line::PackFault,
         ("end", []) => Line::End,
         _ => return None,
     };
