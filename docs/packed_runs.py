@@ -1,6 +1,6 @@
 #!/usr/bin/env python3
-"""Writes the cases of schedules with packs, and of requests that are run one by one: data/packs.cases of replay_cases, and
-data/sections.cases and data/serial.cases of zope_cases.
+"""Writes the cases of schedules with packs, of requests that are run one by one, and of runs that numbers draw: data/packs.cases of
+replay_cases, and data/sections.cases, data/serial.cases and data/gen.cases of zope_cases.
 
     python3 docs/packed_runs.py replay > crates/replay_cases/data/packs.cases
     python3 docs/packed_runs.py zope > crates/zope_cases/data/sections.cases
