@@ -25,14 +25,14 @@ use Rattle.fs_record.specs.Written.{IsWritable, data_of, records_of, said_by, tr
 use Rattle.fs_record.specs.WrittenLaws.{history-transaction, right_behind}
 use Rattle.fs_scan.specs.Newest.{place_in}
 use Rattle.fs_store.specs.declared.file.OpenFile.{OpenFile}
-use Rattle.fs_store.specs.declared.reads.Seen.{Seen}
+use Rattle.fs_store.specs.declared.reads.Loaded.{Loaded}
 use Rattle.fs_store.specs.declared.waiting.Waiting.{Waiting}
 use Rattle.fs_store.specs.Fronts.{file_at, front_at, front_in, history_at, history_where, records_at}
 use Rattle.fs_store.specs.Kept.{IsKept, Knowable, StandsBehind, out_of}
 use Rattle.fs_store.specs.Knowing.{Knows}
 use Rattle.fs_store.specs.Moments.{OpensTo}
 use Rattle.fs_store.specs.Placed.{first_at, item_rows, next_with}
-use Rattle.fs_store.specs.Seeing.{SeenIn, SeenOn}
+use Rattle.fs_store.specs.Seeing.{ReadIn, ReadOn}
 use Rattle.fs_store.specs.Stores.{most_length}
 use Rattle.zbase.specs.Limits.{greatest_number}
 use Rattle.fs_store.proofs.Files.{file_front}
@@ -229,22 +229,23 @@ stands_counted (Some t) (Some u) k k' w limit calls bytes kept became learnt =
     let file = whole_counted t u k k' w kept.knows v.size_is is learnt in
     ap (λ (f : Front). f.history) (front_counted t u k k' w kept.knows v.stands v.writable file) ∙ history_counted t k w
 
-pub seen_counted : (o u : Option Told) (k k' : OpenFile) (w : Waiting) (limit calls bytes : ℕ) (s : Seen) → IsKept o k limit (Some w) calls bytes → Becomes o u (λ file. slice_set file (k.end + 16) 32) → Learnt k k' w → SeenOn o k.end s → SeenOn u k'.end s
-seen_counted None None k k' w limit calls bytes s kept became learnt seen = tt
-seen_counted None (Some u) k k' w limit calls bytes s kept became learnt seen = absurd became
-seen_counted (Some t) None k k' w limit calls bytes s kept became learnt seen = absurd became
-seen_counted (Some t) (Some u) k k' w limit calls bytes s kept became learnt seen =
+pub read_counted : (o u : Option Told) (k k' : OpenFile) (w : Waiting) (limit calls bytes : ℕ) (oid : ℕ) (s : Loaded) → IsKept o k limit (Some w) calls bytes → Becomes o u (λ file. slice_set file (k.end + 16) 32) → Learnt k k' w → ReadOn o k.end oid s → ReadOn u k'.end oid s
+read_counted None None k k' w limit calls bytes oid s kept became learnt seen = tt
+read_counted None (Some u) k k' w limit calls bytes oid s kept became learnt seen = absurd became
+read_counted (Some t) None k k' w limit calls bytes oid s kept became learnt seen = absurd became
+read_counted (Some t) (Some u) k k' w limit calls bytes oid s kept became learnt seen =
     let v = kept.waits in
     let is = content_counted t u k w kept.knows v.stands became.1 in
     let file = whole_counted t u k k' w kept.knows v.size_is is learnt in
     let front = front_counted t u k k' w kept.knows v.stands v.writable file in
-    let more : SeenIn (file_at t k.end ++ piece_of 32 k w) (counted_front t k w) s.oid s.serial s.place = record {
+    let more : ReadIn (file_at t k.end ++ piece_of 32 k w) (counted_front t k w) oid s = record {
       at = seen.at;
       passed = grows (file_at t k.end) (front_at t k.end) seen.at _ seen.passed (right_counted t k w kept.knows v.stands v.writable);
       serial_is = seen.serial_is;
       place_is = seen.place_is;
+      value_is = seen.value_is;
     } in
-    subst (λ (f : Front). SeenIn (file_at u k'.end) f s.oid s.serial s.place) (sym front) (subst (λ (b : List ℕ). SeenIn b (counted_front t k w) s.oid s.serial s.place) (sym file) more)
+    subst (λ (f : Front). ReadIn (file_at u k'.end) f oid s) (sym front) (subst (λ (b : List ℕ). ReadIn b (counted_front t k w) oid s) (sym file) more)
 
 -- before or after, at every moment
 abbrev Sets : ℕ → List ℕ → List ℕ → Type 0

@@ -12,6 +12,7 @@ pub mod OpeningCosts
 pub mod OpeningMoments
 pub mod PutBack
 pub mod Readings
+pub mod Recents
 pub mod Stale
 pub mod Sought
 pub mod Sorting

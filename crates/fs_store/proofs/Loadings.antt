@@ -1,5 +1,5 @@
 -- What is loaded of an object.
-use Rattle.std.proofs.Common.{◌≡◌, ℕ, ◌+◌, ◌≤◌, List, drop, Option, Some, None, IfSome, refl, sym, ap, subst, ◌∙◌, arith, inl, inr}
+use Rattle.std.proofs.Common.{◌≡◌, ℕ, ◌+◌, ◌≤◌, List, drop, Option, Some, None, IfSome, refl, sym, ap, subst, arith, inl, inr}
 use Rattle.std.proofs.lemmas.List.{take-append-drop}
 use Rattle.zbase.specs.History.{Value}
 use Rattle.zbase.specs.Values.{serial_of, value_of}
@@ -22,12 +22,19 @@ all_stand told known k =
     subst (λ (bytes : List ℕ). AllStand bytes (records_at told known.end)) (take-append-drop known.end (content told)) (each_stands (file_at told known.end) (drop known.end (content told)) (front_at told known.end) k.file)
 
 pub loaded_none : (told : Told) (end oid t : ℕ) → FoundNone told end oid t → IsLoaded told end oid t (record { value = None; serial = 0; place = 0 })
-loaded_none told end oid t f = record { value_is = sym (ap value_of f.none); serial_is = sym (ap serial_of f.none); seen = f.seen }
+loaded_none told end oid t f = record { value_is = sym (ap value_of f.none); serial_is = sym (ap serial_of f.none); read = f.read }
 
 pub loaded_at : (told : Told) (end oid t : ℕ) (found : Record) (v : Value) → FoundAt told end oid t found.place found.head → v ≡ value_at found.place (records_at told end) → IsLoaded told end oid t (record { value = v; serial = found.head.tid; place = found.place })
-loaded_at told end oid t found v f is = record { value_is = is ∙ sym (ap value_of f.newest_is); serial_is = sym (ap serial_of f.newest_is); seen = f.seen }
+loaded_at told end oid t found v f is =
+    subst (λ (x : Value). IsLoaded told end oid t (record { value = x; serial = found.head.tid; place = found.place })) (sym is)
+    (record { value_is = sym (ap value_of f.newest_is); serial_is = sym (ap serial_of f.newest_is); read = f.read })
 
 -- ---- what it has cost
+
+-- no call costs no more than it may
+pub costs_none : (o : Option Told) (end oid t calls : ℕ) → IfSome o (λ told. CostsLoad told end oid t calls calls)
+costs_none None end oid t calls = tt
+costs_none (Some told) end oid t calls = record { backs = 0; followed = inl refl; within = omega arith }
 
 pub costs_found : (told : Told) (end oid t calls more : ℕ) → more ≤ calls + 1 + later_than (history_at told end) t oid → CostsLoad told end oid t calls more
 costs_found told end oid t calls more le = record { backs = 0; followed = inl refl; within = omega (arith, le) }

@@ -1,7 +1,7 @@
 -- From an object's newest record back to the one up to a transaction.
 use Rattle.std.proofs.Common.{◌≡◌, ℕ, ◌+◌, ◌<◌, ◌≤◌, List, ◌++◌, drop, Option, Some, None, refl, sym, ap, subst, ◌∙◌, arith}
 use Rattle.std.proofs.lemmas.List.{take-append-drop}
-use Rattle.zbase.specs.Values.{Revision, serial_of}
+use Rattle.zbase.specs.Values.{Revision, serial_of, value_of}
 use Rattle.zdisk.specs.Disk.{Told, content}
 use Rattle.fs_record.specs.declared.heads.DataHead.{DataHead}
 use Rattle.fs_record.specs.File.{last_place, rows, value_at}
@@ -54,17 +54,24 @@ found_here told end oid t place calls now head w positive tells le =
       above = positive;
       is_head = head_there told place head tells;
       newest_is = w.same ∙ l.here t (omega (arith, le, tid)) ∙ ap (λ (n : ℕ). let r : Revision = record { tid = n; oid = oid; value = value_at place (records_at told end) } in Some r) (sym tid);
-      seen = record { at = w.at; passed = w.passed; serial_is = tid ∙ sym l.serial_is; place_is = w.place_is };
+      read = record {
+        at = w.at;
+        passed = w.passed;
+        serial_is = tid ∙ sym l.serial_is;
+        place_is = w.place_is;
+        value_is = λ later le. sym (ap value_of (l.here later (omega (arith, le, tid))));
+      };
     }
 
 pub none_here : (told : Told) (end oid t place calls now : ℕ) → WayBack told end oid t place calls now → place ≡ 0 → FoundNone told end oid t
 none_here told end oid t place calls now w zero = record {
   none = w.same ∙ none (file_at told end) (front_at told end) w.at oid w.passed (sym w.place_is ∙ zero) t;
-  seen = record {
+  read = record {
     at = w.at;
     passed = w.passed;
     serial_is = sym (ap serial_of (none_at_all (file_at told end) (front_at told end) w.at oid w.passed (sym w.place_is ∙ zero)));
     place_is = sym zero ∙ w.place_is;
+    value_is = λ later le. sym (ap value_of (none (file_at told end) (front_at told end) w.at oid w.passed (sym w.place_is ∙ zero) later));
   };
 }
 

@@ -10,7 +10,7 @@ use Rattle.fs_record.specs.Walks.{Passed, later_than, newest_upto}
 use Rattle.fs_scan.specs.Backs.{LeadsTo}
 use Rattle.fs_store.specs.declared.finding.Record.{Record}
 use Rattle.fs_store.specs.Fronts.{file_at, front_at, history_at, records_at}
-use Rattle.fs_store.specs.Seeing.{SeenIn}
+use Rattle.fs_store.specs.Seeing.{ReadIn}
 
 -- the record that stands at the place has this head
 abbrev pub HasHead : List ℕ → ℕ → DataHead → Type 0
@@ -22,12 +22,12 @@ pub record FoundAt (told : Told) (end oid t place : ℕ) (head : DataHead) : Typ
   pub above : 0 < place
   pub is_head : HasHead (content told) place head
   pub newest_is : newest_upto (history_at told end) t oid ≡ Some (record { tid = head.tid; oid = oid; value = value_at place (records_at told end) })
-  pub seen : SeenIn (file_at told end) (front_at told end) oid head.tid place
+  pub read : ReadIn (file_at told end) (front_at told end) oid (record { value = value_at place (records_at told end); serial = head.tid; place = place })
 
 -- up to that transaction the object has no record
 pub record FoundNone (told : Told) (end oid t : ℕ) : Type 0 where
   pub none : newest_upto (history_at told end) t oid ≡ None
-  pub seen : SeenIn (file_at told end) (front_at told end) oid 0 0
+  pub read : ReadIn (file_at told end) (front_at told end) oid (record { value = None; serial = 0; place = 0 })
 
 abbrev pub FoundIn : Told → ℕ → ℕ → ℕ → Option Record → Type 0
 FoundIn told end oid t None = FoundNone told end oid t

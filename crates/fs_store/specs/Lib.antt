@@ -9,6 +9,7 @@ pub mod Opened
 pub mod Parts
 pub mod Placed
 pub mod Pointing
+pub mod Recent
 pub mod Reopening
 pub mod Seeing
 pub mod Seeking

@@ -13,10 +13,10 @@ ghost use Rattle.fs_store.specs.Fronts.{history_at, history_where, records_where
 ghost use Rattle.fs_store.specs.Kept.{IsKept, Knowable, out_of};
 ghost use Rattle.fs_store.specs.Moments.{OpensTo};
 ghost use Rattle.fs_store.specs.Placed.{first_at, item_rows, next_with};
-ghost use Rattle.fs_store.specs.Seeing.{SeenOn};
+ghost use Rattle.fs_store.specs.Seeing.{ReadOn};
 ghost use Rattle.fs_store.specs.Staleness.{IsUnsettled};
 ghost use Rattle.fs_store.specs.Stores.{most_length};
-ghost use Rattle.fs_store.specs.declared.reads.Seen.{Seen};
+ghost use Rattle.fs_store.specs.declared.reads.Loaded.{Loaded};
 
 use crate::file::OpenFile;
 use crate::waiting::Waiting;
@@ -71,7 +71,7 @@ impl OpenFile {
         ensures unsettled { OnErr result (IfSome (D.told disk.new) (IsUnsettled self.old.end (Some waiting.now))) }
         ensures records { OnErr result (records_where (D.told disk.new) self.old.end ≡ records_where (D.told disk.old) self.old.end) }
         ensures history { OnErr result (history_where (D.told disk.new) self.old.end ≡ history_where (D.told disk.old) self.old.end) }
-        ensures seen { (s : Seen) → SeenOn (D.told disk.old) self.old.end s → SeenOn (D.told disk.new) self.new.end s }
+        ensures read { (oid : ℕ) (loaded : Loaded) → ReadOn (D.told disk.old) self.old.end oid loaded → ReadOn (D.told disk.new) self.new.end oid loaded }
         ensures any_moment { LeavesFrom (D.told disk.old) (D.told disk.new)
             (λ file image. OpensTo image (history_where (D.told disk.old) self.old.end) self.old.end
             ⊎ OpensTo image (added (history_where (D.told disk.old) self.old.end) (out_of (D.told disk.old) self.old.end waiting.now).transaction)
@@ -116,7 +116,7 @@ impl OpenFile {
         ensures unsettled { OnErr result (IfSome (D.told disk.new) (IsUnsettled self.old.end None)) }
         ensures end { self.new.end ≡ self.old.end }
         ensures history { history_where (D.told disk.new) self.old.end ≡ history_where (D.told disk.old) self.old.end }
-        ensures seen { (s : Seen) → SeenOn (D.told disk.old) self.old.end s → SeenOn (D.told disk.new) self.old.end s }
+        ensures read { (oid : ℕ) (loaded : Loaded) → ReadOn (D.told disk.old) self.old.end oid loaded → ReadOn (D.told disk.new) self.new.end oid loaded }
         ensures any_moment { LeavesFrom (D.told disk.old) (D.told disk.new)
             (λ file image. OpensTo image (history_where (D.told disk.old) self.old.end) self.old.end) }
         ensures calls { OnOk result ((D.counter disk.new).calls ≡ counted (counted (D.counter disk.old).calls)) }

@@ -1,4 +1,4 @@
-ghost use Rattle.std.specs.Prelude.{◌≡◌, ℕ, List, Some};
+ghost use Rattle.std.specs.Prelude.{ℕ, Some};
 ghost use Rattle.zbase.specs.History.{IsPrefixOf};
 ghost use Rattle.zdisk.specs.Disk.{Told, content};
 ghost use Rattle.fs_record.specs.declared.damage.Damage.{Damage as Kind};

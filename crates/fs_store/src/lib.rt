@@ -26,6 +26,7 @@ mod logging;
 mod opening;
 mod parts;
 mod reads;
+mod recent;
 mod refusal;
 mod seeking;
 mod settling;

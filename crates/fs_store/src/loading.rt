@@ -7,9 +7,11 @@ ghost use Rattle.fs_scan.specs.OnlyReads.{OnlyReads};
 ghost use Rattle.fs_store.specs.Finding.{CostsLoad, HasHead};
 ghost use Rattle.fs_store.specs.Fronts.{records_at};
 ghost use Rattle.fs_store.specs.Knowing.{IsKnown};
+ghost use Rattle.fs_store.specs.Recent.{AreRead};
 ghost use Rattle.fs_store.specs.Seeing.{IsLoaded};
 
 use crate::file::OpenFile;
+use crate::recent::Recent;
 use crate::{LoadRefusal, Loaded};
 use fs_record::DataHead;
 use fs_scan::{ScanRefusal, follow_from};
@@ -71,5 +73,32 @@ impl OpenFile {
                 })
             }
         }
+    }
+
+    /// What an object was up to a transaction, by no device call where its newest record is kept and isn't later, and else as
+    /// `load` has it. That record is kept then.
+    pub(crate) fn recall<D: Disk>(
+        &self,
+        alloc: Global,
+        disk: &mut D,
+        recent: &mut Recent,
+        oid: Oid,
+        at: Tid,
+    ) -> Result<Loaded, LoadRefusal>
+        requires known { IsKnown (D.told disk.old) self.now }
+        requires read { AreRead (D.told disk.old) self.now.end recent.old }
+        ensures loaded { IfOk result (λ loaded. IfSome (D.told disk.old) (λ told. IsLoaded told self.now.end oid at loaded)) }
+        ensures reads { IfSome (D.told disk.old) (λ told. CostsLoad told self.now.end oid at (D.counter disk.old).calls (D.counter disk.new).calls) }
+        ensures only_reads { OnlyReads D.Disk disk.old disk.new (IsErrOf result LoadRefusal.Disk) }
+        ensures read { AreRead (D.told disk.new) self.now.end recent.new }
+    {
+        let place = self.place(oid);
+        if let Some(loaded) = recent.get(oid, place, at)? {
+            return Ok(loaded);
+        }
+        let loaded = self.load(alloc, disk, oid, at)?;
+        // where there is no memory for it, it is read again
+        let _ = recent.keep(oid, place, &loaded);
+        Ok(loaded)
     }
 }

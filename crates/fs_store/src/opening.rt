@@ -11,10 +11,10 @@ ghost use Rattle.fs_store.specs.Opened.{BringsNot, CostsOpening, CutOffFailed, C
 ghost use Rattle.fs_store.specs.FileReads.{Reads, above, of_scan};
 ghost use Rattle.fs_store.specs.Fronts.{history_where, records_where};
 ghost use Rattle.fs_store.specs.Kept.{IsKept};
-ghost use Rattle.fs_store.specs.Seeing.{SeenOn};
+ghost use Rattle.fs_store.specs.Seeing.{ReadOn};
 ghost use Rattle.fs_store.specs.Staleness.{EitherOf, IsUnsettled, SettlesOn};
 ghost use Rattle.fs_store.specs.Stores.{most_length};
-ghost use Rattle.fs_store.specs.declared.reads.Seen.{Seen};
+ghost use Rattle.fs_store.specs.declared.reads.Loaded.{Loaded};
 ghost use Rattle.fs_store.specs.declared.opening.OpenRefusal.{OpenRefusal};
 ghost use Rattle.fs_store.specs.declared.opening.OpenRefusal.TheVariants as refusals;
 
@@ -216,7 +216,7 @@ impl OpenFile {
         ensures unsettled { OnErr result (IfSome (D.told disk.new) (IsUnsettled self.old.end undecided.now)) }
         ensures history { OnErr result (history_where (D.told disk.new) self.old.end ≡ history_where (D.told disk.old) self.old.end) }
         ensures records { OnErr result (records_where (D.told disk.new) self.old.end ≡ records_where (D.told disk.old) self.old.end) }
-        ensures seen { (seen : Seen) → SeenOn (D.told disk.old) self.old.end seen → SeenOn (D.told disk.new) self.new.end seen }
+        ensures read { (oid : ℕ) (loaded : Loaded) → ReadOn (D.told disk.old) self.old.end oid loaded → ReadOn (D.told disk.new) self.new.end oid loaded }
         ensures tells { IsSome (D.told disk.old) ↔ IsSome (D.told disk.new) }
         ensures costs { IfSome (D.told disk.old) (λ told. CostsOpening (content told) (D.counter disk.old).calls (D.counter disk.new).calls) }
         ensures any_moment { LeavesFrom (D.told disk.old) (D.told disk.new) (λ file image. EitherOf (D.told disk.old) self.old.end undecided.now image) }

@@ -11,23 +11,14 @@ ghost use Rattle.fs_store.specs.Finding.{CostsLoad};
 ghost use Rattle.fs_store.specs.Seeking.{CostsLoads, CostsParts, CostsValues, objects_of};
 
 use crate::file::OpenFile;
+use crate::reads::copy_of;
 use crate::{LoadRefusal, Loaded};
 use evaluator::{Part, Parts};
 use fs_scan::{OidValue, OidValues, values_at};
 use std::alloc::Global;
 use std::collections::BTreeSet;
-use zbase::{Memory, Tid, Value};
+use zbase::Tid;
 use zdisk::Disk;
-
-/// A second value of the same bytes.
-fn copy_of(value: &Value) -> Result<Value, Memory>
-    ensures { IfOk result (λ copy. copy ≡ value.now) }
-{
-    match value {
-        None => Ok(None),
-        Some(bytes) => Ok(Some(bytes.copy()?)),
-    }
-}
 
 impl OpenFile {
     // The values that the transaction with this id gives, where there is one.

@@ -25,6 +25,7 @@ ghost use Rattle.fs_store.specs.declared.refusal.VoteRefusal.{VoteRefusal};
 
 use crate::file::OpenFile;
 use crate::opening::{FileRead, open_file};
+use crate::recent::Recent;
 use crate::voting::Ballot;
 use crate::waiting::Waiting;
 use crate::{
@@ -42,6 +43,8 @@ pub struct Store<D: Disk + Drop> {
     alloc: Global,
     pub(crate) disk: D,
     file: OpenFile,
+    /// The records that were loaded last, so that they aren't read again.
+    recent: Recent,
     limit: u64,
     out: Option<Waiting>,
     /// The transaction of a finish that failed, until the disk is opened again.
@@ -54,6 +57,7 @@ impl<D: Disk + Drop> Model for Store<D> {
     ghost use Rattle.std.specs.Option.{option_map};
     ghost use Rattle.fs_store.specs.Fronts.{history_where};
     ghost use Rattle.fs_store.specs.Kept.{IsKept, out_of};
+    ghost use Rattle.fs_store.specs.Recent.{AreRead};
     ghost use Rattle.fs_store.specs.Staleness.{IsUnsettled};
     ghost use Rattle.fs_store.specs.Stores.{StoreView, most_length};
 
@@ -76,7 +80,8 @@ impl<D: Disk + Drop> Model for Store<D> {
     ghost invariant = { λ store. (store.limit ≤ most_length)
         × (store.stale ≡ false → (store.undecided ≡ None)
         × IsKept (D.told store.disk) store.file store.limit store.out (D.spare_calls store.disk) (D.spare_bytes store.disk))
-        × (store.stale ≡ true → (store.out ≡ None) × IfSome (D.told store.disk) (IsUnsettled store.file.end store.undecided)) };
+        × (store.stale ≡ true → (store.out ≡ None) × IfSome (D.told store.disk) (IsUnsettled store.file.end store.undecided))
+        × AreRead (D.told store.disk) store.file.end store.recent };
 }
 
 impl<D: Disk + Drop> Store<D> {
@@ -107,6 +112,7 @@ impl<D: Disk + Drop> Store<D> {
                     alloc,
                     disk,
                     file,
+                    recent: Recent::new(alloc),
                     limit,
                     out: None,
                     undecided: None,
@@ -161,6 +167,7 @@ impl<D: Disk + Drop> Store<D> {
         if !self.stale {
             return Ok(());
         }
+        self.recent.clear();
         self.file
             .open_again(self.alloc, &mut self.disk, self.limit, &self.undecided)?;
         self.undecided = None;
@@ -185,8 +192,8 @@ impl<D: Disk + Drop> Store<D> {
     }
 
     /// What the object was up to the transaction `at`. It costs at most two device calls for its last record, two for each
-    /// later one that is passed, and two for each back pointer that is followed. A stale store is opened again first, which
-    /// costs what an opening costs.
+    /// later one that is passed, and two for each back pointer that is followed; none where that is the object's newest record
+    /// and is kept, as those are that were loaded last. A stale store is opened again first, which costs what an opening costs.
     pub fn load(&mut self, oid: Oid, at: Tid) -> Result<Loaded, LoadRefusal>
         ensures value { IfOk result (λ loaded. IsTold self.new
             → (loaded.value ≡ value (upto self.new.history at) oid) × (loaded.serial ≡ serial (upto self.new.history at) oid)) }
@@ -208,7 +215,8 @@ impl<D: Disk + Drop> Store<D> {
         ensures counts { Counts self.old.disk.counter self.new.disk.counter (IsErrOf result LoadRefusal.Disk) }
     {
         self.refresh()?;
-        self.file.load(self.alloc, &mut self.disk, oid, at)
+        self.file
+            .recall(self.alloc, &mut self.disk, &mut self.recent, oid, at)
     }
 
     /// What the transaction did, where there is one with this id above the floor and up to the transaction `at`. The file is
@@ -435,6 +443,7 @@ impl<D: Disk + Drop> Store<D> {
             alloc: _,
             disk,
             file: _,
+            recent: _,
             limit: _,
             out: _,
             undecided: _,

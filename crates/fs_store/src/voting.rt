@@ -12,11 +12,11 @@ ghost use Rattle.fs_store.specs.Fronts.{history_at, history_where};
 ghost use Rattle.fs_store.specs.Kept.{IsKept, IsVoted, out_of};
 ghost use Rattle.fs_store.specs.Moments.{OpensTo};
 ghost use Rattle.fs_store.specs.Pointing.{PointsToData};
-ghost use Rattle.fs_store.specs.Seeing.{SeenOn};
+ghost use Rattle.fs_store.specs.Seeing.{ReadOn, SeenOn};
 ghost use Rattle.fs_store.specs.Staleness.{IsUnsettled};
 ghost use Rattle.fs_store.specs.Stores.{IsDraft, most_length};
 ghost use Rattle.fs_store.specs.Verdicts.{IsFree, clash_among, validation_at};
-ghost use Rattle.fs_store.specs.declared.reads.Seen.{Seen};
+ghost use Rattle.fs_store.specs.declared.reads.Loaded.{Loaded};
 ghost use Rattle.fs_store.specs.declared.refusal.VoteRefusal.{VoteRefusal};
 
 use crate::file::OpenFile;
@@ -116,7 +116,7 @@ impl OpenFile {
         ensures unsettled { OnErr result (IfSome (D.told disk.new) (IsUnsettled self.new.end None)) }
         ensures end { self.new.end ≡ self.old.end }
         ensures history { history_where (D.told disk.new) self.old.end ≡ history_where (D.told disk.old) self.old.end }
-        ensures seen { (s : Seen) → SeenOn (D.told disk.old) self.old.end s → SeenOn (D.told disk.new) self.old.end s }
+        ensures read { (oid : ℕ) (loaded : Loaded) → ReadOn (D.told disk.old) self.old.end oid loaded → ReadOn (D.told disk.new) self.new.end oid loaded }
         ensures any_moment { LeavesFrom (D.told disk.old) (D.told disk.new)
             (λ file image. OpensTo image (history_where (D.told disk.old) self.old.end) self.old.end) }
         ensures calls { OnOk result (LooksForNothing ballot.draft → (D.counter disk.new).calls ≡ counted (counted (D.counter disk.old).calls)) }
@@ -163,7 +163,7 @@ impl OpenFile {
         ensures unsettled { OnErr result (IfSome (D.told disk.new) (IsUnsettled self.new.end None)) }
         ensures end { self.new.end ≡ self.old.end }
         ensures history { history_where (D.told disk.new) self.old.end ≡ history_where (D.told disk.old) self.old.end }
-        ensures seen { (s : Seen) → SeenOn (D.told disk.old) self.old.end s → SeenOn (D.told disk.new) self.old.end s }
+        ensures read { (oid : ℕ) (loaded : Loaded) → ReadOn (D.told disk.old) self.old.end oid loaded → ReadOn (D.told disk.new) self.new.end oid loaded }
         ensures any_moment { LeavesFrom (D.told disk.old) (D.told disk.new)
             (λ file image. OpensTo image (history_where (D.told disk.old) self.old.end) self.old.end) }
         ensures calls { OnOk result (LooksForNothing draft → (D.counter disk.new).calls ≡ counted (counted (D.counter disk.old).calls)) }

@@ -1,7 +1,7 @@
 use Rattle.std.proofs.Common.{Result, Ok, Err}
 use Rattle.std.specs.Prelude.{OnErr}
 use Rattle.fs_store.proofs.CutOff.{history_cut, kept_cut, moments_cut}
-use Rattle.fs_store.proofs.Unsettling.{cut_seen, cut_unsettled}
+use Rattle.fs_store.proofs.Unsettling.{cut_read, cut_unsettled}
 use Rattle.fs_store.proofs.file.OpenFile.abort_on.Goals as goal
 
 pub returns-clause-kept : goal.returns-clause-kept
@@ -20,8 +20,8 @@ returns-clause-history g c = history_cut (g.D.Disk.told c.args.disk.now) (g.D.Di
 pub returns-clause-any_moment : goal.returns-clause-any_moment
 returns-clause-any_moment g c = moments_cut (g.D.Disk.told c.args.disk.now) (g.D.Disk.told c.cut_and_sync.new.disk) c.args.self.now c.args.waiting _ _ _ c.requires c.in_ok-cut_and_sync.ensures.any_moment
 
-pub returns-clause-seen : goal.returns-clause-seen
-returns-clause-seen g c = λ s seen. cut_seen (g.D.Disk.told c.args.disk.now) (g.D.Disk.told c.cut_and_sync.new.disk) c.args.self.now c.args.waiting _ _ _ s c.requires c.in_ok-cut_and_sync.ensures.any_moment seen
+pub returns-clause-read : goal.returns-clause-read
+returns-clause-read g c = λ oid s seen. cut_read (g.D.Disk.told c.args.disk.now) (g.D.Disk.told c.cut_and_sync.new.disk) c.args.self.now c.args.waiting _ _ _ oid s c.requires c.in_ok-cut_and_sync.ensures.any_moment seen
 
 pub returns-in_err-cut_and_sync-clause-history : goal.returns-in_err-cut_and_sync-clause-history
 returns-in_err-cut_and_sync-clause-history g c = history_cut (g.D.Disk.told c.args.disk.now) (g.D.Disk.told c.cut_and_sync.new.disk) c.args.self.now c.args.waiting _ _ _ c.requires c.in_err-cut_and_sync.ensures.any_moment
@@ -29,5 +29,5 @@ returns-in_err-cut_and_sync-clause-history g c = history_cut (g.D.Disk.told c.ar
 pub returns-in_err-cut_and_sync-clause-any_moment : goal.returns-in_err-cut_and_sync-clause-any_moment
 returns-in_err-cut_and_sync-clause-any_moment g c = moments_cut (g.D.Disk.told c.args.disk.now) (g.D.Disk.told c.cut_and_sync.new.disk) c.args.self.now c.args.waiting _ _ _ c.requires c.in_err-cut_and_sync.ensures.any_moment
 
-pub returns-in_err-cut_and_sync-clause-seen : goal.returns-in_err-cut_and_sync-clause-seen
-returns-in_err-cut_and_sync-clause-seen g c = λ s seen. cut_seen (g.D.Disk.told c.args.disk.now) (g.D.Disk.told c.cut_and_sync.new.disk) c.args.self.now c.args.waiting _ _ _ s c.requires c.in_err-cut_and_sync.ensures.any_moment seen
+pub returns-in_err-cut_and_sync-clause-read : goal.returns-in_err-cut_and_sync-clause-read
+returns-in_err-cut_and_sync-clause-read g c = λ oid s seen. cut_read (g.D.Disk.told c.args.disk.now) (g.D.Disk.told c.cut_and_sync.new.disk) c.args.self.now c.args.waiting _ _ _ oid s c.requires c.in_err-cut_and_sync.ensures.any_moment seen

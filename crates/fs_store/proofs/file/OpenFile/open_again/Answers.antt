@@ -2,7 +2,7 @@ use Rattle.std.proofs.Common.{Result, Ok, Err, ap, ◌∙◌}
 use Rattle.std.specs.Prelude.{OnErr}
 use Rattle.std.proofs.lemmas.Result.{err_from_is_err_and}
 use Rattle.fs_store.proofs.Readings.{opened_kept}
-use Rattle.fs_store.proofs.Stale.{again_opened, again_refused, again_undamaged, left_history, left_moments, left_records, left_seen, left_unsettled, opened_seen, opened_settles}
+use Rattle.fs_store.proofs.Stale.{again_opened, again_refused, again_undamaged, left_history, left_moments, left_records, left_read, left_unsettled, opened_read, opened_settles}
 use Rattle.fs_store.proofs.file.OpenFile.open_again.Goals as goal
 
 on_err : {T E : Type 0} (r : Result T E) (P : Type 0) → P → OnErr r P
@@ -16,9 +16,9 @@ pub returns-clause-settled : goal.returns-clause-settled
 returns-clause-settled g c =
     opened_settles (g.D.Disk.told c.args.disk.now) (g.D.Disk.told c.open_file.new.disk) c.args.self.now.end c.args.undecided.now c.in_ok-again.field-0 c.requires.unsettled c.in_ok-again.ensures.reads c.in_ok-again.ensures.tidies
 
-pub returns-clause-seen : goal.returns-clause-seen
-returns-clause-seen g c = λ s.
-    opened_seen (g.D.Disk.told c.args.disk.now) (g.D.Disk.told c.open_file.new.disk) c.args.self.now.end c.args.undecided.now c.in_ok-again.field-0 s c.requires.unsettled c.in_ok-again.ensures.reads c.in_ok-again.ensures.tidies
+pub returns-clause-read : goal.returns-clause-read
+returns-clause-read g c = λ oid s.
+    opened_read (g.D.Disk.told c.args.disk.now) (g.D.Disk.told c.open_file.new.disk) c.args.self.now.end c.args.undecided.now c.in_ok-again.field-0 oid s c.requires.unsettled c.in_ok-again.ensures.reads c.in_ok-again.ensures.tidies
 
 pub returns-clause-any_moment : goal.returns-clause-any_moment
 returns-clause-any_moment g c =
@@ -45,9 +45,9 @@ returns-in_err-again-clause-records g c = on_err c.from_residual.result _
     (left_records (g.D.Disk.told c.args.disk.now) (g.D.Disk.told c.open_file.new.disk) c.args.self.now.end c.args.undecided.now c.requires.unsettled
     (again_refused (g.D.Disk.told c.args.disk.now) (g.D.Disk.told c.open_file.new.disk) c.args.self.now.end c.args.undecided.now c.in_err-again.field-0.0 c.requires.unsettled c.in_err-again.ensures.left))
 
-pub returns-in_err-again-clause-seen : goal.returns-in_err-again-clause-seen
-returns-in_err-again-clause-seen g c = λ s.
-    left_seen (g.D.Disk.told c.args.disk.now) (g.D.Disk.told c.open_file.new.disk) c.args.self.now.end c.args.undecided.now s c.requires.unsettled
+pub returns-in_err-again-clause-read : goal.returns-in_err-again-clause-read
+returns-in_err-again-clause-read g c = λ oid s.
+    left_read (g.D.Disk.told c.args.disk.now) (g.D.Disk.told c.open_file.new.disk) c.args.self.now.end c.args.undecided.now oid s c.requires.unsettled
     (again_refused (g.D.Disk.told c.args.disk.now) (g.D.Disk.told c.open_file.new.disk) c.args.self.now.end c.args.undecided.now c.in_err-again.field-0.0 c.requires.unsettled c.in_err-again.ensures.left)
 
 pub returns-in_err-again-clause-any_moment : goal.returns-in_err-again-clause-any_moment

@@ -14,7 +14,7 @@ use Rattle.fs_store.specs.declared.settling.Settled.{Settled}
 use Rattle.fs_store.specs.Settled.{IsSettled}
 use Rattle.fs_store.specs.Stores.{most_length}
 use Rattle.fs_store.specs.Verdicts.{IsFree}
-use Rattle.fs_store.proofs.Files.{fits_limit, long_settled, piece_fits, still_opens, torn_history, torn_opens, torn_seen, voted_kept, voted_out_is}
+use Rattle.fs_store.proofs.Files.{fits_limit, long_settled, piece_fits, still_opens, torn_history, torn_opens, torn_read, voted_kept, voted_out_is}
 use Rattle.fs_store.proofs.Fitting.{fits_draft}
 use Rattle.fs_store.proofs.PutBack.{voted_direct}
 use Rattle.fs_store.proofs.Unsettling.{still_unsettled, torn_unsettled}
@@ -51,8 +51,8 @@ became given o u start tid texts is items same e b =
 pub returns-in_err-write_behind-clause-history : goal.returns-in_err-write_behind-clause-history
 returns-in_err-write_behind-clause-history g c = torn_history _ _ c.args.self.now _ _ _ _ c.requires.kept (moved _ _ _ _ c.in_ok-texts.ensures.only_reads.same c.in_err-write_behind.ensures.any_moment)
 
-pub returns-in_err-write_behind-clause-seen : goal.returns-in_err-write_behind-clause-seen
-returns-in_err-write_behind-clause-seen g c = λ s seen. torn_seen _ _ c.args.self.now _ _ _ _ s c.requires.kept (moved _ _ _ _ c.in_ok-texts.ensures.only_reads.same c.in_err-write_behind.ensures.any_moment) seen
+pub returns-in_err-write_behind-clause-read : goal.returns-in_err-write_behind-clause-read
+returns-in_err-write_behind-clause-read g c = λ oid s seen. torn_read _ _ c.args.self.now _ _ _ _ oid s c.requires.kept (moved _ _ _ _ c.in_ok-texts.ensures.only_reads.same c.in_err-write_behind.ensures.any_moment) seen
 
 pub returns-in_err-write_behind-clause-any_moment : goal.returns-in_err-write_behind-clause-any_moment
 returns-in_err-write_behind-clause-any_moment g c =
@@ -67,8 +67,8 @@ returns-clause-any_moment g c =
 pub returns-clause-history : goal.returns-clause-history
 returns-clause-history g c = torn_history _ _ c.args.self.now _ _ _ _ c.requires.kept (moved _ _ _ _ c.in_ok-texts.ensures.only_reads.same c.in_ok-write_behind.ensures.any_moment)
 
-pub returns-clause-seen : goal.returns-clause-seen
-returns-clause-seen g c = λ s seen. torn_seen _ _ c.args.self.now _ _ _ _ s c.requires.kept (moved _ _ _ _ c.in_ok-texts.ensures.only_reads.same c.in_ok-write_behind.ensures.any_moment) seen
+pub returns-clause-read : goal.returns-clause-read
+returns-clause-read g c = λ oid s seen. torn_read _ _ c.args.self.now _ _ _ _ oid s c.requires.kept (moved _ _ _ _ c.in_ok-texts.ensures.only_reads.same c.in_ok-write_behind.ensures.any_moment) seen
 
 pub returns-clause-kept : goal.returns-clause-kept
 returns-clause-kept g c =
