@@ -61,39 +61,99 @@ def with_data(content, end, entry):
 # ---- a store
 
 
+class Recent:
+    """The records that were loaded last, by their objects: where each stands, and its value's length."""
+
+    MOST_RECORDS, MOST_BYTES, MOST_VALUE = 256, 2**24, 2**20
+
+    def __init__(self):
+        # the one that was used last stands last
+        self.kept = {}
+
+    def has(self, oid, place):
+        """Whether the object's record at this place is kept. What is kept of the object is used by that."""
+        if oid not in self.kept:
+            return False
+        self.kept[oid] = self.kept.pop(oid)
+        return self.kept[oid][0] == place
+
+    def keep(self, oid, place, length):
+        if length > self.MOST_VALUE:
+            return
+        self.kept.pop(oid, None)
+        while len(self.kept) >= self.MOST_RECORDS or sum(size for _, size in self.kept.values()) > self.MOST_BYTES - length:
+            del self.kept[next(iter(self.kept))]
+        self.kept[oid] = (place, length)
+
+
 class Store:
     """A store over a disk, which is opened again by the next call once the disk has failed in a vote, a finish or an abort."""
 
     def __init__(self, disk, answers):
-        self.disk, self.answers, self.stale, self.voted = disk, answers, False, None
+        self.disk, self.answers, self.stale, self.voted, self.recent = disk, answers, False, None, Recent()
         self.end = opening(disk, answers)
         if self.end is not None:
-            _, self.last, self.count = read_file(disk.content)
+            self.know()
+
+    def know(self):
+        self.end, self.last, self.count = read_file(self.disk.content)
+        self.chains = {}
+        for entry in records(self.disk.content, self.end):
+            self.chains.setdefault(entry[1], []).append(entry)
+        self.places = {entry[2]: entry for chain in self.chains.values() for entry in chain}
 
     def refresh(self):
         """Whether the store is open."""
         if self.stale:
+            self.recent = Recent()
             end = opening(self.disk, [])
             if end is None:
                 return False
-            self.end, self.last, self.count = read_file(self.disk.content)
+            self.know()
             self.stale = False
         return True
+
+    def find(self, oid, upto):
+        """The object's last record up to a transaction, or none: a read for the head of each later one, and one for its own."""
+        for entry in reversed(self.chains.get(oid, [])):
+            self.disk.read()
+            if entry[0] <= upto:
+                return entry
+        return None
+
+    def follow(self, entry):
+        """The value that a record means: a read for each back pointer, for the head to which it leads, and for the value."""
+        self.disk.read()
+        while not isinstance(entry[3], bytes):
+            entry = self.places.get(entry[3])
+            if entry is None:
+                return None
+            self.disk.read()
+            self.disk.read()
+        return entry[3]
 
     def load(self, oid, upto):
         try:
             if not self.refresh():
                 raise Hit
-            content = self.disk.content
-            self.disk.read()
-            entry = last_record(content, self.end, oid, upto)
-            if entry is None:
-                return "loaded none 0 0"
-            meant = with_data(content, self.end, entry)
-            value = "none" if meant is None else '"' + meant[3].decode() + '"'
-            return f"loaded {value} {entry[0]} {entry[2]}"
+            newest = self.chains.get(oid, [None])[-1]
+            if newest is not None and self.recent.has(oid, newest[2]) and newest[0] <= upto:
+                entry, value = newest, self.meant(newest)
+            else:
+                entry = self.find(oid, upto)
+                if entry is None:
+                    return "loaded none 0 0"
+                value = self.follow(entry)
+                if entry == newest:
+                    self.recent.keep(oid, entry[2], len(value or b""))
+            shown = "none" if value is None else '"' + value.decode() + '"'
+            return f"loaded {shown} {entry[0]} {entry[2]}"
         except Hit:
             return "unread disk"
+
+    def meant(self, entry):
+        entry = with_data(self.disk.content, self.end, entry)
+        return None if entry is None else entry[3]
 
     def record_of(self, tid, change):
         """The one data record of a vote: `write OID VALUE` or `restore OID TID`."""
@@ -136,7 +196,7 @@ class Store:
         except Hit:
             self.stale = True
             return f"unknown {tid}"
-        self.end, self.last, self.count = self.end + size, tid, self.count + 1
+        self.know()
         return f"finished {tid}"
 
     def abort(self):
@@ -170,7 +230,12 @@ def run(disk, script):
     answers = []
     store = Store(disk, answers)
     for line in script[1:]:
-        answers.append("not open" if store.end is None else store.answer(line))
+        if line == "close":
+            answers.append("closed")
+        elif line == "open":
+            store = Store(disk, answers)
+        else:
+            answers.append("not open" if store.end is None else store.answer(line))
     return answers
 
 

@@ -628,7 +628,7 @@ def disk_faults():
                 if case.come() not in seen:
                     seen.append(case.come())
                     yield case
-    for first, second in ((13, 14), (14, 17), (15, 16), (16, 17), (13, 30)):
+    for first, second in ((5, 6), (6, 9), (7, 8), (8, 9), (5, 22)):
         arms = ((first, False, 1), (second, False, 0))
         yield Case(f"calls {first} and {second} of the disk fail", connections, plan, ticks=minutes(2), disk=arms)
 

@@ -216,18 +216,26 @@ class Store:
         self.disk, self.limit = disk, limit
         self.known = opening(disk)
         self.out, self.stale = None, False
+        # where the record stands that was read last of an object, while it is its newest; these files have few objects, and short ones
+        self.recent = {}
 
     def refresh(self):
         if self.stale:
+            self.recent = {}
             self.known = opening(self.disk)
             self.stale = False
 
     def load(self, oid, at):
         self.refresh()
-        for tid, place, data in self.known.revisions(oid):
+        revisions = list(self.known.revisions(oid))
+        for tid, place, data in revisions:
+            if place == revisions[0][1] == self.recent.get(oid) and tid <= at:
+                return data, tid, place
             self.disk.read()
             if tid <= at:
                 self.disk.read()
+                if place == revisions[0][1]:
+                    self.recent[oid] = place
                 return data, tid, place
         return None, 0, 0
 
@@ -793,9 +801,9 @@ def four_workers():
     table = Table("replay", "four", CELLS, "cells")
     calm = table.add("workers that conflict, and a stop that is never reached", [("stop", 1000, 0)] + conflicting())
     printed = b"".join(calm.blocks)
-    assert printed.count(b"conflict") >= 3 and printed.count(b"busy") >= 3 and printed.count(b"reply") == 10 and calm.disk.calls > 70
+    assert printed.count(b"conflict") >= 3 and printed.count(b"busy") >= 3 and printed.count(b"reply") == 10 and calm.disk.calls > 50
     for seed in (0, 1, 5, 77):
-        for n in range(1, 61):
+        for n in range(1, 51):
             run = table.add(f"stop {n} {seed} among workers that conflict", [("stop", n, seed)] + conflicting())
             assert b"restart" in b"".join(run.blocks)
     return table
