@@ -1,8 +1,9 @@
 #!/usr/bin/env python3
-"""Commits to stores of 1,000 and of 1,000,000 objects, loads from them, and commits to a file of the system.
+"""Commits to stores of 1,000 and of 1,000,000 objects, loads from them, commits to a file of the system, and loads from one.
 
 All run in one program, `store/`. The stores are over disks in memory, and their rounds are in turn. The file lies in
 a folder of a real disk, and beside it a bare loop writes and syncs the same bytes at the same places of another file.
+Loads from a file are of few objects, whose records are kept, and of many, which are read each time.
 """
 
 import argparse
@@ -48,6 +49,15 @@ def print_file(numbers, device, kind):
     print(f"the middle ratio of two rounds in turn {turns:.2f}, the ratio of the best rounds {min(bare) / min(stored):.2f}")
 
 
+def print_kept(numbers):
+    """The middle ratio of two rounds in turn, and that of the best ones."""
+    ((size, kept),) = ((size, micros) for (name, size), micros in numbers.items() if name == "kept")
+    read = numbers["read", size]
+    best, plain = (min(micros) / size for micros in (kept, read))
+    middle = statistics.median(ours / theirs for ours, theirs in zip(kept, read))
+    print(f"a load from a file: {best:.3f} us where it is kept, {plain:.3f} us where it is read, ratio {best / plain:.3f}, the middle of two in turn {middle:.3f}")
+
+
 def main():
     options = argparse.ArgumentParser(description=__doc__)
     options.add_argument("--folder", default="/var/tmp", help="where the files are made, on a real disk")
@@ -55,12 +65,13 @@ def main():
     with tempfile.TemporaryDirectory() as made, tempfile.TemporaryDirectory(dir=given.folder) as folder:
         device, kind = file_system(folder)
         program = scratch(pathlib.Path(made), "store", ["zbase", "zdisk", "evaluator", "fs_store"])
-        numbers = numbers_in(lines_of(program, True, [folder]))
+        numbers = numbers_in(lines_of(program, True, ["memory"]) + lines_of(program, True, ["files", folder]))
     print_commits(numbers, "turn", "objects in turn")
     print_commits(numbers, "spread", "1,000 objects spread over the store")
     print_commits(numbers, "random", "objects in random order")
     print_loads(numbers)
     print_file(numbers, device, kind)
+    print_kept(numbers)
 
 
 if __name__ == "__main__":

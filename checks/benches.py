@@ -26,7 +26,7 @@ OVER_THE_PROGRAM = [
     ("underway", "--sites text"), ("undo_parts", "--parts 3 6 --transactions 2 --rounds 1"),
 ]
 OVER_CRATES = [
-    ("append", ""), ("commits", "--part commits"), ("forms", ""), ("http", ""), ("names", ""), ("parse", ""), ("paths", ""), ("records", ""),
+    ("append", ""), ("commits", "--part commits"), ("forms", ""), ("http", ""), ("index", ""), ("names", ""), ("parse", ""), ("paths", ""), ("records", ""),
     ("render", ""), ("shape", ""), ("store", ""), ("undo", "--transactions 10 100"), ("workers", ""),
 ]
 NOT_RUN = {"gate", "wrong", "programs", "waitress_site"}
