@@ -1,5 +1,5 @@
 -- What the calls of a store leave of what its disk told.
-use Rattle.std.proofs.Common.{◌≡◌, List, Option, Some, None, ℕ, sym, subst}
+use Rattle.std.proofs.Common.{◌≡◌, Some, ℕ, sym, subst}
 use Rattle.fs_store.specs.Moments.{OpensToEither}
 use Rattle.fs_store.specs.Stores.{IsVoteOf, Out, StoreView}
 use Rattle.connection.specs.Telling.{TellsOn, leaves_tell, tells_self}

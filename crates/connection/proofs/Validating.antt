@@ -14,7 +14,7 @@ use Rattle.fs_store.specs.declared.refusal.VoteRefusal.{VoteRefusal}
 use Rattle.fs_store.specs.Stores.{IsTold, Loses, Out, Settles, Stands, StoreView}
 use Rattle.fs_store.specs.Verdicts.{clash_among, clash_at, first_of, validation, verdict, verdict_of}
 use Rattle.connection.specs.States.{ActiveView, AreReads, reads_of, serial_seen}
-use Rattle.connection.specs.Votes.{ComesBack, IsHeldBy, IsLeftOf, IsRuled, WasRefused, ruling_of, ruling, unready}
+use Rattle.connection.specs.Votes.{ComesBack, IsHeldBy, IsLeftOf, IsRuled, WasRefused, ruling_of, ruling}
 
 same_first : (a b : Option Clash) → first_of a b ≡ sooner a b
 same_first None b = refl

@@ -34,7 +34,7 @@ impl<E: Evaluator> Drop for Fresh<E> {
 }
 
 impl<E: Evaluator> Fresh<E> {
-    ghost use Rattle.std.specs.Prelude.{◌≡◌, [], false, IfErr, IfOk, IsErrAnd, None, OnErr, OnOk};
+    ghost use Rattle.std.specs.Prelude.{◌≡◌, false, IfErr, IfOk, IsErrAnd, None, OnErr, OnOk};
     ghost use Rattle.zbase.specs.Faults.{Counts};
     ghost use Rattle.zbase.specs.Values.{last};
     ghost use Rattle.evaluator.specs.Exec.{WasTaken};

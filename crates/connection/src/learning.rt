@@ -1,4 +1,4 @@
-ghost use Rattle.std.specs.Prelude.{◌≡◌, ◌++◌, ◌∷◌, [], IfOk, IsErrOf, OnOk, OnErr, Some};
+ghost use Rattle.std.specs.Prelude.{◌≡◌, ◌∷◌, [], IfOk, IsErrOf, OnOk, OnErr, Some};
 ghost use Rattle.zbase.specs.Faults.{Counts};
 ghost use Rattle.evaluator.specs.declared.fact.Fact.{Fact};
 ghost use Rattle.fs_store.specs.Seeing.{IsSeen};

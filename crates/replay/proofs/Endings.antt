@@ -1,8 +1,7 @@
 -- What the end of a run leaves of the store and of its disk.
-use Rattle.std.proofs.Common.{◌≡◌, ℕ, List, [], ◌∷◌, ◌++◌, false, Bool, Option, Some, None, refl, sym, ap, subst, ◌∙◌, inl, inr, map}
+use Rattle.std.proofs.Common.{◌≡◌, ℕ, List, [], ◌∷◌, ◌++◌, false, Bool, Option, Some, refl, sym, ap, subst, ◌∙◌, inl, inr, map}
 use Rattle.zbase.specs.Faults.{Counts, IsFaultless}
 use Rattle.zbase.specs.History.{History, added}
-use Rattle.zdisk.specs.Disk.{Told}
 use Rattle.evaluator.specs.Exec.{Eval}
 use Rattle.schedule.specs.declared.line.Line.{Line}
 use Rattle.schedule.specs.Explained.{history_lines}

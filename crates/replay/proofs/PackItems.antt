@@ -1,9 +1,9 @@
 -- A pack that is run: what was kept before it is kept behind it, with the lines that it printed.
-use Rattle.std.proofs.Common.{◌≡◌, ℕ, ◌+◌, ◌||◌, Bool, true, false, List, [], ◌∷◌, ◌++◌, map, Option, None, Some, refl, sym, ap, subst, ◌∙◌, inl, inr}
+use Rattle.std.proofs.Common.{◌≡◌, ℕ, ◌+◌, ◌||◌, Bool, true, false, List, [], ◌∷◌, ◌++◌, map, Option, None, refl, sym, ap, subst, ◌∙◌, inl, inr}
 use Rattle.std.specs.Prelude.{IsSome}
 use Rattle.std.specs.List.{enumerate_from, filter_map, list_any}
 use Rattle.zbase.specs.Faults.{Counter, Counts, IsFaultless}
-use Rattle.zbase.specs.History.{History, IsHistory, IsPrefixOf}
+use Rattle.zbase.specs.History.{IsHistory, IsPrefixOf}
 use Rattle.zbase.specs.HistoryLaws.{prefix_added, prefix_refl}
 use Rattle.evaluator.specs.Exec.{Eval}
 use Rattle.packing.specs.Packed.{packed}

@@ -1,6 +1,5 @@
 -- A loop over a schedule keeps what it has to over a pack, whatever the pack came to.
 use Rattle.std.proofs.Common.{◌≡◌, ℕ, ◌+◌, false, true, List, [], ◌∷◌, ◌++◌, map, length, refl, sym, ap, ◌∙◌, subst, arith}
-use Rattle.zbase.specs.declared.faults.Arm.{Arm}
 use Rattle.zbase.specs.Faults.{Arms, Counter, Counts, Spends, hit}
 use Rattle.zbase.specs.History.{History, IsHistory, IsPrefixOf}
 use Rattle.zbase.specs.Values.{last}

@@ -1,4 +1,4 @@
-ghost use Rattle.std.specs.Prelude.{◌≡◌, ◌∷◌, [], OnOk, IsErrOf, length, map};
+ghost use Rattle.std.specs.Prelude.{◌∷◌, [], OnOk, IsErrOf, length, map};
 ghost use Rattle.zbase.specs.Faults.{Counts};
 ghost use Rattle.zio.specs.Sinks.{due};
 ghost use Rattle.schedule.specs.Explained.{floor_lines, history_head, record_line, transaction_lines};

@@ -1,5 +1,5 @@
 -- Whatever a run does, it prints tidy lines: what each worker is about to show keeps the rule of roles.
-use Rattle.std.proofs.Common.{◌≡◌, ℕ, zero, suc, ◌+◌, ◌-◌, ◌≤◌, ◌==◌, ◌&&◌, ◌⊎◌, inl, inr, Bool, true, false, cond, List, [], ◌∷◌, ◌++◌, map, flat_map, replicate, slice_get, slice_set, Option, Some, None, length, min, nat_lt, refl, sym, ap, subst, arith}
+use Rattle.std.proofs.Common.{◌≡◌, ℕ, zero, suc, ◌+◌, ◌-◌, ◌≤◌, ◌==◌, ◌&&◌, ◌⊎◌, inl, inr, Bool, true, false, cond, List, [], ◌∷◌, ◌++◌, map, flat_map, replicate, slice_get, slice_set, Option, Some, None, length, min, nat_lt, refl, sym, subst, arith}
 use Rattle.std.specs.Prelude.{if◌then◌else◌}
 use Rattle.std.specs.List.{AllByRecursion, enumerate_from, filter_map}
 use Rattle.zbase.specs.History.{History, Transaction, Value}
@@ -16,20 +16,20 @@ use Rattle.evaluator.specs.declared.reply.Reply.{Reply}
 use Rattle.evaluator.specs.declared.reply.Shown.{Shown}
 use Rattle.evaluator.specs.Change.{IsReply, made}
 use Rattle.evaluator.specs.Exec.{WasTaken}
-use Rattle.evaluator.specs.Facts.{fact, look}
+use Rattle.evaluator.specs.Facts.{look}
 use Rattle.schedule.specs.declared.item.Item2.{Item2}
 use Rattle.schedule.specs.declared.line.Line.{Line}
 use Rattle.schedule.specs.Causes.{by_oid, conflict_reply, denied_line, fault_reply, full_reply, memory_reply, oids_reply, placed, shown_lines, tids_reply, unknown_reply}
 use Rattle.schedule.specs.Courses.{Course, Happens, Place, lines_of}
-use Rattle.schedule.specs.Explained.{Explained, report}
+use Rattle.schedule.specs.Explained.{Explained}
 use Rattle.schedule.specs.Histories.{floor_lines, history_lines, record_line, transaction_lines}
 use Rattle.schedule.specs.Moments.{Terms, Attempt, Doing, Free, Waiting, Asking, Computed, Vote, Moment, start, doing, turned, dropped, stood, emptied, lost_line, lost_lines}
-use Rattle.schedule.specs.Packing.{Lacks_memory, PackTrouble, Pack_fails, Is_cut_off, Packs, PacksAt, pack_fails, packs_to, refused_so}
+use Rattle.schedule.specs.Packing.{Lacks_memory, PackTrouble, Pack_fails, Is_cut_off, PacksAt, pack_fails, packs_to, refused_so}
 use Rattle.packing.specs.Packed.{packed}
 use Rattle.packing.specs.Reachable.{AreReadable, IsUnreadable}
 use Rattle.packing.specs.Sizes.{full_size}
 use Rattle.schedule.specs.Rows.{Lacks}
-use Rattle.schedule.specs.Stepping.{Told, Opening, Stops, Faults, Trouble, Wants_memory, Disk_fails, Is_unknown, Is_stopped, commits, conflicts, ended, fails, first_clash, from_asking, from_computed, from_doing, has_request, held_by, need, opening_line, restarted, settled, troubled, validated, votes}
+use Rattle.schedule.specs.Stepping.{Told, Opening, Stops, Faults, Trouble, Wants_memory, Disk_fails, Is_unknown, Is_stopped, commits, conflicts, ended, fails, first_clash, from_asking, from_computed, from_doing, has_request, held_by, need, opening_line, restarted, settled, validated, votes}
 use Rattle.report_tally.specs.Tidy.{AreTidy, IsTidy}
 
 -- ---- lists of lines

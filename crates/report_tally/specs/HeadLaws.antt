@@ -4,7 +4,7 @@ use Rattle.std.specs.Prelude.{codes, decimal, if◌then◌else◌}
 use Rattle.std.specs.Fmt.{digit_glyph, digits, digits_onto}
 use Rattle.std.specs.List.{AllByRecursion, list_any}
 use Rattle.std.proofs.lemmas.Bool.Decides.{nat_tests}
-use Rattle.zbase.specs.Hex.{hex16_text, hex_byte, hex_bytes, hex_digit, hex_digits}
+use Rattle.zbase.specs.Hex.{hex16_text, hex_bytes, hex_digit, hex_digits}
 use Rattle.zbase.specs.History.{Value}
 use Rattle.zbase.specs.declared.ids.Clash.{Clash}
 use Rattle.evaluator.specs.declared.ask.Ask.{Ask}

@@ -1,5 +1,5 @@
 -- The worked reports with packs: which cells are kept, and what the run prints.
-use Rattle.std.proofs.Common.{◌≡◌, ℕ, ◌+◌, ◌==◌, ◌||◌, ◌⊎◌, Bool, true, false, List, [], ◌∷◌, ◌++◌, Option, None, refl, sym, ap, subst, inl, inr, map, arith, eqb-true}
+use Rattle.std.proofs.Common.{◌≡◌, ℕ, ◌+◌, ◌==◌, ◌||◌, ◌⊎◌, Bool, true, false, List, [], ◌∷◌, ◌++◌, Option, None, refl, sym, subst, inl, inr, map, arith, eqb-true}
 use Rattle.evaluator.specs.declared.cells.CellRequest.{CellRequest}
 use Rattle.evaluator.specs.CellLaws.{cells_lawful}
 use Rattle.zbase.specs.History.{History}

@@ -1,7 +1,6 @@
 -- What the lines of a pack make of the arming rule and of the number of faults: nothing, but for a fault's own.
 use Rattle.std.proofs.Common.{◌≡◌, ℕ, ◌+◌, Bool, true, false, cond, List, [], ◌∷◌, ◌++◌, map, flat_map, Some, refl, ap, ◌∙◌, append_assoc, nat_lt, arith}
 use Rattle.zbase.specs.History.{History, Transaction, Value}
-use Rattle.packing.specs.Packed.{packed}
 use Rattle.schedule.specs.declared.item.Item2.{Item2}
 use Rattle.schedule.specs.declared.line.Line.{Line}
 use Rattle.schedule.specs.Armed.{Queue, after_lines}

@@ -1,4 +1,4 @@
-ghost use Rattle.std.specs.Prelude.{◌≡◌, ◌<◌, ◌≤◌, ◌≢◌, ◌↔◌, ⊤, Bool, false, true, ℕ, List, [], Some, None, IfOk, IfErr, IfSome, IsErrOf, OnOk, All, length, map, slice_get};
+ghost use Rattle.std.specs.Prelude.{◌≡◌, ◌<◌, ◌≤◌, ◌≢◌, ◌↔◌, ⊤, false, true, ℕ, List, [], Some, None, IfOk, IfErr, IfSome, IsErrOf, OnOk, All, length, map, slice_get};
 ghost use Rattle.std.specs.List.{list_any};
 ghost use Rattle.zbase.specs.Faults.{Counts, Twice};
 ghost use Rattle.schedule.specs.Follows.{Follows};

@@ -1,4 +1,4 @@
-ghost use Rattle.std.specs.Prelude.{◌≡◌, ◌⊎◌, ◌≤◌, ◌<◌, ℕ, List, length, IfErr, IfOk, IfSome, OnOk, IsErrOf, string_bytes};
+ghost use Rattle.std.specs.Prelude.{◌≡◌, ◌⊎◌, ◌≤◌, ◌<◌, ℕ, length, IfErr, IfOk, IfSome, OnOk, IsErrOf, string_bytes};
 ghost use Rattle.std.specs.Io.KnownBytes.{append_known};
 ghost use Rattle.zbase.specs.Faults.{Counts, Rose};
 ghost use Rattle.zdisk.specs.Disk.{content};

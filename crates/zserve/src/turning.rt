@@ -1,8 +1,6 @@
-ghost use Rattle.std.specs.Prelude.{◌≡◌, ◌⊎◌, ◌++◌, ◌∷◌, ◌<◌, ◌≤◌, ℕ, List, [], None, Some, IfOk, OnErr, OnOk, flat_map, length, map};
-ghost use Rattle.http_out.specs.Replies.{answer};
+ghost use Rattle.std.specs.Prelude.{◌≡◌, ◌++◌, ◌<◌, List, [], None, Some, IfOk, OnErr, OnOk, flat_map, length};
 ghost use Rattle.schedule.specs.Items.{item_text};
 ghost use Rattle.schedule.specs.declared.item.Item2.{Item2};
-ghost use Rattle.txn_core.specs.StepLines.{IsAnswered};
 ghost use Rattle.txn_core.specs.declared.step_line.StepLine.{StepLine};
 ghost use Rattle.zserve.specs.Going.{Went};
 ghost use Rattle.zserve.specs.Happened.{Happening, items};

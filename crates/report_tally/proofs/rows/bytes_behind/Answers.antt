@@ -1,4 +1,4 @@
-use Rattle.std.proofs.Common.{◌<◌, ◌^◌, ◌∙◌, sym, arith, Some}
+use Rattle.std.proofs.Common.{◌<◌, ◌^◌, ◌∙◌, sym, arith}
 use Rattle.report_tally.proofs.RowParts.{Numbers, long_is, numbers}
 use Rattle.report_tally.proofs.rows.bytes_behind.Goals as goal
 
