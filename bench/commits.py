@@ -31,7 +31,7 @@ def commits_of_ours(folder):
     """The microseconds of each round, and of the bare loop's rounds."""
     with tempfile.TemporaryDirectory() as made:
         program = scratch(pathlib.Path(made), "store", ["zbase", "zdisk", "evaluator", "fs_store"])
-        numbers = numbers_in(lines_of(program, True, [folder]))
+        numbers = numbers_in(lines_of(program, True, ["files", folder]))
     return numbers["file", COMMITS], numbers["bare", COMMITS]
 
 
